@@ -1,0 +1,4 @@
+pub mod Names
+pub mod Truths
+pub mod Asks
+pub mod Once

@@ -1,0 +1,22 @@
+//! Names, values and lists: what every other crate of `carte` speaks of.
+#![tactic(auto)]
+
+mod digest;
+mod items;
+mod kind;
+mod link;
+mod name;
+mod text;
+mod value;
+
+pub use digest::Digest;
+pub use items::{Items, Same};
+pub use kind::Kind;
+pub use link::{Link, Links, Names, Values};
+pub use name::Name;
+pub use text::Text;
+pub use value::{Bad, Value};
+
+/// There was no memory for what was asked. Nothing that was lent has changed.
+#[derive(Clone, Copy, Debug, PartialEq, Eq)]
+pub struct NoMemory;

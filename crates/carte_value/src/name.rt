@@ -1,0 +1,98 @@
+ghost use Rattle.std.specs.Prelude.{◌≡◌, ℕ, Some, refl, IsTrue, IfOk, string_bytes};
+ghost use Rattle.std.proofs.Common.{rules};
+ghost use Rattle.std.specs.Ordering.{nat_cmp};
+ghost use Rattle.std.specs.Hash as fed;
+ghost use Rattle.std.specs.Cmp.{on_equiv, on_total, on_po, on_per, partial_equiv_from_equiv};
+ghost use Rattle.std.specs.Cmp.Lexicographic.{nat_list_eq_equiv, nat_list_cmp_total, texts_ties, texts_po};
+ghost use Rattle.std.specs.Cmp.Rules.{comparing, hashing};
+ghost use Rattle.carte_value.specs.Names.{name_cmp, name_eq, is_name, is_rule_name};
+
+use crate::NoMemory;
+use std::alloc::Global;
+use std::cmp::Ordering;
+use std::hash::{Hash, Hasher};
+use std::marker::Model;
+
+/// The name of a key: of a rule or an input in a rule file, or of a cell in a sheet.
+#[derive(Debug, Drop)]
+pub struct Name {
+    text: String,
+}
+
+impl Model for Name {
+    ghost use Rattle.std.specs.Prelude.{ℕ, List, IsTrue, string_bytes};
+    ghost use Rattle.carte_value.specs.Names.{is_name};
+
+    ghost Value = { List ℕ };
+
+    ghost view = { λ k. string_bytes k.text };
+
+    ghost invariant = { λ k. IsTrue (is_name (string_bytes k.text)) };
+}
+
+impl Name {
+    /// The name as it is written; that of a cell is in upper case.
+    pub fn text(&self) -> &str
+        ensures text { result.now ≡ self.now }
+        ensures name { IsTrue (is_name self.now) }
+    {
+        self.text.as_str()
+    }
+
+    pub fn copy(&self, alloc: Global) -> Result<Name, NoMemory>
+        ensures { IfOk result (λ k. k ≡ self.now) }
+    {
+        match String::from_str(alloc, self.text.as_str()) {
+            Ok(text) => Ok(Name { text }),
+            Err(_) => Err(NoMemory),
+        }
+    }
+}
+
+impl PartialEq for Name {
+    ghost eq = { name_eq };
+
+    ghost laws = { partial_equiv_from_equiv nat_list_eq_equiv };
+
+    fn eq(&self, other: &Name) -> bool {
+        self.text.as_str() == other.text.as_str()
+    }
+}
+
+impl Eq for Name {
+    ghost laws = { nat_list_eq_equiv };
+}
+
+impl PartialOrd for Name {
+    ghost partial_cmp = { λ a b. Some (name_cmp a b) };
+
+    ghost laws = { texts_po };
+
+    fn partial_cmp(&self, other: &Name) -> Option<Ordering> {
+        Some(self.cmp(other))
+    }
+}
+
+impl Ord for Name {
+    ghost cmp = { name_cmp };
+
+    ghost total = { nat_list_cmp_total };
+
+    ghost matches_partial_cmp = { λ a b. refl };
+
+    ghost matches_eq = { texts_ties };
+
+    fn cmp(&self, other: &Name) -> Ordering {
+        self.text.as_str().cmp(other.text.as_str())
+    }
+}
+
+impl Hash for Name {
+    ghost hash_input = { fed.str };
+
+    ghost respects_eq = { Prim.search (hashing, rules) };
+
+    fn hash<H: Hasher>(&self, state: &mut H) {
+        self.text.as_str().hash(state);
+    }
+}

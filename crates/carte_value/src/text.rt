@@ -1,0 +1,39 @@
+ghost use Rattle.std.specs.Prelude.{◌≡◌, ◌≤◌, ℕ, length, IfOk};
+
+use crate::NoMemory;
+use std::alloc::Global;
+use std::marker::Model;
+
+/// A text that is a value: UTF-8, and at most 65,536 bytes long.
+#[derive(Debug, Drop)]
+pub struct Text {
+    text: String,
+}
+
+impl Model for Text {
+    ghost use Rattle.std.specs.Prelude.{ℕ, ◌≤◌, List, length, string_bytes};
+
+    ghost Value = { List ℕ };
+
+    ghost view = { λ t. string_bytes t.text };
+
+    ghost invariant = { λ t. length (string_bytes t.text) ≤ 65536 };
+}
+
+impl Text {
+    pub fn text(&self) -> &str
+        ensures text { result.now ≡ self.now }
+        ensures bound { length self.now ≤ 65536 }
+    {
+        self.text.as_str()
+    }
+
+    pub fn copy(&self, alloc: Global) -> Result<Text, NoMemory>
+        ensures { IfOk result (λ t. t ≡ self.now) }
+    {
+        match String::from_str(alloc, self.text.as_str()) {
+            Ok(text) => Ok(Text { text }),
+            Err(_) => Err(NoMemory),
+        }
+    }
+}
