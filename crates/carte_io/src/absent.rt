@@ -1,8 +1,9 @@
 ghost use Rattle.std.specs.Prelude.{◌≡◌, ℕ, [], IsErr};
-ghost use Rattle.carte_io.specs.Causes.{counted, HasCause};
+ghost use Rattle.carte_io.specs.Causes.{HasCause, counted};
+ghost use Rattle.carte_io.specs.Disk.{untold};
 
 use crate::counts::one_more;
-use crate::{Failed, Source};
+use crate::{Disk, Failed, Source};
 use std::marker::Model;
 
 /// What isn't there: each call fails, and is counted.
@@ -38,6 +39,53 @@ impl Source for Absent {
         ensures fails { IsErr result }
         ensures counts { self.new ≡ counted self.old }
         ensures same { into.new ≡ into.old }
+    {
+        self.faults = one_more(self.faults);
+        Err(Failed)
+    }
+}
+
+impl Disk for Absent {
+    ghost tells = { ⊥ };
+
+    ghost story = { λ _. untold };
+
+    ghost faults = { λ a. a };
+
+    ghost is_image = { λ _ never. absurd never };
+
+    fn len(&mut self) -> Result<u64, Failed>
+        ensures cause { HasCause self.old self.new result }
+        ensures fails { IsErr result }
+        ensures counts { self.new ≡ counted self.old }
+    {
+        self.faults = one_more(self.faults);
+        Err(Failed)
+    }
+
+    fn read_at(&mut self, _at: u64, into: &mut [u8]) -> Result<(), Failed>
+        ensures cause { HasCause self.old self.new result }
+        ensures fails { IsErr result }
+        ensures counts { self.new ≡ counted self.old }
+        ensures same { into.new ≡ into.old }
+    {
+        self.faults = one_more(self.faults);
+        Err(Failed)
+    }
+
+    fn write_at(&mut self, _at: u64, _piece: &[u8]) -> Result<(), Failed>
+        ensures cause { HasCause self.old self.new result }
+        ensures fails { IsErr result }
+        ensures counts { self.new ≡ counted self.old }
+    {
+        self.faults = one_more(self.faults);
+        Err(Failed)
+    }
+
+    fn sync(&mut self) -> Result<(), Failed>
+        ensures cause { HasCause self.old self.new result }
+        ensures fails { IsErr result }
+        ensures counts { self.new ≡ counted self.old }
     {
         self.faults = one_more(self.faults);
         Err(Failed)

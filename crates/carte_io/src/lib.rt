@@ -16,7 +16,9 @@
 
 mod absent;
 mod counts;
+mod disk;
 mod failed;
+mod file_disk;
 mod mem_sink;
 mod mem_source;
 mod read_sources;
@@ -26,7 +28,9 @@ mod whole;
 mod write_sinks;
 
 pub use absent::Absent;
+pub use disk::Disk;
 pub use failed::{Failed, NoMemory};
+pub use file_disk::FileDisk;
 pub use mem_sink::MemSink;
 pub use mem_source::MemSource;
 pub use read_sources::ReadSource;
