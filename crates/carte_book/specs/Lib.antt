@@ -1,0 +1,5 @@
+pub mod Formula
+pub mod Book
+pub mod Needs
+pub mod Reason
+pub mod Terms
