@@ -1,3 +1,5 @@
 pub mod Clean
 pub mod Terms
 pub mod Reasons
+pub mod Books
+pub mod RuleNames

@@ -3,3 +3,4 @@ pub mod Book
 pub mod Needs
 pub mod Reason
 pub mod Terms
+pub mod Looked

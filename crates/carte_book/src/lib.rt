@@ -5,6 +5,6 @@ mod book;
 mod formula;
 mod reason;
 
-pub use book::{Book, Item};
+pub use book::{Book, Item, Looked};
 pub use formula::{Formula, Look, Open, Term};
 pub use reason::Reason;
