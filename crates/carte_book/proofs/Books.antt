@@ -1,19 +1,15 @@
 -- Books in memory beside the books that they stand for.
-use Rattle.std.proofs.Common.{◌≡◌, ◌↔◌, ℕ, Bool, true, false, cond, List, [], ◌∷◌, map, option_map, Option, Some, None, is_some, IsSome, BTreeMap, BTreeSet, refl, ap, sym, ◌∙◌, Ordering, subst, inl, inr, ◌⊎◌}
-use Rattle.std.specs.Ordering.{eq_by_cmp, nat_cmp}
+use Rattle.std.proofs.Common.{◌≡◌, ℕ, Bool, true, false, cond, List, [], ◌∷◌, option_map, Option, Some, BTreeMap, refl, ap, sym, ◌∙◌}
+use Rattle.std.specs.Ordering.{eq_by_cmp}
 use Rattle.std.specs.Map.{lookup}
 use Rattle.std.specs.BTreeMap as tree
-use Rattle.std.specs.BTreeSet.{contains}
-use Rattle.std.specs.FinMap.{FinMap, get, insert, find, from_entries, get-from_entries, get-insert, same_map, slice_cmp-IsAntisymmetric, nat_cmp-IsAntisymmetric}
-use Rattle.std.specs.Cmp.{IsTotalOrder, eq_by_cmp_equiv}
+use Rattle.std.specs.FinMap.{insert, find, get-from_entries, get-insert, same_map, slice_cmp-IsAntisymmetric, nat_cmp-IsAntisymmetric}
+use Rattle.std.specs.Cmp.{eq_by_cmp_equiv}
 use Rattle.std.proofs.lemmas.Cmp.{nat_list_cmp_total}
 use Rattle.carte_value.specs.Names.{name_cmp}
 use Rattle.carte_book.specs.declared.book.Item.{Item as CodeItem}
-use Rattle.carte_book.specs.declared.book.Item.TheVariants.{Input as InputItem, Rule as RuleItem}
 use Rattle.carte_book.specs.declared.book.Book.{Book as CodeBook}
-use Rattle.carte_book.specs.Book.{Item, input, rule, Book, content, item_view, entries_view, book_view}
-use Rattle.carte_book.specs.Needs.{IsRule}
-use Rattle.carte_book.specs.Looked.{HasRules, AddsRule}
+use Rattle.carte_book.specs.Book.{content, item_view, entries_view, book_view}
 
 Map : Type 0
 Map = BTreeMap (List ℕ) CodeItem

@@ -1,11 +1,10 @@
 -- There is one reason at most, and none where every target has a clean value.
-use Rattle.std.proofs.Common.{◌≡◌, ℕ, List, [], ◌∷◌, Option, Some, None, Result, Ok, Err, refl, ap, sym, ◌∙◌, subst, ◌⊎◌, inl, inr}
-use Rattle.carte_value.specs.declared.value.Value.{Value}
+use Rattle.std.proofs.Common.{◌≡◌, ℕ, List, [], ◌∷◌, Err, refl, subst, inl, inr}
 use Rattle.carte_value.specs.Truths.{Among}
-use Rattle.carte_book.specs.Formula.{Formula, eval}
-use Rattle.carte_book.specs.Book.{rule, Book, content, clean}
+use Rattle.carte_book.specs.Formula.{eval}
+use Rattle.carte_book.specs.Book.{Book, clean}
 use Rattle.carte_book.specs.Needs.{IsRule}
-use Rattle.carte_book.specs.Reason.{IsClean, AllClean, StuckAt, Begins, GoesRound, GoesAstray, IsReason}
+use Rattle.carte_book.specs.Reason.{AllClean, StuckAt, Begins, GoesRound, GoesAstray, IsReason}
 use Rattle.carte_book.specs.declared.reason.Reason.{Reason}
 use Rattle.carte_book.specs.declared.reason.Reason.TheVariants.{Cycle, Missing}
 

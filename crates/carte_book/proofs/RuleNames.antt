@@ -1,5 +1,5 @@
 -- Gathering the names of rules, entry by entry.
-use Rattle.std.proofs.Common.{◌≡◌, ◌↔◌, ℕ, Bool, true, false, cond, List, [], ◌∷◌, option_map, Option, Some, None, is_some, BTreeMap, BTreeSet, refl, ap, sym, ◌∙◌, inl, inr, ◌⊎◌}
+use Rattle.std.proofs.Common.{◌≡◌, ℕ, true, false, cond, List, [], ◌∷◌, option_map, Option, Some, None, is_some, BTreeMap, BTreeSet, refl, ap, sym, ◌∙◌, inl, inr, ◌⊎◌}
 use Rattle.std.specs.Ordering.{eq_by_cmp}
 use Rattle.std.specs.Map.{lookup}
 use Rattle.std.specs.BTreeMap as tree
@@ -11,8 +11,7 @@ use Rattle.carte_book.specs.declared.book.Item.{Item as CodeItem}
 use Rattle.carte_book.specs.declared.book.Item.TheVariants.{Input as InputItem, Rule as RuleItem}
 use Rattle.carte_book.specs.declared.formula.Formula.{Formula as CodeFormula}
 use Rattle.carte_book.specs.declared.book.Book.{Book as CodeBook}
-use Rattle.carte_book.specs.Book.{rule, content, item_view, book_view}
-use Rattle.carte_book.specs.Needs.{IsRule}
+use Rattle.carte_book.specs.Book.{rule, item_view, book_view}
 use Rattle.carte_book.specs.Looked.{HasRules, AddsRule}
 use Rattle.carte_book.proofs.Books.{content_found}
 use Rattle.carte_book.proofs.Clean.{tied_name}

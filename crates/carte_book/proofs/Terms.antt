@@ -1,13 +1,13 @@
 -- What evaluation gives where the terms have values, and where one hasn't.
-use Rattle.std.proofs.Common.{◌≡◌, ℕ, zero, suc, ◌+◌, ◌<◌, List, [], ◌∷◌, ◌++◌, length, take, drop, slice_get, get_or, Option, Some, None, Result, Ok, Err, refl, ap, sym, ◌∙◌, arith, add-one}
+use Rattle.std.proofs.Common.{◌≡◌, ℕ, zero, suc, ◌+◌, ◌<◌, List, [], ◌∷◌, length, take, slice_get, get_or, Some, None, Ok, Err, refl, ap, sym, ◌∙◌, arith, add-one}
 use Rattle.carte_value.specs.declared.value.Value.{Value}
 use Rattle.carte_value.specs.declared.value.Value.TheVariants.{Number as NumberValue}
 use Rattle.carte_value.specs.Truths.{Truth, Extends}
-use Rattle.carte_value.specs.Asks.{Asks, done, run, and_then}
-use Rattle.carte_value.proofs.Asks.{run_then_ok, run_then_err}
+use Rattle.carte_value.specs.Asks.{Asks, run, and_then}
+use Rattle.carte_value.proofs.Asks.{run_then_ok}
 use Rattle.carte_book.specs.declared.formula.Term.{Term}
 use Rattle.carte_book.specs.declared.formula.Term.TheVariants.{Number as number, Ref as ref}
-use Rattle.carte_book.specs.Formula.{Formula, eval, asks, asks_more, asks_term, plus}
+use Rattle.carte_book.specs.Formula.{Formula, eval, asks_more, asks_term, plus}
 use Rattle.carte_book.specs.Terms.{IsKnown, AllKnown, OpensAt}
 
 pub known_kept : (t u : Truth) (f : Formula) → Extends t u → AllKnown t f → AllKnown u f

@@ -4,3 +4,6 @@ pub mod Needs
 pub mod Reason
 pub mod Terms
 pub mod Looked
+pub mod FormulaTexts
+pub mod Reading
+pub mod Found

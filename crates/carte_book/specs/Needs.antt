@@ -1,5 +1,5 @@
 -- The needs of names, and what is reached by them.
-use Rattle.std.specs.Prelude.{ℕ, ◌≡◌, List, [], ◌∷◌, Option, Some, None}
+use Rattle.std.specs.Prelude.{ℕ, ◌≡◌, List, [], Option, Some, None}
 use Rattle.carte_value.specs.Truths.{Among}
 use Rattle.carte_book.specs.Formula.{Formula, fetched}
 use Rattle.carte_book.specs.Book.{Item, input, rule, Book, content, clean}

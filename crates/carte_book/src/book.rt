@@ -1,4 +1,4 @@
-ghost use Rattle.std.specs.Prelude.{◌≡◌, IfOk, IfErr, OnOk};
+ghost use Rattle.std.specs.Prelude.{◌≡◌, is_some, IfOk, OnOk};
 ghost use Rattle.std.specs.FinMap.{empty, insert};
 ghost use Rattle.carte_book.specs.Book.{book_view, item_view, content};
 ghost use Rattle.carte_book.specs.Looked.{Answers, HasRules, AddsRule};
@@ -60,6 +60,12 @@ impl Book {
             }
         }
         Ok(names)
+    }
+
+    pub(crate) fn has(&self, name: &Name) -> bool
+        ensures { result ≡ is_some (content (book_view self.now) name.now) }
+    {
+        self.items.contains_key(name)
     }
 
     pub(crate) fn put(&mut self, name: Name, item: Item) -> Result<(), NoMemory>

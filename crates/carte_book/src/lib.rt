@@ -2,9 +2,17 @@
 #![tactic(auto)]
 
 mod book;
+mod fault;
 mod formula;
+mod formula_text;
+mod found;
+mod laws;
+mod read;
 mod reason;
 
 pub use book::{Book, Item, Looked};
+pub use fault::{BookFault, Which};
 pub use formula::{Formula, Look, Open, Term};
+pub use laws::{book_is_unique, clean_is_settled, clean_or_refused, reason_is_unique};
+pub use read::read_rules;
 pub use reason::Reason;

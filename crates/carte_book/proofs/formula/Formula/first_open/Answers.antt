@@ -1,4 +1,4 @@
-use Rattle.std.proofs.Common.{◌≡◌, ◌<◌, length, ap, arith}
+use Rattle.std.proofs.Common.{◌<◌, length, ap, arith}
 use Rattle.carte_book.proofs.Terms.{known_more, opens_at}
 use Rattle.carte_book.proofs.formula.Formula.first_open.Goals as goal
 
