@@ -1,4 +1,5 @@
 pub mod Causes
+pub mod Crashes
 pub mod Disk
 pub mod Streams
 pub mod MemDisks

@@ -19,7 +19,11 @@ pub record MemoryOfDisk : Type 0 where
   pub calls : ℕ
   pub faults : ℕ
 
--- bytes that are all synced, before any call
+-- a disk that has these bytes, all of them synced, before any call
+abbrev pub begun_disk : List ℕ → List ℕ → MemoryOfDisk
+begun_disk bytes failing = record { first = bytes; passed = []; failing = failing; stop = None; calls = 0; faults = 0 }
+
+-- its story
 abbrev pub begun : List ℕ → Story
 begun bytes = record { now = record { reads = bytes; synced = bytes; written = [] }; past = []; passed = 0 }
 

@@ -16,6 +16,7 @@
 
 mod absent;
 mod counts;
+mod crashes;
 mod disk;
 mod failed;
 mod file_disk;
@@ -30,6 +31,7 @@ mod whole;
 mod write_sinks;
 
 pub use absent::Absent;
+pub use crashes::Pick;
 pub use disk::Disk;
 pub use failed::{Failed, NoMemory};
 pub use file_disk::FileDisk;

@@ -1,13 +1,15 @@
 // A disk in memory.
-ghost use Rattle.std.specs.Prelude.{◌≡◌, ◌+◌, ◌<◌, ◌≤◌, ◌-◌, ◌^◌, ◌++◌, ◌∷◌, [], true, length, take, drop, Some, None, min, is_err, IfOk, OnOk, OnErr, IsErr};
+ghost use Rattle.std.specs.Prelude.{◌≡◌, ◌+◌, ◌<◌, ◌≤◌, ◌-◌, ◌^◌, ◌++◌, ◌∷◌, [], true, length, take, drop, Some, min, is_err, IfOk, OnOk, OnErr, IsErr};
 ghost use Rattle.carte_io.specs.Causes.{HasCause, counted};
-ghost use Rattle.carte_io.specs.Disk.{FailsToSync, FailsToWrite, did_sync, wrote};
+ghost use Rattle.carte_io.specs.Crashes.{IsPicked};
+ghost use Rattle.carte_io.specs.Disk.{IsImage, FailsToSync, FailsToWrite, did_sync, wrote};
 ghost use Rattle.carte_io.specs.declared.passed.Passed.TheVariants.{Synced, Wrote};
-ghost use Rattle.carte_io.specs.MemDisks.{disk_failed, disk_passed, disk_read, is_refusing, is_stopped, story_of};
+ghost use Rattle.carte_io.specs.MemDisks.{begun_disk, disk_failed, disk_passed, disk_read, is_refusing, is_stopped, story_of};
 
 use crate::counts::{is_next_failing, one_more};
+use crate::crashes::{filled_image, synced_image};
 use crate::passed::{Passed, note, write_and_note};
-use crate::{Disk, Failed, NoMemory};
+use crate::{Disk, Failed, NoMemory, Pick};
 use std::alloc::Global;
 use std::marker::Model;
 
@@ -47,7 +49,7 @@ impl Model for MemDisk {
 impl MemDisk {
     /// A disk that has these bytes, all of them synced, and no call of which was made.
     pub fn of(alloc: Global, bytes: &[u8], failing: &[u64]) -> Result<MemDisk, NoMemory>
-        ensures { IfOk result (λ d. d ≡ record { first = bytes.now; passed = []; failing = failing.now; stop = None; calls = 0; faults = 0 }) }
+        ensures { IfOk result (λ d. d ≡ begun_disk bytes.now failing.now) }
     {
         Ok(MemDisk {
             alloc,
@@ -80,6 +82,28 @@ impl MemDisk {
         ensures { self.new ≡ record self.old { stop = Some (min (length self.old.passed + writing_calls) (2 ^ 64 - 1)) } }
     {
         self.stop = Some((self.passed.len() as u64).saturating_add(writing_calls));
+    }
+
+    /// The disk after a crash, which has the image that is picked, all of it synced. No call of it was made,
+    /// and none is to fail.
+    pub fn crash(&self, alloc: Global, pick: Pick) -> Result<MemDisk, NoMemory>
+        ensures picked { IfOk result (λ d. IsPicked pick (story_of self.now).now d.first) }
+        ensures image { IfOk result (λ d. IsImage (story_of self.now).now d.first) }
+        ensures settled { IfOk result (λ d. d ≡ begun_disk d.first []) }
+    {
+        let image = self.image(alloc, pick)?;
+        let disk = MemDisk::of(alloc, &image, &[])?;
+        Ok(disk)
+    }
+
+    fn image(&self, alloc: Global, pick: Pick) -> Result<Vec<u8>, NoMemory>
+        ensures { IfOk result (λ image. IsPicked pick (story_of self.now).now image.items) }
+    {
+        match pick {
+            Pick::Lost => synced_image(alloc, &self.first, &self.passed),
+            Pick::Kept => self.bytes.to_vec(alloc),
+            Pick::Fill(byte) => filled_image(alloc, &self.first, &self.passed, byte),
+        }
     }
 
     // Counts a call, and whether it is to fail.

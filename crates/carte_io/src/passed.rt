@@ -29,7 +29,7 @@ impl Piece {
         })
     }
 
-    fn bytes(&self) -> &[u8]
+    pub(crate) fn bytes(&self) -> &[u8]
         ensures { result.now ≡ self.now }
     {
         &self.bytes
@@ -76,24 +76,26 @@ pub(crate) fn note(passed: &mut Vec<Passed>, call: Passed) -> Result<(), NoMemor
 
 /// Puts a piece over the bytes, with zeros in a gap. It needs memory only where there is no room.
 pub(crate) fn put(bytes: &mut Vec<u8>, at: usize, piece: &[u8]) -> Result<(), NoMemory>
-    requires { at + length piece.now < 2 ^ 64 }
     ensures ok { OnOk result (bytes.new.items ≡ put_at bytes.old.items at piece.now) }
     ensures err { OnErr result (bytes.new.items ≡ bytes.old.items) }
     ensures room { at + length piece.now ≤ vec_capacity bytes.old → IsOk result }
 {
-    grow(bytes, at + piece.len())?;
+    let Some(end) = at.checked_add(piece.len()) else {
+        return Err(AllocError);
+    };
+    grow(bytes, end, 0)?;
     overwrite(bytes, at, piece);
     Ok(())
 }
 
-// Fills up with zeros where it is shorter.
-fn grow(bytes: &mut Vec<u8>, end: usize) -> Result<(), NoMemory>
-    ensures ok { OnOk result (bytes.new.items ≡ bytes.old.items ++ replicate (end - length bytes.old.items) 0) }
+/// Fills up with a byte where it is shorter.
+pub(crate) fn grow(bytes: &mut Vec<u8>, end: usize, byte: u8) -> Result<(), NoMemory>
+    ensures ok { OnOk result (bytes.new.items ≡ bytes.old.items ++ replicate (end - length bytes.old.items) byte) }
     ensures err { OnErr result (bytes.new.items ≡ bytes.old.items) }
     ensures room { end ≤ vec_capacity bytes.old → IsOk result }
 {
     if bytes.len() < end {
-        bytes.resize(end, 0)?;
+        bytes.resize(end, byte)?;
     }
     Ok(())
 }
