@@ -1,1 +1,4 @@
 mod StreamLemmas
+mod MemDiskLemmas
+mod CrashLemmas
+pub mod Images

@@ -62,12 +62,12 @@ range_of at n = (at, at + n) ∷ []
 -- a write that failed: nothing happened, or its range may hold any bytes
 abbrev pub FailsToWrite : ℕ → ℕ → Story → Story → Type 0
 FailsToWrite at n old new = (new ≡ old)
-  ⊎ ((reads : List ℕ) × IsTorn (range_of at n) old.now.reads reads × (new ≡ goes_to old (written_at old.now at n reads) 0))
+    ⊎ ((reads : List ℕ) × IsTorn (range_of at n) old.now.reads reads × (new ≡ goes_to old (written_at old.now at n reads) 0))
 
 -- a sync that failed: what a read gives now is one of the images, which are as before
 abbrev pub FailsToSync : Story → Story → Type 0
 FailsToSync old new = (new ≡ old)
-  ⊎ ((reads : List ℕ) × IsImage old.now reads × (new ≡ goes_to old (record { reads = reads; synced = old.now.synced; written = old.now.written }) 0))
+    ⊎ ((reads : List ℕ) × IsImage old.now reads × (new ≡ goes_to old (record { reads = reads; synced = old.now.synced; written = old.now.written }) 0))
 
 abbrev pub moments : Story → List Moment
 moments s = s.now ∷ s.past

@@ -16,11 +16,14 @@
 
 mod absent;
 mod counts;
+mod crashes;
 mod disk;
 mod failed;
 mod file_disk;
+mod mem_disk;
 mod mem_sink;
 mod mem_source;
+mod passed;
 mod read_sources;
 mod sink;
 mod source;
@@ -28,9 +31,11 @@ mod whole;
 mod write_sinks;
 
 pub use absent::Absent;
+pub use crashes::Pick;
 pub use disk::Disk;
 pub use failed::{Failed, NoMemory};
 pub use file_disk::FileDisk;
+pub use mem_disk::MemDisk;
 pub use mem_sink::MemSink;
 pub use mem_source::MemSource;
 pub use read_sources::ReadSource;
