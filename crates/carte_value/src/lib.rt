@@ -9,7 +9,9 @@ mod name;
 mod name_fault;
 mod name_text;
 mod printing;
+mod spelling;
 mod text;
+mod text_fault;
 mod value;
 
 pub use digest::Digest;
@@ -21,6 +23,7 @@ pub use name_fault::NameFault;
 pub use printing::quoted;
 use std::alloc::AllocError;
 pub use text::Text;
+pub use text_fault::TextFault;
 pub use value::{Bad, Value};
 
 /// There was no memory for what was asked. Nothing that was lent has changed.
