@@ -32,16 +32,16 @@ module _ (b : Book) (ts : List (List ℕ)) (target : List ℕ) where
   none_taken (x ∷ xs) t = tt
 
   -- the newest of the path stops at k
-  NewestStops : Truth → Path → List ℕ → Type 0
+  abbrev pub NewestStops : Truth → Path → List ℕ → Type 0
   NewestStops t [] k = Unit {0}
   NewestStops t (f ∷ rest) k = StopsAt b t f.name k
 
   linked_more : (t : Truth) (path : Path) (k : List ℕ) → IsRule b k → NewestStops t path k → Linked b t path → Linked b t (record { name = k; at = 0 } ∷ path)
-  unfolding NewestStops
+
   linked_more t [] k is_rule stops linked = record { formula = is_rule.0; is_rule = is_rule.1; within = omega arith; before = none_taken is_rule.0 t }
   linked_more t (f ∷ rest) k is_rule stops linked = (record { formula = is_rule.0; is_rule = is_rule.1; within = omega arith; before = none_taken is_rule.0 t }, stops, linked)
 
-  entered : (fresh fresh' : Fresh) (path path' : Path) (done : Done) (k : List ℕ) → IsWalk b ts target fresh path done → Entered b fresh fresh' path path' k → NewestStops (part b done) path k → Reaches b ts k → EndsWith target (k ∷ names path) → IsWalk b ts target fresh' path' done
+  pub entered : (fresh fresh' : Fresh) (path path' : Path) (done : Done) (k : List ℕ) → IsWalk b ts target fresh path done → Entered b fresh fresh' path path' k → NewestStops (part b done) path k → Reaches b ts k → EndsWith target (k ∷ names path) → IsWalk b ts target fresh' path' done
   entered fresh fresh' path path' done k w e stops reached ends = subst (λ (p : Path). IsWalk b ts target fresh' p done) (sym e.on_path) (record {
     finished = w.finished;
     fresh_rule = λ q h. w.fresh_rule q (still_fresh fresh fresh' k q e.takes h).1;
@@ -78,7 +78,7 @@ module _ (b : Book) (ts : List (List ℕ)) (target : List ℕ) where
   relinked t f g (h ∷ hs) same stands linked = (stands, (rw (← same) linked.1), linked.2)
 
   -- the newest frame moves on to the term at which it stops
-  waits : (fresh : Fresh) (rest : Path) (done : Done) (f : Frame) (at : ℕ) (k : List ℕ) → IsWalk b ts target fresh (f ∷ rest) done → Stops b done f at k → IsWalk b ts target fresh (record { name = f.name; at = at } ∷ rest) done
+  pub waits : (fresh : Fresh) (rest : Path) (done : Done) (f : Frame) (at : ℕ) (k : List ℕ) → IsWalk b ts target fresh (f ∷ rest) done → Stops b done f at k → IsWalk b ts target fresh (record { name = f.name; at = at } ∷ rest) done
   waits fresh rest done f at k w s = record {
     finished = w.finished;
     fresh_rule = w.fresh_rule;

@@ -1,11 +1,12 @@
-ghost use Rattle.std.specs.Prelude.{◌≡◌, ◌∷◌, [], None, IfOk, IfErr, OnOk};
+ghost use Rattle.std.specs.Prelude.{◌≡◌, ◌<◌, ◌∷◌, [], ℕ, List, length, slice_get, Some, None, is_some, IfOk, IfErr, OnOk};
 ghost use Rattle.carte_book.specs.Book.{book_view};
 ghost use Rattle.carte_book.specs.declared.reason.Reason.TheVariants.{Cycle, Missing};
 ghost use Rattle.carte_top.specs.Known.{part};
+ghost use Rattle.carte_top.specs.Building.{IsBetween, Reaching};
 ghost use Rattle.carte_top.specs.Walk.{names, unwound, Refuses, Enters, Turns, Stands, Puts};
 
 use crate::known::Known;
-use carte_book::{Book, Looked, Reason};
+use carte_book::{Book, Look, Looked, Reason};
 use carte_value::{Name, Names, NoMemory, Value};
 use std::alloc::Global;
 use std::collections::{BTreeMap, BTreeSet, VecDeque};
@@ -35,6 +36,44 @@ pub(crate) struct Walk {
 }
 
 impl Walk {
+    /// Evaluates what a target needs, and the target.
+    pub(crate) fn reach(
+        &mut self,
+        alloc: Global,
+        book: &Book,
+        targets: &[Name],
+        at: usize,
+    ) -> Result<(), BuildFault>
+        requires within { at < length targets.now }
+        requires between { IsBetween (book_view book.now) targets.now self.old.fresh self.old.path.items self.old.done }
+        ensures { (goal : List ℕ) → slice_get targets.now at ≡ Some goal
+            → Reaching (book_view book.now) targets.now goal self.new.fresh self.new.path.items self.old.done self.new.done result }
+    {
+        let target = &targets[at];
+        if self.knows(book, target) {
+            return Ok(());
+        }
+        if let Err(fault) = self.enter(alloc, book, target) {
+            return Err(fault);
+        }
+        'turns: while let Some(frame) = self.path.pop_front() {
+            if let Err(fault) = self.turn(alloc, book, frame) {
+                return Err(fault);
+            }
+        }
+        Ok(())
+    }
+
+    fn knows(&self, book: &Book, name: &Name) -> bool
+        ensures { result ≡ is_some (part (book_view book.now) self.now.done name.now) }
+    {
+        let known = Known {
+            book,
+            done: &self.done,
+        };
+        known.look(name).is_some()
+    }
+
     /// Puts a name that has no value yet on the path.
     fn enter(&mut self, alloc: Global, book: &Book, name: &Name) -> Result<(), BuildFault>
         requires { part (book_view book.now) self.old.done name.now ≡ None }
