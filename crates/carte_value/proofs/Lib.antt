@@ -4,5 +4,6 @@ pub mod Once
 pub mod Laws
 pub mod Fetches
 pub mod Fronts
+pub mod Quotes
 pub mod Bytes
 pub mod Escapes
