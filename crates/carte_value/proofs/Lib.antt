@@ -5,5 +5,6 @@ pub mod Laws
 pub mod Fetches
 pub mod Fronts
 pub mod Quotes
+pub mod Readings
 pub mod Bytes
 pub mod Escapes

@@ -94,3 +94,6 @@ text_read text body bytes None between escaped_is utf8 many = λ t given is.
 pub text_refused : (text body bytes : List ℕ) → text ≡ 34 ∷ (body ++ 34 ∷ []) → body ≡ flat_map escaped bytes → ¬ (IsUtf8 bytes) → (t : List ℕ) → IsText t → ¬ (text ≡ quoted t)
 text_refused text body bytes between escaped_is other t (utf8, few) is =
     other (subst IsUtf8 (sym (escaped_same bytes t (sym escaped_is ∙ quoted_same body t (sym between ∙ is)))) utf8)
+
+pub texts_same : (t u : List ℕ) → quoted t ≡ quoted u → t ≡ u
+texts_same t u same = escaped_same t u (quoted_same (flat_map escaped t) u same)
