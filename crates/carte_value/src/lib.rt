@@ -1,6 +1,7 @@
 //! Names, values and lists: what every other crate of `carte` speaks of.
 #![tactic(auto)]
 
+mod area;
 mod digest;
 mod items;
 mod kind;
@@ -17,6 +18,7 @@ mod text;
 mod text_fault;
 mod value;
 
+pub use area::Area;
 pub use digest::Digest;
 pub use items::{Items, Same};
 pub use kind::Kind;
