@@ -1,6 +1,7 @@
 //! Names, values and lists: what every other crate of `carte` speaks of.
 #![tactic(auto)]
 
+mod area;
 mod digest;
 mod items;
 mod kind;
@@ -9,11 +10,15 @@ mod name;
 mod name_fault;
 mod name_text;
 mod printing;
+mod reading;
+mod reading_law;
 mod spelling;
+mod spelling_law;
 mod text;
 mod text_fault;
 mod value;
 
+pub use area::Area;
 pub use digest::Digest;
 pub use items::{Items, Same};
 pub use kind::Kind;
@@ -21,6 +26,9 @@ pub use link::{Link, Links, Names, Values};
 pub use name::Name;
 pub use name_fault::NameFault;
 pub use printing::quoted;
+pub use reading::read_number;
+pub use reading_law::{one_reading, printed_reads};
+pub use spelling_law::{every_value, one_spelling};
 use std::alloc::AllocError;
 pub use text::Text;
 pub use text_fault::TextFault;
