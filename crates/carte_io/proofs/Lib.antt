@@ -2,3 +2,4 @@ mod StreamLemmas
 mod MemDiskLemmas
 mod CrashLemmas
 pub mod Images
+pub mod Torn

@@ -1,0 +1,4 @@
+pub mod Walks
+pub mod Files
+pub mod Readings
+pub mod Commits
