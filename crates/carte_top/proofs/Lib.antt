@@ -5,3 +5,4 @@ pub mod Refusing
 pub mod Turning
 pub mod Built
 pub mod Reaching
+pub mod WordsRead

@@ -1,3 +1,5 @@
 pub mod Known
 pub mod Walk
 pub mod Building
+pub mod Status
+pub mod Words

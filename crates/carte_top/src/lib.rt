@@ -3,4 +3,10 @@
 
 mod build;
 mod known;
+mod status;
 mod walk;
+mod word;
+mod words;
+
+pub use status::{Status, WordsFault};
+pub use word::Word;
