@@ -3,7 +3,9 @@
 
 mod build;
 mod known;
+mod reply;
 mod status;
+mod texts;
 mod walk;
 mod word;
 mod words;
