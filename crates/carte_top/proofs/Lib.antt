@@ -6,3 +6,4 @@ pub mod Turning
 pub mod Built
 pub mod Reaching
 pub mod WordsRead
+pub mod Outcomes

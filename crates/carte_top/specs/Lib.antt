@@ -6,3 +6,4 @@ pub mod Words
 pub mod Reply
 pub mod Texts
 pub mod Outcome
+pub mod Running

@@ -74,15 +74,21 @@ abbrev pub Refuses : OverSource → BookFault → Type 0
 Refuses s BookNoMemory = ⊥
 Refuses s fault = s.tells → book_of s.left ≡ Err fault
 
--- what holds but for the error line
+-- what a build of these targets has done
+abbrev pub Built : List (List ℕ) → OverSource → OverSink → Status → Type 0
+Built targets s k Done = Holds s (Replies TakesAll k targets)
+Built targets s k (BookRefused fault) = Refuses s fault × IsUntouched k
+Built targets s k (Usage fault) = ⊥
+Built targets s k (BuildRefused reason) = Holds s (λ b. IsReason b targets reason) × IsUntouched k
+Built targets s k ReadFault = Rose s.faults s.faults' × IsUntouched k
+Built targets s k WriteFault = Holds s (Replies TakesFront k targets) × Rose k.faults k.faults'
+Built targets s k NoMemory = IsUntouched k
+
+-- first the words are read: what holds but for the error line
 abbrev pub Ran : List (List ℕ) → OverSource → OverSink → Status → Type 0
-Ran words s k Done = Commands words (λ targets. Holds s (Replies TakesAll k targets))
-Ran words s k (BookRefused fault) = Commands words (λ targets. Refuses s fault) × IsUntouched k
 Ran words s k (Usage fault) = (targets_of words ≡ Err fault) × IsUnread s × IsUntouched k
-Ran words s k (BuildRefused reason) = Commands words (λ targets. Holds s (λ b. IsReason b targets reason)) × IsUntouched k
-Ran words s k ReadFault = Commands words (λ targets. Rose s.faults s.faults') × IsUntouched k
-Ran words s k WriteFault = Commands words (λ targets. Holds s (Replies TakesFront k targets)) × Rose k.faults k.faults'
 Ran words s k NoMemory = IsUntouched k
+Ran words s k status = Commands words (λ targets. Built targets s k status)
 
 -- and the error line
 abbrev pub Ended : OverSink → Status → Type 0

@@ -6,9 +6,11 @@ mod known;
 mod reply;
 mod status;
 mod texts;
+mod top;
 mod walk;
 mod word;
 mod words;
 
 pub use status::{Status, WordsFault};
+pub use top::carte;
 pub use word::Word;
