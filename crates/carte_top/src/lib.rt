@@ -14,3 +14,4 @@ mod words;
 pub use status::{Status, WordsFault};
 pub use top::carte;
 pub use word::Word;
+pub use words::book_word;

@@ -1,9 +1,9 @@
-ghost use Rattle.std.specs.Prelude.{◌≡◌, ◌==◌, not, drop, slice_index};
+ghost use Rattle.std.specs.Prelude.{◌≡◌, None, IfOk, drop, is_ok, option_copied, slice_get, if◌then◌else◌};
 ghost use Rattle.std.specs.List.{list_all};
 ghost use Rattle.carte_top.specs.Words.{is_plain, begins_build, are_build, names_in, targets_in, targets_of, IsReadOf, IsBadTarget, IsNameOf};
 
 use crate::{Word, WordsFault};
-use carte_value::{Name, NameFault, Names};
+use carte_value::{Name, NameFault, Names, NoMemory};
 use std::alloc::Global;
 
 #[derive(Drop)]
@@ -99,5 +99,17 @@ fn bad_target(alloc: Global, word: &Word) -> WordsEnd
     match Word::of(alloc, word.text()) {
         Ok(word) => WordsEnd::Fault(WordsFault::BadTarget(word)),
         Err(_) => WordsEnd::NoMemory,
+    }
+}
+
+/// The word of the book, where the words are a command. It is what the program opens.
+pub fn book_word(alloc: Global, words: &[Word]) -> Result<Option<&Word>, NoMemory>
+    ensures { IfOk result (λ o. option_copied o
+        ≡ (if is_ok (targets_of words.now) then slice_get words.now 1 else None)) }
+{
+    match read_targets(alloc, words) {
+        Ok(_) => Ok(words.get(1)),
+        Err(WordsEnd::Fault(_)) => Ok(None),
+        Err(WordsEnd::NoMemory) => Err(NoMemory),
     }
 }
