@@ -7,3 +7,4 @@ pub mod Built
 pub mod Reaching
 pub mod WordsRead
 pub mod Outcomes
+pub mod Dues

@@ -16,7 +16,8 @@ use Rattle.carte_top.specs.Known.{Done as DoneMap, part}
 use Rattle.carte_top.specs.Building.{IsBuilt, IsKnownAt}
 use Rattle.carte_top.specs.Words.{targets_of}
 use Rattle.carte_top.specs.Reply.{target_line, target_lines, counts_line, reply}
-use Rattle.carte_top.specs.Outcome.{OverSource, OverSink, TakesAll, TakesFront, Replies, Built, Ran}
+use Rattle.carte_top.specs.Around.{OverSource, OverSink, TakesAll, TakesFront}
+use Rattle.carte_top.specs.Outcome.{Replies, Built, Ran}
 use Rattle.carte_top.specs.Running.{Prints, Answers, Reports}
 
 lines_same : (b : Book) (done : DoneMap) (ts : List (List ℕ)) → Extends (part b done) (clean b) → ((k : List ℕ) → Among ts k → IsKnownAt b done k) → target_lines (part b done) ts ≡ target_lines (clean b) ts

@@ -5,5 +5,6 @@ pub mod Status
 pub mod Words
 pub mod Reply
 pub mod Texts
+pub mod Around
 pub mod Outcome
 pub mod Running

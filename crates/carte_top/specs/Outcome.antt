@@ -1,5 +1,5 @@
 -- What a run has done, status by status.
-use Rattle.std.specs.Prelude.{ℕ, ◌≡◌, ◌≤◌, ◌⊎◌, List, [], ◌∷◌, ◌++◌, length, take, Result, Ok, Err}
+use Rattle.std.specs.Prelude.{ℕ, ◌≡◌, ◌⊎◌, List, Result, Ok, Err}
 use Rattle.carte_value.specs.Truths.{IsListOf}
 use Rattle.carte_io.specs.Causes.{Rose}
 use Rattle.carte_book.specs.Book.{Book}
@@ -10,52 +10,10 @@ use Rattle.carte_book.specs.declared.fault.BookFault.{BookFault}
 use Rattle.carte_book.specs.declared.fault.BookFault.TheVariants.{Limit, NotToml, NotYet, NoMemory as BookNoMemory}
 use Rattle.carte_top.specs.declared.status.Status.{Status}
 use Rattle.carte_top.specs.declared.status.Status.TheVariants.{Done, BookRefused, Usage, BuildRefused, ReadFault, WriteFault, NoMemory}
+use Rattle.carte_top.specs.Around.{OverSource, OverSink, Around, IsUnread, IsUntouched, TakesAll, TakesFront, Says}
 use Rattle.carte_top.specs.Words.{targets_of}
 use Rattle.carte_top.specs.Reply.{reply}
 use Rattle.carte_top.specs.Texts.{error_line}
-
--- a source over a call: whether its type tells its bytes, what was left and is left, and its counts of failures
-pub record OverSource : Type 1 where
-  pub tells : Type 0
-  pub left : List ℕ
-  pub left' : List ℕ
-  pub faults : ℕ
-  pub faults' : ℕ
-
--- a sink over a call: the same, with what it took and how much of that it handed on
-pub record OverSink : Type 1 where
-  pub tells : Type 0
-  pub taken : List ℕ
-  pub taken' : List ℕ
-  pub handed : ℕ
-  pub handed' : ℕ
-  pub faults : ℕ
-  pub faults' : ℕ
-
--- all that a run has round it
-pub record Around : Type 1 where
-  pub words : List (List ℕ)
-  pub book : OverSource
-  pub out : OverSink
-  pub err : OverSink
-
-abbrev pub IsUnread : OverSource → Type 0
-IsUnread s = (s.left' ≡ s.left) × (s.faults' ≡ s.faults)
-
-abbrev pub IsUntouched : OverSink → Type 0
-IsUntouched k = (k.taken' ≡ k.taken) × (k.handed' ≡ k.handed) × (k.faults' ≡ k.faults)
-
--- it took just these bytes, and handed on all
-abbrev pub TakesAll : OverSink → List ℕ → Type 0
-TakesAll k bytes = (k.taken' ≡ k.taken ++ bytes) × (k.handed' ≡ length k.taken')
-
--- it took some first ones of these bytes
-abbrev pub TakesFront : OverSink → List ℕ → Type 0
-TakesFront k bytes = (n : ℕ) × (n ≤ length bytes) × (k.taken' ≡ k.taken ++ take n bytes)
-
--- it took the line and handed it on; or a front of it, and failed
-abbrev pub Says : OverSink → List ℕ → Type 0
-Says k bytes = (k.tells → TakesAll k bytes) ⊎ (Rose k.faults k.faults' × (k.tells → TakesFront k bytes))
 
 -- the words are a command with such targets
 abbrev pub Commands : List (List ℕ) → (List (List ℕ) → Type 0) → Type 0
@@ -96,6 +54,27 @@ Ended k Done = IsUntouched k
 Ended k WriteFault = IsUntouched k
 Ended k status = Says k (error_line status)
 
--- each status has its cause, and says what was written
-abbrev pub IsOutcome : Around → Status → Type 0
-IsOutcome a status = Ran a.words a.book a.out status × Ended a.err status
+-- which status is due. The source tells its bytes, and they are such a book
+abbrev pub IsBook : OverSource → (Book → Type 0) → Type 0
+IsBook s P = s.tells × (b : Book) × (book_of s.left ≡ Ok b) × P b
+
+abbrev pub IsDue : List (List ℕ) → OverSource → Status → Type 0
+IsDue words s Done = Commands words (λ targets. IsBook s (λ b. AllClean b targets))
+IsDue words s (BookRefused fault) = Commands words (λ targets. s.tells × (book_of s.left ≡ Err fault))
+IsDue words s (Usage fault) = targets_of words ≡ Err fault
+IsDue words s (BuildRefused reason) = Commands words (λ targets. IsBook s (λ b. IsReason b targets reason))
+IsDue words s status = ⊥
+
+-- want of memory, or a device
+abbrev pub IsHindered : Status → Type 0
+IsHindered ReadFault = Unit {0}
+IsHindered WriteFault = Unit {0}
+IsHindered NoMemory = Unit {0}
+IsHindered status = ⊥
+
+-- the status has its cause, the error line was written, and whatever status is due is the one, but for
+-- want of memory and devices
+pub record IsOutcome (a : Around) (status : Status) : Type 0 where
+  pub ran : Ran a.words a.book a.out status
+  pub ended : Ended a.err status
+  pub complete : (due : Status) → IsDue a.words a.book due → (status ≡ due) ⊎ IsHindered status

@@ -16,7 +16,8 @@ use Rattle.carte_top.specs.declared.walk.BuildFault.{BuildFault}
 use Rattle.carte_top.specs.declared.walk.BuildFault.TheVariants.{Refused, NoMemory as BuildNoMemory}
 use Rattle.carte_top.specs.declared.status.Status.{Status}
 use Rattle.carte_top.specs.declared.status.Status.TheVariants.{Done, BookRefused, Usage, BuildRefused, ReadFault, WriteFault, NoMemory}
-use Rattle.carte_top.specs.Outcome.{OverSource, OverSink, IsUntouched, TakesAll, TakesFront, Replies, Refuses}
+use Rattle.carte_top.specs.Around.{OverSource, OverSink, IsUntouched, TakesAll, TakesFront}
+use Rattle.carte_top.specs.Outcome.{Replies, Refuses}
 
 -- bytes that are read as a book
 abbrev pub RefusesBytes : List ℕ → BookFault → Type 0

@@ -5,6 +5,8 @@ mod build;
 mod known;
 mod reply;
 mod status;
+#[cfg(test)]
+mod tests;
 mod texts;
 mod top;
 mod walk;

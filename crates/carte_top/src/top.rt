@@ -3,7 +3,8 @@ ghost use Rattle.std.specs.BTreeMap.{btree_map_len};
 ghost use Rattle.carte_book.specs.Book.{book_view};
 ghost use Rattle.carte_top.specs.Known.{part};
 ghost use Rattle.carte_top.specs.Reply.{target_lines, counts_line};
-ghost use Rattle.carte_top.specs.Outcome.{IsOutcome, Ran, Built, Ended, Says};
+ghost use Rattle.carte_top.specs.Around.{Says};
+ghost use Rattle.carte_top.specs.Outcome.{IsOutcome, Ran, Built, Ended};
 ghost use Rattle.carte_top.specs.Running.{Parses, Loads, Prints, Answers, Reports, refusal_of, usage_of, unread_of, unparsed_of, is_spoken};
 
 use crate::build::build;
