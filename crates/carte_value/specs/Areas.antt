@@ -1,10 +1,11 @@
 -- Columns and rows of cells, and rectangles of cells.
-use Rattle.std.specs.Prelude.{ℕ, List, [], ◌∷◌, ◌++◌, ◌≡◌, ◌≤◌, ◌+◌, ◌-◌, ◌*◌, ◌/◌, ◌%◌, min, max, map, drop, slice_index, nat_le, IsTrue, Option, Some, None, if◌then◌else◌}
+use Rattle.std.specs.Prelude.{ℕ, List, [], ◌∷◌, ◌++◌, ◌≡◌, ◌≤◌, ◌+◌, ◌-◌, ◌*◌, ◌/◌, ◌%◌, min, max, map, drop, slice_index, nat_le, IsTrue, ◌↔◌, Option, Some, None, if◌then◌else◌}
 use Rattle.std.specs.List.{flat_map, range_with_len}
 use Rattle.std.specs.Fmt.{decimal}
 use Rattle.std.specs.Str.Parse.{digits_value}
 use Rattle.carte_value.specs.declared.area.Area.{Area}
 use Rattle.carte_value.specs.Names.{is_upper, is_cell_name}
+use Rattle.carte_value.specs.Truths.{Among, NoneTwice}
 
 -- columns are A to Z, and then AA to ZZ, counted from 1
 unfoldable pub column_name : ℕ → List ℕ
@@ -58,3 +59,26 @@ cells_of a = flat_map (row_cells a) (range_with_len a.top (a.bottom + 1 - a.top)
 
 abbrev pub size_of : Area → ℕ
 size_of a = (a.right + 1 - a.left) * (a.bottom + 1 - a.top)
+
+-- names of cells and places of the sheet are the same
+pub record CellsByPlace : Type 0 where
+  pub cell : (c r : ℕ) → IsPlace c r → IsTrue (is_cell_name (cell_at c r))
+  pub column : (c r : ℕ) → IsPlace c r → column_of (cell_at c r) ≡ c
+  pub row : (c r : ℕ) → IsPlace c r → row_of (cell_at c r) ≡ r
+  pub place : (k : List ℕ) → IsTrue (is_cell_name k) → IsPlace (column_of k) (row_of k)
+  pub again : (k : List ℕ) → IsTrue (is_cell_name k) → cell_at (column_of k) (row_of k) ≡ k
+
+-- no cell stands in an area twice
+abbrev pub EachCellOnce : Type 0
+EachCellOnce = (a : Area) → IsArea a → NoneTwice (cells_of a)
+
+-- the cells of an area are those whose column and row lie between its sides
+pub record IsWithin (a : Area) (k : List ℕ) : Type 0 where
+  pub cell : IsTrue (is_cell_name k)
+  pub left : a.left ≤ column_of k
+  pub right : column_of k ≤ a.right
+  pub top : a.top ≤ row_of k
+  pub bottom : row_of k ≤ a.bottom
+
+abbrev pub CellsWithin : Type 0
+CellsWithin = (a : Area) → IsArea a → (k : List ℕ) → Among (cells_of a) k ↔ IsWithin a k
