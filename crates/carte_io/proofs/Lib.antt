@@ -3,3 +3,4 @@ mod MemDiskLemmas
 mod CrashLemmas
 pub mod Images
 pub mod Torn
+pub mod Acknowledged

@@ -1,6 +1,7 @@
 pub mod Causes
 pub mod Crashes
 pub mod Disk
+pub mod Stations
 pub mod Streams
 pub mod MemDisks
 pub mod Memory

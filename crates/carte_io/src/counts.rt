@@ -1,5 +1,5 @@
 // Counts of calls and of failures.
-ghost use Rattle.std.specs.Prelude.{◌≡◌, MatchResult, Err};
+ghost use Rattle.std.specs.Prelude.{◌≡◌, MatchResult, Err, is_ok, if◌then◌else◌};
 ghost use Rattle.carte_io.specs.Causes.{counted, HasCause};
 ghost use Rattle.carte_io.specs.Memory.{is_failing};
 
@@ -25,6 +25,7 @@ pub(crate) fn counted_answer<T>(answer: io::Result<T>, faults: &mut u64) -> Resu
     ensures cases { MatchResult answer
         (λ x. (result ≡ Ok x) × (faults.new ≡ faults.old))
         (λ _. (result ≡ Err (record {})) × (faults.new ≡ counted faults.old)) }
+    ensures counts { faults.new ≡ (if is_ok result then faults.old else counted faults.old) }
     ensures cause { HasCause faults.old faults.new result }
 {
     match answer {

@@ -1,12 +1,13 @@
 -- The steps of a commit, from a disk at rest to a disk at rest.
-use Rattle.std.proofs.Common.{◌≡◌, ℕ, ◌+◌, ◌<◌, ◌≤◌, ◌^◌, true, false, List, [], ◌∷◌, ◌++◌, length, refl, sym, ◌∙◌, ap, subst, inl, append-nil}
-use Rattle.std.proofs.lemmas.Bool.{leb-true, leb-false}
+use Rattle.std.proofs.Common.{◌≡◌, ℕ, ◌+◌, ◌<◌, ◌≤◌, ◌^◌, true, false, List, [], ◌∷◌, ◌++◌, length, arith, refl, sym, ◌∙◌, ap, subst, inl, inr, append-nil}
+use Rattle.std.proofs.lemmas.Bool.{cases_Bool, leb-true, leb-false, lt-leb}
 use Rattle.carte_io.specs.Disk.{IsSettled, IsTorn, LeavesOnly, Story, did_sync, put_at, range_of, wrote}
 use Rattle.carte_io.proofs.Images.{leaves_more, leaves_none, leaves_then, settled_image}
 use Rattle.carte_journal.specs.Frames.{BodyAt, Ends, end_of, piece_of, reading}
 use Rattle.carte_journal.specs.Journals.{IsAtRest, IsBeforeOrAfter, Standing}
 use Rattle.carte_journal.specs.Ready.{IsReady, IsReadyAt, start_bytes}
-use Rattle.carte_journal.proofs.Readings.{behind_torn, gate_torn, new_reads, opened_ready, read_ready, started_ready, started_torn}
+use Rattle.carte_journal.proofs.Files.{gate_from, gate_inside}
+use Rattle.carte_journal.proofs.Readings.{behind_torn, gate_torn, new_reads, opened_ready, read_ready, ready_reads, started_ready, started_torn}
 
 -- a journal at rest
 module _ (j : Standing) (bodies : List BodyAt) (s : Story) (rest : IsAtRest j bodies s) where
@@ -90,3 +91,35 @@ module _ (j : Standing) (bodies : List BodyAt) (body : List ℕ) (gate : ℕ) wh
   pub begin_then : (s u v : Story) → j.gate ≡ gate → LeavesOnly s u (λ file. reading j.limit file ≡ Ends j.gate bodies)
       → LeavesOnly u v (IsBeforeOrAfter j.limit gate bodies body) → LeavesOnly s v (IsBeforeOrAfter j.limit gate bodies body)
   begin_then s u v is leaves more = leaves_then s u v (IsBeforeOrAfter j.limit gate bodies body) (begins_moment s u is leaves) more
+
+-- a commit as a whole
+module _ (j : Standing) (bodies : List BodyAt) (body : List ℕ) (s : Story) (rest : IsAtRest j bodies s) where
+  -- where nothing was done
+  pub full_moment : LeavesOnly s s (IsBeforeOrAfter j.limit j.gate bodies body)
+  full_moment = leaves_more s s (λ file. reading j.limit file ≡ Ends j.gate bodies) _ (λ c reads. inl reads) (rest_moment j bodies s rest)
+
+  -- the first gate byte is that at 8
+  rest_gate : 8 ≤ j.gate
+  rest_gate =
+      elim (cases_Bool j.fresh) [
+        | inl fresh ↦ let e : Ends 8 [] ≡ Ends j.gate bodies = is_new j bodies s rest fresh in let g : 8 ≡ j.gate = cc in omega (arith, g)
+        | inr stale ↦ gate_from j.limit 8 j.gate bodies s.now.reads (rest_ready j bodies s rest stale).file.frames
+      ]
+
+  pub committed_rest : (new : Standing) (gate : ℕ) (u : Story) → gate ≡ j.gate → new.limit ≡ j.limit → new.gate ≡ end_of gate body → new.fresh ≡ false
+      → IsReadyAt j.limit (end_of gate body) (bodies ++ (gate, body) ∷ []) u → IsAtRest new (bodies ++ (j.gate, body) ∷ []) u
+  committed_rest new gate u gate_is limit_is end_is stale ready =
+      let inside : end_of gate body < length u.now.reads =
+      gate_inside j.limit 8 (end_of gate body) (bodies ++ (gate, body) ∷ []) u.now.reads ready.file.frames in
+      let long : 9 < length u.now.reads = omega (arith, rest_gate, inside, gate_is) in
+      record {
+        read = record {
+          reads =
+              ap (λ l. reading l u.now.reads) limit_is
+              ∙ ready_reads j.limit (end_of gate body) (bodies ++ (gate, body) ∷ []) u.now.reads ready.file
+              ∙ ap (λ e. Ends e (bodies ++ (gate, body) ∷ [])) (sym end_is)
+              ∙ ap (λ g. Ends new.gate (bodies ++ (g, body) ∷ [])) gate_is;
+          fresh_is = stale ∙ sym (lt-leb (length u.now.reads) 9 long);
+        };
+        settled = ready.settled;
+      }

@@ -2,3 +2,4 @@ pub mod Walks
 pub mod Files
 pub mod Readings
 pub mod Commits
+pub mod ManyCommits

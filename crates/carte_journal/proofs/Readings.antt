@@ -5,11 +5,11 @@ use Rattle.std.proofs.lemmas.Bool.{cases_lt, cases_Bool}
 use Rattle.std.proofs.lemmas.Bool.Decides.{nat_tests}
 use Rattle.std.proofs.lemmas.Slice.Eq.{bytes_eq-Decides}
 use Rattle.std.proofs.lemmas.List.{drop_all, take-take}
-use Rattle.carte_io.specs.Disk.{IsTorn, put_at, range_of}
+use Rattle.carte_io.specs.Disk.{IsTorn, Story, put_at, range_of}
 use Rattle.carte_io.proofs.Torn.{put_inside}
-use Rattle.carte_journal.specs.Frames.{Bad, BodyAt, Ends, end_of, frames_from, header, piece_of, reading}
+use Rattle.carte_journal.specs.Frames.{Bad, BodyAt, Ends, add, end_of, frames_from, header, piece_of, reading}
 use Rattle.carte_journal.specs.Ready.{HasFrames, IsReady, start_bytes}
-use Rattle.carte_journal.proofs.Walks.{one_byte}
+use Rattle.carte_journal.proofs.Walks.{adds, adds_more, one_byte}
 use Rattle.carte_journal.proofs.Files.{gate_from, opened, staged, torn_behind, torn_gate}
 
 -- a file of at most 9 bytes is a new one
@@ -98,3 +98,14 @@ module _ (limit gate : ℕ) (bodies : List BodyAt) (file : List ℕ) (ready : Is
       let h : HasFrames limit 8 (end_of gate body) (bodies ++ (gate, body) ∷ []) file' × (take gate file' ≡ take gate file) =
       opened limit 8 gate bodies file ready.frames piece body tail is short fits in
       record { begins = begins_too file' h.1; frames = h.0 }
+
+-- one frame more was read, of a disk whose story stays
+pub read_more : (limit gate end : ℕ) (bytes : List ℕ) (bodies after : List BodyAt) (s t : Story) → s ≡ t
+    → frames_from limit 8 t.now.reads ≡ adds bodies (frames_from limit gate t.now.reads)
+    → frames_from limit gate s.now.reads ≡ add (gate, bytes) (frames_from limit (end_of gate bytes) s.now.reads)
+    → end ≡ end_of gate bytes → after ≡ bodies ++ (gate, bytes) ∷ []
+    → frames_from limit 8 t.now.reads ≡ adds after (frames_from limit end t.now.reads)
+read_more limit gate end bytes bodies after s t same so is end_is after_is =
+    adds_more _ (frames_from limit gate t.now.reads) (frames_from limit (end_of gate bytes) t.now.reads) bodies after (gate, bytes) so
+    (subst (λ (v : Story). frames_from limit gate v.now.reads ≡ add (gate, bytes) (frames_from limit (end_of gate bytes) v.now.reads)) same is) after_is
+    ∙ ap (λ n. adds after (frames_from limit n t.now.reads)) (sym end_is)

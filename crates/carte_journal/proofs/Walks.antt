@@ -1,11 +1,11 @@
 -- Laws of the frames of a list of bytes.
-use Rattle.std.proofs.Common.{◌≡◌, ◌≢◌, ℕ, suc, zero, ◌+◌, ◌-◌, ◌<◌, ◌≤◌, ◌^◌, true, false, List, [], ◌∷◌, ◌++◌, length, take, drop, get_or, arith, refl, sym, ◌∙◌, ap, inl, inr, append_assoc, length-append, length-take, length-drop}
+use Rattle.std.proofs.Common.{◌≡◌, ◌≢◌, ℕ, suc, zero, ◌+◌, ◌-◌, ◌<◌, ◌≤◌, ◌^◌, min, true, false, List, [], ◌∷◌, ◌++◌, length, take, drop, get_or, arith, refl, sym, ◌∙◌, ap, inl, inr, append_assoc, length-append, length-take, length-drop}
 use Rattle.std.proofs.lemmas.Bool.{cases_eq, cases_Bool}
 use Rattle.std.proofs.lemmas.Bool.Decides.{nat_tests}
 use Rattle.std.proofs.lemmas.Nat.{from_be_bytes-to_be_bytes_4}
-use Rattle.std.proofs.lemmas.List.{places, same_lists, take_at}
+use Rattle.std.proofs.lemmas.List.{drop-drop, drop_more, places, same_lists, take-append-drop, take_at}
 use Rattle.std.specs.Int.{from_be_bytes, to_be_bytes, w32}
-use Rattle.carte_journal.specs.Frames.{Bad, BodyAt, Ends, Reading, add, end_of, lies, piece_of, stated, walk}
+use Rattle.carte_journal.specs.Frames.{Bad, BodyAt, Ends, Reading, add, end_of, frames_from, lies, piece_of, stated, walk}
 
 -- the frames in front of others
 abbrev pub adds : List BodyAt → Reading → Reading
@@ -143,6 +143,20 @@ pub adds_ends : (bodies more : List BodyAt) (gate : ℕ) → adds bodies (Ends g
 adds_ends [] more gate = refl
 adds_ends (body ∷ bodies) more gate = ap (add body) (adds_ends bodies more gate)
 
+pub adds_bad : (bodies : List BodyAt) (gate : ℕ) → adds bodies (Bad gate) ≡ Bad gate
+adds_bad [] gate = refl
+adds_bad (body ∷ bodies) gate = ap (add body) (adds_bad bodies gate)
+
+adds-append : (bodies more : List BodyAt) (reading : Reading) → adds (bodies ++ more) reading ≡ adds bodies (adds more reading)
+adds-append [] more reading = refl
+adds-append (body ∷ bodies) more reading = ap (add body) (adds-append bodies more reading)
+
+-- one frame more of a file was read
+pub adds_more : (all here there : Reading) (bodies after : List BodyAt) (body : BodyAt) → all ≡ adds bodies here → here ≡ add body there
+    → after ≡ bodies ++ body ∷ [] → all ≡ adds after there
+adds_more all here there bodies after body so is after_is =
+    so ∙ ap (adds bodies) is ∙ sym (ap (λ bs. adds bs there) after_is ∙ adds-append bodies (body ∷ []) there)
+
 -- passing over a front
 walk_past : (limit at : ℕ) (front bytes : List ℕ) → walk limit at (length front) (front ++ bytes) ≡ walk limit (at + length front) 0 bytes
 walk_past limit at [] bytes = ap (λ n. walk limit n 0 bytes) (omega arith)
@@ -186,3 +200,25 @@ one_byte limit at (g ∷ bytes) gate bodies short ends =
       | closes closed is none ↦ (is, none)
       | opens is fits rest first more ↦ absurd (omega (arith, (lies_fits limit at bytes fits).0))
     ]
+
+-- a frame that lies in the file, and the frames behind it
+pub next_frame : (limit gate size : ℕ) (file body : List ℕ) → get_or file gate 0 ≡ 1 → size ≡ stated (drop (gate + 1) file)
+    → gate + 6 + size ≤ length file → gate + 6 + size ≤ limit → body ≡ take size (drop (gate + 5) file)
+    → frames_from limit gate file ≡ add (gate, body) (frames_from limit (end_of gate body) file)
+next_frame limit gate size file body is_open size_is in_file in_limit is =
+    let bytes : List ℕ = drop (gate + 1) file in
+    let len : length bytes ≡ length file - (gate + 1) = length-drop (gate + 1) file in
+    let first : drop gate file ≡ 1 ∷ bytes = drop_more file gate 0 (omega arith) ∙ ap (λ b. b ∷ bytes) is_open in
+    let whole_size : length body ≡ size = ap length is ∙ (length-take size (drop (gate + 5) file) ∙ (let e : min size (length (drop (gate + 5) file)) ≡ size = omega (arith, length-drop (gate + 5) file) in e)) in
+    let body_is : take size (drop 4 bytes) ≡ body = ap (take size) (drop-drop 4 (gate + 1) file) ∙ ap (λ n. take size (drop n file)) (let e : gate + 1 + 4 ≡ gate + 5 = omega arith in e) ∙ sym is in
+    let front : length (take (4 + size) bytes) ≡ 4 + size = omega (arith, length-take (4 + size) bytes, len) in
+    ap (walk limit gate 0) first
+    ∙ walk_open limit gate 1 bytes refl (fits_lies limit gate bytes (omega (arith, len, size_is)) (omega (arith, size_is)))
+    ∙ ap (λ n. add (gate, take n (drop 4 bytes)) (walk limit (suc gate) (4 + n) bytes)) (sym size_is)
+    ∙ ap (λ b. add (gate, b) (walk limit (suc gate) (4 + size) bytes)) body_is
+    ∙ ap (λ xs. add (gate, body) (walk limit (suc gate) (4 + size) xs)) (sym (take-append-drop (4 + size) bytes))
+    ∙ ap (λ n. add (gate, body) (walk limit (suc gate) n (take (4 + size) bytes ++ drop (4 + size) bytes))) (sym front)
+    ∙ ap (add (gate, body)) (walk_past limit (suc gate) (take (4 + size) bytes) (drop (4 + size) bytes))
+    ∙ ap (λ n. add (gate, body) (walk limit n 0 (drop (4 + size) bytes))) (let e : suc gate + length (take (4 + size) bytes) ≡ end_of gate body = omega (arith, front, whole_size) in e)
+    ∙ ap (λ xs. add (gate, body) (walk limit (end_of gate body) 0 xs)) (drop-drop (4 + size) (gate + 1) file)
+    ∙ ap (λ n. add (gate, body) (walk limit (end_of gate body) 0 (drop n file))) (let e : gate + 1 + (4 + size) ≡ end_of gate body = omega (arith, whole_size) in e)

@@ -39,6 +39,13 @@ impl Body {
         Body { offset, bytes }
     }
 
+    /// Another that is the same.
+    pub fn copy(&self, alloc: Global) -> Result<Body, NoMemory>
+        ensures { IfOk result (λ b. b ≡ self.now) }
+    {
+        Body::of(alloc, self.offset, &self.bytes)
+    }
+
     /// The offset of its gate byte.
     pub fn offset(&self) -> u64
         ensures { result ≡ self.now.0 }
@@ -94,6 +101,17 @@ impl Bodies {
         ensures { option_copied result ≡ slice_get self.now at }
     {
         self.items.get(at)
+    }
+
+    /// Others that are the same.
+    pub fn copy(&self, alloc: Global) -> Result<Bodies, NoMemory>
+        ensures { IfOk result (λ b. b ≡ self.now) }
+    {
+        let mut copies = Bodies::new(alloc);
+        for body in self.items.iter() {
+            copies.push(body.copy(alloc)?)?;
+        }
+        Ok(copies)
     }
 
     /// Adds one. There is room for 2^32 - 1.

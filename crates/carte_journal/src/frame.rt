@@ -37,6 +37,14 @@ impl Frame {
         Ok(Frame { piece })
     }
 
+    /// The length of its body.
+    pub(crate) fn len(&self) -> u64
+        ensures len { result ≡ length self.now }
+        ensures short { length self.now < 2 ^ 32 }
+    {
+        self.piece.len() as u64 - 5
+    }
+
     /// The bytes behind its gate byte.
     pub(crate) fn piece(&self) -> &[u8]
         ensures piece { result.now ≡ piece_of self.now }
