@@ -9,6 +9,8 @@ mod found;
 mod laws;
 mod read;
 mod reason;
+#[cfg(test)]
+mod tests;
 
 pub use book::{Book, Item, Looked};
 pub use fault::{BookFault, Which};
