@@ -4,11 +4,10 @@
 use carte_io::{Absent, ReadSource, WriteSink};
 use carte_top::{Status, Word, book_word, carte};
 use carte_value::NoMemory;
-use std::env;
-use std::fs;
 use std::fs::File;
 use std::io::ErrorKind;
 use std::process::ExitCode;
+use std::{env, fs};
 
 fn main(rt: HostRuntime) -> ExitCode {
     let status = match words(&rt) {

@@ -26,7 +26,7 @@ eval_kept t u e v more h = run_kept t u (asks e) v more h
 
 pub settled_kept : (b : Book) (t u : Truth) → Extends t u → Extends (settled b t) (settled b u)
 settled_kept b t u more k v h =
-  valued_kept (content b k) (λ e. result_ok (eval t e)) (λ e. result_ok (eval u e)) (λ e w is. ap result_ok (eval_kept t u e w more (ended (eval t e) w is))) v h
+    valued_kept (content b k) (λ e. result_ok (eval t e)) (λ e. result_ok (eval u e)) (λ e w is. ap result_ok (eval_kept t u e w more (ended (eval t e) w is))) v h
 
 pub val_kept : (b : Book) (n : ℕ) → Extends (val b n) (val b (suc n))
 val_kept b zero k v h = valued_kept (content b k) (λ e. None) (λ e. result_ok (eval (val b zero) e)) (λ e w is. cc) v h
@@ -70,15 +70,15 @@ tied_name k j h = slice_cmp-IsAntisymmetric nat_cmp-IsAntisymmetric k j (equal (
 rule_same : (t u : Truth) (es : List (List ℕ × Item)) (k : List ℕ) (e : Formula) → Extends t u → find name_cmp k es ≡ Some (rule e) → known t (rules_among es) ≡ known u (rules_among es) → u k ≡ t k
 rule_same t u [] k e more is same = cc
 rule_same t u ((j, input v) ∷ es) k e more is same =
-  elim (eq_by_cmp name_cmp k j) as (λ b. cond b (Some (input v)) (find name_cmp k es) ≡ Some (rule e) → u k ≡ t k) [
-    | true ↦ λ here. cc
-    | false ↦ λ later. rule_same t u es k e more later same
-  ] is
+    elim (eq_by_cmp name_cmp k j) as (λ b. cond b (Some (input v)) (find name_cmp k es) ≡ Some (rule e) → u k ≡ t k) [
+      | true ↦ λ here. cc
+      | false ↦ λ later. rule_same t u es k e more later same
+    ] is
 rule_same t u ((j, rule d) ∷ es) k e more is same =
-  elim (eq_by_cmp name_cmp k j) as (λ b. eq_by_cmp name_cmp k j ≡ b → cond b (Some (rule d)) (find name_cmp k es) ≡ Some (rule e) → u k ≡ t k) [
-    | true ↦ λ tied here. rw (tied_name k j tied) (some_same (t j) (u j) (more j) (omega (arith, some_kept (t j) (u j) (more j), known_grows t u (rules_among es) more)))
-    | false ↦ λ tied later. rule_same t u es k e more later (omega (arith, some_kept (t j) (u j) (more j), known_grows t u (rules_among es) more))
-  ] refl is
+    elim (eq_by_cmp name_cmp k j) as (λ b. eq_by_cmp name_cmp k j ≡ b → cond b (Some (rule d)) (find name_cmp k es) ≡ Some (rule e) → u k ≡ t k) [
+      | true ↦ λ tied here. rw (tied_name k j tied) (some_same (t j) (u j) (more j) (omega (arith, some_kept (t j) (u j) (more j), known_grows t u (rules_among es) more)))
+      | false ↦ λ tied later. rule_same t u es k e more later (omega (arith, some_kept (t j) (u j) (more j), known_grows t u (rules_among es) more))
+    ] refl is
 
 -- where no rule gains a value, a round changes nothing
 round_same : (b : Book) (n : ℕ) → known (val b n) (rules_of b) ≡ known (val b (suc n)) (rules_of b) → val b (suc n) ≡ val b n
@@ -87,9 +87,11 @@ round_same b n same = fun_ext (λ k. at k (content b k) refl)
     nothing : (k : List ℕ) (n : ℕ) → content b k ≡ None → val b n k ≡ None
     nothing k zero is = rw is refl
     nothing k (suc n) is = rw is refl
+
     given : (k : List ℕ) (n : ℕ) (v : Value) → content b k ≡ Some (input v) → val b n k ≡ Some v
     given k zero v is = rw is refl
     given k (suc n) v is = rw is refl
+
     at : (k : List ℕ) (o : Option Item) → content b k ≡ o → val b (suc n) k ≡ val b n k
     at k None is = nothing k (suc n) is ∙ sym (nothing k n is)
     at k (Some (input v)) is = given k (suc n) v is ∙ sym (given k n v is)
@@ -98,9 +100,9 @@ round_same b n same = fun_ext (λ k. at k (content b k) refl)
 rounds : (b : Book) (n : ℕ) → (settled b (val b n) ≡ val b n) ⊎ (n ≤ known (val b n) (rules_of b))
 rounds b zero = inr (omega arith)
 rounds b (suc n) = elim (rounds b n) [
-    | inl done ↦ inl (ap (settled b) done)
-    | inr many ↦ more many (eq-or-lt_of_le (known_grows (val b n) (val b (suc n)) (rules_of b) (val_kept b n)))
-  ]
+  | inl done ↦ inl (ap (settled b) done)
+  | inr many ↦ more many (eq-or-lt_of_le (known_grows (val b n) (val b (suc n)) (rules_of b) (val_kept b n)))
+]
   where
     more : n ≤ known (val b n) (rules_of b) → (known (val b n) (rules_of b) ≡ known (val b (suc n)) (rules_of b)) ⊎ (known (val b n) (rules_of b) < known (val b (suc n)) (rules_of b)) → (settled b (val b (suc n)) ≡ val b (suc n)) ⊎ (suc n ≤ known (val b (suc n)) (rules_of b))
     more many (inl same) = inl (ap (settled b) (round_same b n same))
@@ -109,9 +111,9 @@ rounds b (suc n) = elim (rounds b n) [
 -- a further round over the clean values changes nothing
 pub clean_settled : (b : Book) → settled b (clean b) ≡ clean b
 clean_settled b = elim (rounds b (length (rules_of b) + 1)) [
-    | inl done ↦ done
-    | inr many ↦ absurd (omega (arith, known_all (val b (length (rules_of b) + 1)) (rules_of b)))
-  ]
+  | inl done ↦ done
+  | inr many ↦ absurd (omega (arith, known_all (val b (length (rules_of b) + 1)) (rules_of b)))
+]
 
 pub clean_at : (b : Book) (k : List ℕ) → clean b k ≡ valued (content b k) (λ e. result_ok (eval (clean b) e))
 clean_at b k = sym (ap (λ (t : Truth). t k) (clean_settled b))
@@ -140,13 +142,13 @@ no_clean b P held k p = none (length (rules_of b) + 1) k p
   where
     none : (n : ℕ) (k : List ℕ) → P k → val b n k ≡ None
     none zero k p = elim (held k p) [
-        | inl nothing ↦ rw nothing refl
-        | inr stops ↦ rw stops.1 refl
-      ]
+      | inl nothing ↦ rw nothing refl
+      | inr stops ↦ rw stops.1 refl
+    ]
     none (suc n) k p = elim (held k p) [
-        | inl nothing ↦ rw nothing refl
-        | inr stops ↦ rw stops.1 (stopped stops.0 stops.2 stops.4 stops.3 stops.5 (none n stops.4 stops.6) (eval (val b n) stops.0) refl)
-      ]
+      | inl nothing ↦ rw nothing refl
+      | inr stops ↦ rw stops.1 (stopped stops.0 stops.2 stops.4 stops.3 stops.5 (none n stops.4 stops.6) (eval (val b n) stops.0) refl)
+    ]
       where
         stopped : (e : Formula) (t : Truth) (j : List ℕ) → Extends t (clean b) → eval t e ≡ Err j → val b n j ≡ None → (r : Result Value (List ℕ)) → eval (val b n) e ≡ r → result_ok r ≡ None
         stopped e t j more stop open_at (Err i) is = refl

@@ -39,6 +39,6 @@ untold bytes short none = rw (not_below (length bytes) 16777216 short) (ap book_
   where
     no_document : document bytes ≡ None
     no_document = elim (is_utf8 bytes) as (λ b. is_utf8 bytes ≡ b → cond b (parse_document bytes) None ≡ None) [
-        | true ↦ λ is. none (IsUtf8-from_is_utf8 bytes is)
-        | false ↦ λ is. refl
-      ] refl
+      | true ↦ λ is. none (IsUtf8-from_is_utf8 bytes is)
+      | false ↦ λ is. refl
+    ] refl

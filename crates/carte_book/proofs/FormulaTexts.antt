@@ -19,15 +19,15 @@ use Rattle.carte_book.specs.FormulaTexts.{is_plus, number_in, term_of_word, term
 -- what `position` says of the first place
 pub at_place : (p : ℕ → Bool) (xs : List ℕ) (i : ℕ) → position p xs ≡ Some i → (i ≡ position_or_len p xs) × (i < length xs)
 at_place p xs i = elim (nat_lt (position_or_len p xs) (length xs)) as (λ b. nat_lt (position_or_len p xs) (length xs) ≡ b → cond b (Some (position_or_len p xs)) None ≡ Some i → (i ≡ position_or_len p xs) × (i < length xs)) [
-    | true ↦ λ is e. let same : i ≡ position_or_len p xs = cc in (same, grind (arith, nat_tests))
-    | false ↦ λ is e. cc
-  ] refl
+  | true ↦ λ is e. let same : i ≡ position_or_len p xs = cc in (same, grind (arith, nat_tests))
+  | false ↦ λ is e. cc
+] refl
 
 pub no_place : (p : ℕ → Bool) (xs : List ℕ) → position p xs ≡ None → position_or_len p xs ≡ length xs
 no_place p xs = elim (nat_lt (position_or_len p xs) (length xs)) as (λ b. nat_lt (position_or_len p xs) (length xs) ≡ b → cond b (Some (position_or_len p xs)) None ≡ None → position_or_len p xs ≡ length xs) [
-    | true ↦ λ is e. cc
-    | false ↦ λ is e. let below = prefix_len-le-length (λ x. not (p x)) xs in grind (arith, nat_tests)
-  ] refl
+  | true ↦ λ is e. cc
+  | false ↦ λ is e. let below = prefix_len-le-length (λ x. not (p x)) xs in grind (arith, nat_tests)
+] refl
 
 -- the slice behind a place, as the code takes it
 behind : (xs : List ℕ) (i : ℕ) → take (length xs - (i + 1)) (drop (i + 1) xs) ≡ drop (i + 1) xs
@@ -35,9 +35,9 @@ behind xs i = take_all (length xs - (i + 1)) (drop (i + 1) xs) (omega (arith, le
 
 pub cut_some : (xs : List ℕ) (i : ℕ) → position is_plus xs ≡ Some i → Cuts xs (take i xs) (Some (take (length xs - (i + 1)) (drop (i + 1) xs)))
 cut_some xs i is =
-  let at = at_place is_plus xs i is in
-  let split = slice_split_first is_plus xs 0 (omega (arith, at.0, at.1)) in
-  rw (behind xs i) (rw (← at.0) at split, omega (arith, length-drop (i + 1) xs, at.1))
+    let at = at_place is_plus xs i is in
+    let split = slice_split_first is_plus xs 0 (omega (arith, at.0, at.1)) in
+    rw (behind xs i) (rw (← at.0) at split, omega (arith, length-drop (i + 1) xs, at.1))
 
 pub cut_none : (xs : List ℕ) → position is_plus xs ≡ None → Cuts xs xs None
 cut_none xs is = slice_split_none is_plus xs (λ k d below. fails_before_first is_plus xs k d (omega (arith, no_place is_plus xs is, below)))
@@ -62,16 +62,16 @@ second_part false b h = cc
 -- a word that isn't UTF-8 is no term
 pub foreign : (w : List ℕ) → ¬ (IsUtf8 w) → None ≡ term_of_word w
 foreign w not_text =
-  elim (is_rule_name w) as (λ b. is_rule_name w ≡ b → None ≡ (cond b (Some (Term.Ref w)) (number_in w))) [
-    | true ↦ λ is. absurd (not_text (ascii_all is_name_byte low_name w (second_part _ (list_all is_name_byte w) is)))
-    | false ↦ λ is. no_number
-  ] refl
+    elim (is_rule_name w) as (λ b. is_rule_name w ≡ b → None ≡ (cond b (Some (Term.Ref w)) (number_in w))) [
+      | true ↦ λ is. absurd (not_text (ascii_all is_name_byte low_name w (second_part _ (list_all is_name_byte w) is)))
+      | false ↦ λ is. no_number
+    ] refl
   where
     no_number : None ≡ number_in w
     no_number = elim ((nat_le 1 (length w) && list_all is_ascii_digit w) && nat_lt (digits_value 10 w) (2 ^ 63)) as (λ b. ((nat_le 1 (length w) && list_all is_ascii_digit w) && nat_lt (digits_value 10 w) (2 ^ 63)) ≡ b → None ≡ cond b (Some (Term.Number (pos (digits_value 10 w)))) None) [
-        | true ↦ λ is. absurd (not_text (ascii_all is_ascii_digit low_digit w (second_part (nat_le 1 (length w)) _ (first_part _ _ is))))
-        | false ↦ λ is. refl
-      ] refl
+      | true ↦ λ is. absurd (not_text (ascii_all is_ascii_digit low_digit w (second_part (nat_le 1 (length w)) _ (first_part _ _ is))))
+      | false ↦ λ is. refl
+    ] refl
 
 own : IsNumeralModel (λ ds. list_all is_ascii_digit ds ≡ true) (digits_value 10)
 own = numerals_by_value _ (search rules)
@@ -79,12 +79,13 @@ own = numerals_by_value _ (search rules)
 -- digits that don't fit u64 are no number of i64 either
 pub too_large : {E : Type 0} (w : List ℕ) (e : E) → ParsesUnsigned 64 10 w (Err e) → list_all is_ascii_digit w ≡ true → 0 < length w → None ≡ number_in w
 too_large w e h digits some =
-  let big = parse_digits own 64 w (Err e) h digits in
-  let test : nat_lt (digits_value 10 w) (2 ^ 63) ≡ false = above (digits_value 10 w) (λ below. big (some, below)) in
-  rw test (never (nat_le 1 (length w) && list_all is_ascii_digit w))
+    let big = parse_digits own 64 w (Err e) h digits in
+    let test : nat_lt (digits_value 10 w) (2 ^ 63) ≡ false = above (digits_value 10 w) (λ below. big (some, below)) in
+    rw test (never (nat_le 1 (length w) && list_all is_ascii_digit w))
   where
     above : (n : ℕ) → ¬ (n < 2 ^ 64) → nat_lt n (2 ^ 63) ≡ false
     above n h = grind (arith, nat_tests)
+
     never : (b : Bool) → None ≡ cond (b && false) (Some (Term.Number (pos (digits_value 10 w)))) None
     never true = refl
     never false = refl
@@ -98,6 +99,7 @@ read_more ts t piece rest text later cut is so = rejoined (terms_of (slice_split
   where
     whole : terms_of (slice_split is_plus rest) ≡ option_map (λ us. t ∷ us) (terms_of (slice_split is_plus later))
     whole = rw (cut.0, is) refl
+
     rejoined : (o : Option Formula) → terms_of (slice_split is_plus later) ≡ o → put_before (ts ++ t ∷ []) o ≡ put_before ts (terms_of (slice_split is_plus rest))
     rejoined None e = rw (whole, e) refl
     rejoined (Some us) e = rw (whole, e) (ap Some (append_assoc ts (t ∷ []) us))

@@ -43,39 +43,41 @@ pub one_more : (m : Map) (names new : BTreeSet (List ℕ)) (rest left : Entries)
 one_more m names new rest left k (InputItem v) is has adds so = record {
   only = λ q in_new. so.only q (sym (adds q) ∙ in_new);
   each = λ q rule_at. elim (so.each q rule_at) [
-      | inl in_old ↦ inl (adds q ∙ in_old)
-      | inr later ↦ inr (past q rule_at (rw is at later))
-    ];
+    | inl in_old ↦ inl (adds q ∙ in_old)
+    | inr later ↦ inr (past q rule_at (rw is at later))
+  ];
 }
   where
     past : (q : List ℕ) → HasRuleAt m q → is_some (cond (eq_by_cmp name_cmp q k) (Some (InputItem v)) (lookup (tree.is_at (name_cmp q)) left)) ≡ true → is_some (lookup (tree.is_at (name_cmp q)) left) ≡ true
     past q rule_at = elim (eq_by_cmp name_cmp q k) as (λ b. eq_by_cmp name_cmp q k ≡ b → is_some (cond b (Some (InputItem v)) (lookup (tree.is_at (name_cmp q)) left)) ≡ true → is_some (lookup (tree.is_at (name_cmp q)) left) ≡ true) [
-        | true ↦ λ tied here. let same : q ≡ k = tied_name q k tied in let r : tree.get name_cmp m k ≡ Some (RuleItem rule_at.0) = rw same at rule_at.1 in cc
-        | false ↦ λ apart there. there
-      ] refl
+      | true ↦ λ tied here. let same : q ≡ k = tied_name q k tied in let r : tree.get name_cmp m k ≡ Some (RuleItem rule_at.0) = rw same at rule_at.1 in cc
+      | false ↦ λ apart there. there
+    ] refl
 one_more m names new rest left k (RuleItem f) is has adds so = record {
   only = λ q in_new. now_in q in_new;
   each = λ q rule_at. elim (so.each q rule_at) [
-      | inl in_old ↦ inl (kept q in_old)
-      | inr later ↦ past q (rw is at later)
-    ];
+    | inl in_old ↦ inl (kept q in_old)
+    | inr later ↦ past q (rw is at later)
+  ];
 }
   where
     now_in : (q : List ℕ) → contains name_cmp new q ≡ true → HasRuleAt m q
     now_in q in_new = elim (eq_by_cmp name_cmp k q) as (λ b. eq_by_cmp name_cmp k q ≡ b → cond b true (contains name_cmp names q) ≡ true → HasRuleAt m q) [
-        | true ↦ λ tied here. let same : q ≡ k = sym (tied_name k q tied) in (f, rw same has)
-        | false ↦ λ apart there. so.only q there
-      ] refl (sym (adds q) ∙ in_new)
+      | true ↦ λ tied here. let same : q ≡ k = sym (tied_name k q tied) in (f, rw same has)
+      | false ↦ λ apart there. so.only q there
+    ] refl (sym (adds q) ∙ in_new)
+
     kept : (q : List ℕ) → contains name_cmp names q ≡ true → contains name_cmp new q ≡ true
     kept q in_old = adds q ∙ elim (eq_by_cmp name_cmp k q) as (λ b. cond b true (contains name_cmp names q) ≡ true) [
-        | true ↦ refl
-        | false ↦ in_old
-      ]
+      | true ↦ refl
+      | false ↦ in_old
+    ]
+
     past : (q : List ℕ) → is_some (cond (eq_by_cmp name_cmp q k) (Some (RuleItem f)) (lookup (tree.is_at (name_cmp q)) left)) ≡ true → (contains name_cmp new q ≡ true) ⊎ (is_some (lookup (tree.is_at (name_cmp q)) left) ≡ true)
     past q = elim (eq_by_cmp name_cmp q k) as (λ b. eq_by_cmp name_cmp q k ≡ b → is_some (cond b (Some (RuleItem f)) (lookup (tree.is_at (name_cmp q)) left)) ≡ true → (contains name_cmp new q ≡ true) ⊎ (is_some (lookup (tree.is_at (name_cmp q)) left) ≡ true)) [
-        | true ↦ λ tied here. inl (adds q ∙ ap (λ t. cond t true (contains name_cmp names q)) ((eq_by_cmp_equiv nat_list_cmp_total).symm k q ∙ tied))
-        | false ↦ λ apart there. inr there
-      ] refl
+      | true ↦ λ tied here. inl (adds q ∙ ap (λ t. cond t true (contains name_cmp names q)) ((eq_by_cmp_equiv nat_list_cmp_total).symm k q ∙ tied))
+      | false ↦ λ apart there. inr there
+    ] refl
 
 rule_found : (o : Option CodeItem) (e : _) → option_map item_view o ≡ Some (rule e) → (f : CodeFormula) × (o ≡ Some (RuleItem f))
 rule_found None e h = cc
@@ -86,6 +88,7 @@ pub at_last : (b : CodeBook) (names : BTreeSet (List ℕ)) → IsSoFar b.items n
 at_last b names so k = (
   (λ in_names. let has = so.only k in_names in (has.0.terms, content_found b k ∙ ap (option_map item_view) has.1)),
   (λ is_rule. elim (so.each k (rule_found (tree.get name_cmp b.items k) is_rule.0 (sym (content_found b k) ∙ is_rule.1))) [
-      | inl in_names ↦ in_names
-      | inr later ↦ cc
-    ]))
+    | inl in_names ↦ in_names
+    | inr later ↦ cc
+  ]),
+)

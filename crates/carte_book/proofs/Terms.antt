@@ -22,17 +22,17 @@ term_ends t (ref k) h = (h.0, rw h.1 refl)
 more_ends : (t : Truth) (v : Value) (xs : Formula) → AllKnown t xs → (w : Value) × (run t (asks_more v xs) ≡ Ok w)
 more_ends t v [] h = (v, refl)
 more_ends t v (x ∷ xs) h =
-  let first = term_ends t x h.0 in
-  let rest = more_ends t (plus v first.0) xs h.1 in
-  (rest.0, run_then_ok t (asks_term x) (λ w. asks_more (plus v w) xs) first.0 first.1 ∙ rest.1)
+    let first = term_ends t x h.0 in
+    let rest = more_ends t (plus v first.0) xs h.1 in
+    (rest.0, run_then_ok t (asks_term x) (λ w. asks_more (plus v w) xs) first.0 first.1 ∙ rest.1)
 
 -- a formula whose terms all have values has one
 pub ends : (t : Truth) (f : Formula) → AllKnown t f → (v : Value) × (eval t f ≡ Ok v)
 ends t [] h = (_, refl)
 ends t (x ∷ xs) h =
-  let first = term_ends t x h.0 in
-  let rest = more_ends t first.0 xs h.1 in
-  (rest.0, run_then_ok t (asks_term x) (λ v. asks_more v xs) first.0 first.1 ∙ rest.1)
+    let first = term_ends t x h.0 in
+    let rest = more_ends t first.0 xs h.1 in
+    (rest.0, run_then_ok t (asks_term x) (λ v. asks_more v xs) first.0 first.1 ∙ rest.1)
 
 stops_here : {B : Type 0} (t : Truth) (k : List ℕ) (f : Value → Asks B) → t k ≡ None → run t (and_then (asks_term (ref k)) f) ≡ Err k
 stops_here t k f none = rw none refl
@@ -41,16 +41,16 @@ more_stops : (t : Truth) (v : Value) (xs : Formula) (i : ℕ) (k : List ℕ) →
 more_stops t v [] i k is h none = cc
 more_stops t v (x ∷ xs) zero k is h none = let e : x ≡ ref k = cc in rw e (stops_here t k (λ w. asks_more (plus v w) xs) none)
 more_stops t v (x ∷ xs) (suc i) k is h none =
-  let first = term_ends t x h.0 in
-  run_then_ok t (asks_term x) (λ w. asks_more (plus v w) xs) first.0 first.1 ∙ more_stops t (plus v first.0) xs i k is h.1 none
+    let first = term_ends t x h.0 in
+    run_then_ok t (asks_term x) (λ w. asks_more (plus v w) xs) first.0 first.1 ∙ more_stops t (plus v first.0) xs i k is h.1 none
 
 -- it stops at the first name that has no value
 pub stops_at : (t : Truth) (f : Formula) (i : ℕ) (k : List ℕ) → slice_get f i ≡ Some (ref k) → AllKnown t (take i f) → t k ≡ None → eval t f ≡ Err k
 stops_at t [] i k is h none = cc
 stops_at t (x ∷ xs) zero k is h none = let e : x ≡ ref k = cc in rw e (stops_here t k (λ v. asks_more v xs) none)
 stops_at t (x ∷ xs) (suc i) k is h none =
-  let first = term_ends t x h.0 in
-  run_then_ok t (asks_term x) (λ v. asks_more v xs) first.0 first.1 ∙ more_stops t first.0 xs i k is h.1 none
+    let first = term_ends t x h.0 in
+    run_then_ok t (asks_term x) (λ v. asks_more v xs) first.0 first.1 ∙ more_stops t first.0 xs i k is h.1 none
 
 -- one term more
 pub known_more : (t : Truth) (f : Formula) (i : ℕ) (x : Term) → i < length f → x ≡ get_or f i x → AllKnown t (take i f) → IsKnown t x → AllKnown t (take (i + 1) f)
@@ -62,6 +62,7 @@ pub opens_at : (t : Truth) (f : Formula) (i : ℕ) (k : List ℕ) (x : Term) →
 opens_at t f i k x below is h named none = record {
   within = below;
   before = h;
+  here = get f i below (is ∙ refl) named;
   stops = stops_at t f i k (get f i below (is ∙ refl) named) h none;
 }
   where

@@ -1,5 +1,5 @@
 -- Terms whose values are there.
-use Rattle.std.specs.Prelude.{ℕ, ◌≡◌, ◌<◌, List, [], ◌∷◌, length, take, Some, Err}
+use Rattle.std.specs.Prelude.{ℕ, ◌≡◌, ◌<◌, List, [], ◌∷◌, length, take, slice_get, Some, Err}
 use Rattle.carte_value.specs.declared.value.Value.{Value}
 use Rattle.carte_value.specs.Truths.{Truth}
 use Rattle.carte_book.specs.declared.formula.Term.{Term}
@@ -19,4 +19,5 @@ AllKnown t (x ∷ xs) = IsKnown t x × AllKnown t xs
 pub record OpensAt (t : Truth) (f : Formula) (at : ℕ) (name : List ℕ) : Type 0 where
   pub within : at < length f
   pub before : AllKnown t (take at f)
+  pub here : slice_get f at ≡ Some (ref name)
   pub stops : eval t f ≡ Err name

@@ -9,25 +9,21 @@ ghost use Rattle.carte_book.specs.declared.reason.Reason.{Reason};
 
 pub fn clean_is_settled()
     ensures { (b : Book) → settled b (clean b) ≡ clean b }
-{
-}
+{}
 
 /// Targets have one reason for a refusal at most.
 #[tactic(auto, using(crate::proofs::Reasons::one_reason))]
 pub fn reason_is_unique()
     ensures { (b : Book) (targets : List (List ℕ)) (one other : Reason) → IsReason b targets one → IsReason b targets other → one ≡ other }
-{
-}
+{}
 
 /// Targets that all have clean values have no reason for a refusal.
 #[tactic(auto, using(crate::proofs::Reasons::no_reason))]
 pub fn clean_or_refused()
     ensures { (b : Book) (targets : List (List ℕ)) (reason : Reason) → IsReason b targets reason → AllClean b targets → ⊥ }
-{
-}
+{}
 
 /// Bytes are one book at most.
 pub fn book_is_unique()
     ensures { (bytes : List ℕ) (one other : Book) → book_of bytes ≡ Ok one → book_of bytes ≡ Ok other → one ≡ other }
-{
-}
+{}

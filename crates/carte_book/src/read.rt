@@ -13,6 +13,7 @@ use std::alloc::Global;
 use toml::Table;
 
 const MOST_BYTES: usize = 16777216;
+
 const MOST_KEYS: usize = 65536;
 
 /// Reads a rule file: a TOML document of at most 16,777,216 bytes, whose top keys are at most the tables

@@ -75,10 +75,10 @@ module _ (b : Book) (ts : List (List ℕ)) (done : Done) where
       at None is among = absurd among
       at (Some (input v)) is among = absurd among
       at (Some (rule e)) is among =
-        let f = finished j known.0 (sym (part_rule b done j e is) ∙ known.1) in
-        let same : f.formula ≡ e = let h = f.is_rule in cc in
-        let asked_there : Among (asked (clean b) (asks f.formula)) k = rw same (among_firsts (asked (clean b) (asks e)) k among) in
-        asked_known (part b done) (asks f.formula) known.0 k f.ends (rw (asked_kept (part b done) (clean b) (asks f.formula) known.0 more f.ends) at asked_there)
+          let f = finished j known.0 (sym (part_rule b done j e is) ∙ known.1) in
+          let same : f.formula ≡ e = let h = f.is_rule in cc in
+          let asked_there : Among (asked (clean b) (asks f.formula)) k = rw same (among_firsts (asked (clean b) (asks e)) k among) in
+          asked_known (part b done) (asks f.formula) known.0 k f.ends (rw (asked_kept (part b done) (clean b) (asks f.formula) known.0 more f.ends) at asked_there)
 
   reached_known : Finishes → Extends (part b done) (clean b) → ((k : List ℕ) → Among ts k → IsKnownAt b done k) → (k : List ℕ) → Reaches b ts k → IsKnownAt b done k
   reached_known finished more known k (target among) = known k among
@@ -87,9 +87,9 @@ module _ (b : Book) (ts : List (List ℕ)) (done : Done) where
 keys_found : (es : List (List ℕ × Value)) (k : List ℕ) → Among (keys_of es) k → (v : Value) × (lookup (is_at (name_cmp k)) es ≡ Some v)
 keys_found [] k among = absurd among
 keys_found (e ∷ es) k among = elim among [
-    | inl same ↦ let tied : eq_by_cmp name_cmp k e.0 ≡ true = rw same (tied_itself e.0) in (e.1, ap (λ b. cond b (Some e.1) (lookup (is_at (name_cmp k)) es)) tied)
-    | inr later ↦ either (eq_by_cmp name_cmp k e.0) (keys_found es k later)
-  ]
+  | inl same ↦ let tied : eq_by_cmp name_cmp k e.0 ≡ true = rw same (tied_itself e.0) in (e.1, ap (λ b. cond b (Some e.1) (lookup (is_at (name_cmp k)) es)) tied)
+  | inr later ↦ either (eq_by_cmp name_cmp k e.0) (keys_found es k later)
+]
   where
     either : (b : Bool) → (v : Value) × (lookup (is_at (name_cmp k)) es ≡ Some v) → (v : Value) × (cond b (Some e.1) (lookup (is_at (name_cmp k)) es) ≡ Some v)
     either true h = (e.1, refl)
@@ -98,9 +98,9 @@ keys_found (e ∷ es) k among = elim among [
 found_keys : (es : List (List ℕ × Value)) (k : List ℕ) (v : Value) → lookup (is_at (name_cmp k)) es ≡ Some v → Among (keys_of es) k
 found_keys [] k v h = cc
 found_keys (e ∷ es) k v h = elim (eq_by_cmp name_cmp k e.0) as (λ b. eq_by_cmp name_cmp k e.0 ≡ b → cond b (Some e.1) (lookup (is_at (name_cmp k)) es) ≡ Some v → (k ≡ e.0) ⊎ Among (keys_of es) k) [
-    | true ↦ λ tied here. inl (tied_name k e.0 tied)
-    | false ↦ λ apart later. inr (found_keys es k v later)
-  ] refl h
+  | true ↦ λ tied here. inl (tied_name k e.0 tied)
+  | false ↦ λ apart later. inr (found_keys es k v later)
+] refl h
 
 known_all : (b : Book) (ts : List (List ℕ)) (done : Done) (n : ℕ) → length ts ≤ n → ((k : List ℕ) → Among (take n ts) k → IsKnownAt b done k) → (k : List ℕ) → Among ts k → IsKnownAt b done k
 known_all b ts done n long known k among = known k (rw (take_all n ts long) among)
@@ -112,19 +112,21 @@ at_end b ts fresh path done n long between known ordered = record {
   ran = record {
     rising = ordered;
     only = λ k among.
-      let found = keys_found done.entries k among in
-      let f = w.finished k found.0 found.1 in
-      ((f.formula, f.is_rule), f.reached);
+        let found = keys_found done.entries k among in
+        let f = w.finished k found.0 found.1 in
+        ((f.formula, f.is_rule), f.reached);
     each = λ k reached.
-      let value = reached_known b ts done w.finished more all k reached.1 in
-      found_keys done.entries k value.0 (sym (part_rule b done k reached.0.0 reached.0.1) ∙ value.1);
+        let value = reached_known b ts done w.finished more all k reached.1 in
+        found_keys done.entries k value.0 (sym (part_rule b done k reached.0.0 reached.0.1) ∙ value.1);
   };
 }
   where
     w : IsWalk b ts [] fresh [] done
     w = between.walk []
+
     more : Extends (part b done) (clean b)
     more = walk_clean b ts [] fresh [] done w
+
     all : (k : List ℕ) → Among ts k → IsKnownAt b done k
     all = known_all b ts done n long known
 
@@ -139,9 +141,9 @@ earlier_clean b done ks more known k among = let h = known k among in (h.0, more
 
 pub reason_found : (b : Book) (ts : List (List ℕ)) (fresh : Fresh) (path : Path) (done : Done) (i : ℕ) (goal : List ℕ) (reason : Reason) → slice_get ts i ≡ Some goal → IsBetween b ts fresh path done → ((k : List ℕ) → Among (take i ts) k → IsKnownAt b done k) → IsPathFrom b goal reason → IsReason b ts reason
 reason_found b ts fresh path done i goal (Cycle names) at between known is_path =
-  ((rw is_path.1 (begins_at b ts i goal is_path.0 at (earlier_clean b done (take i ts) (walk_clean b ts goal fresh [] done (between.walk goal)) known) is_path.2)), is_path.3)
+    ((rw is_path.1 (begins_at b ts i goal is_path.0 at (earlier_clean b done (take i ts) (walk_clean b ts goal fresh [] done (between.walk goal)) known) is_path.2)), is_path.3)
 reason_found b ts fresh path done i goal (Missing names) at between known is_path =
-  ((rw is_path.1 (begins_at b ts i goal is_path.0 at (earlier_clean b done (take i ts) (walk_clean b ts goal fresh [] done (between.walk goal)) known) is_path.2)), is_path.3)
+    ((rw is_path.1 (begins_at b ts i goal is_path.0 at (earlier_clean b done (take i ts) (walk_clean b ts goal fresh [] done (between.walk goal)) known) is_path.2)), is_path.3)
 
 pub builds_refused : (b : Book) (ts : List (List ℕ)) (fresh fresh' : Fresh) (path path' : Path) (done done' : Done) (i : ℕ) (goal : List ℕ) (fault : BuildFault) → slice_get ts i ≡ Some goal → IsBetween b ts fresh path done → ((k : List ℕ) → Among (take i ts) k → IsKnownAt b done k) → Reaching b ts goal fresh' path' done done' (Err fault) → Builds b ts (Err fault)
 builds_refused b ts fresh fresh' path path' done done' i goal NoMemory at between known reaching = tt
@@ -150,26 +152,26 @@ builds_refused b ts fresh fresh' path path' done done' i goal (Refused reason) a
 take_more_among : (ts : List (List ℕ)) (i : ℕ) (goal k : List ℕ) → slice_get ts i ≡ Some goal → Among (take (suc i) ts) k → Among (take i ts) k ⊎ (k ≡ goal)
 take_more_among [] i goal k at among = cc
 take_more_among (t ∷ ts) zero goal k at among = elim among [
-    | inl same ↦ inr (let e : t ≡ goal = cc in same ∙ e)
-    | inr later ↦ absurd (none ts later)
-  ]
+  | inl same ↦ inr (let e : t ≡ goal = cc in same ∙ e)
+  | inr later ↦ absurd (none ts later)
+]
   where
     none : (ts : List (List ℕ)) → Among (take 0 ts) k → ⊥
     none [] h = h
     none (t ∷ ts) h = h
 take_more_among (t ∷ ts) (suc i) goal k at among = elim among [
-    | inl same ↦ inl (inl same)
-    | inr later ↦ elim (take_more_among ts i goal k at later) [
-        | inl before ↦ inl (inr before)
-        | inr here ↦ inr here
-      ]
+  | inl same ↦ inl (inl same)
+  | inr later ↦ elim (take_more_among ts i goal k at later) [
+    | inl before ↦ inl (inr before)
+    | inr here ↦ inr here
   ]
+]
 
 pub known_more_targets : (b : Book) (ts : List (List ℕ)) (fresh' : Fresh) (path' : Path) (done done' : Done) (i : ℕ) (goal : List ℕ) → slice_get ts i ≡ Some goal → ((k : List ℕ) → Among (take i ts) k → IsKnownAt b done k) → Reached b ts goal fresh' path' done done' → (k : List ℕ) → Among (take (i + 1) ts) k → IsKnownAt b done' k
 known_more_targets b ts fresh' path' done done' i goal at known reached k among = elim (take_more_among ts i goal k at (rw add-one at among)) [
-    | inl before ↦ let h = known k before in (h.0, reached.more k h.0 h.1)
-    | inr here ↦ rw here reached.known
-  ]
+  | inl before ↦ let h = known k before in (h.0, reached.more k h.0 h.1)
+  | inr here ↦ rw here reached.known
+]
 
 pub none_before : (b : Book) (ts : List (List ℕ)) (done : Done) (k : List ℕ) → Among (take 0 ts) k → IsKnownAt b done k
 none_before b [] done k among = absurd among

@@ -40,10 +40,10 @@ module _ (words : List (List ℕ)) (s : OverSource) (k : OverSink) where
   due_comes Done (BookRefused f) ran is = let held = ran.2 is.2.0 in let e = held.1 in let g = is.2.1 in cc
   due_comes Done (Usage f) ran is = let e = ran.1 in cc
   due_comes Done (BuildRefused r) ran is =
-    let held = ran.2 is.2.0 in
-    let ts = same_targets words ran.0 is.0 ran.1 is.1 in
-    let b = same_book s.left held.0 is.2.1 held.1 is.2.2 in
-    absurd (no_reason is.2.1 is.0 r is.2.3 (rw (b, ts) at held.2.0))
+      let held = ran.2 is.2.0 in
+      let ts = same_targets words ran.0 is.0 ran.1 is.1 in
+      let b = same_book s.left held.0 is.2.1 held.1 is.2.2 in
+      absurd (no_reason is.2.1 is.0 r is.2.3 (rw (b, ts) at held.2.0))
   due_comes (BookRefused f) Done ran is = let e = refusal s f is.2.0 ran.2.0 in let g = is.2.2 in cc
   due_comes (BookRefused f) (BookRefused g) ran is = let e = refusal s f is.2.0 ran.2.0 in let d = is.2.1 in inl (let same : f ≡ g = cc in ap BookRefused same)
   due_comes (BookRefused f) (Usage g) ran is = let e = ran.1 in cc
@@ -53,17 +53,17 @@ module _ (words : List (List ℕ)) (s : OverSource) (k : OverSink) where
   due_comes (Usage f) (Usage g) ran is = let e = ran.0 in inl (let same : f ≡ g = cc in ap Usage same)
   due_comes (Usage f) (BuildRefused r) ran is = let e = ran.0 in let g = is.1 in cc
   due_comes (BuildRefused r) Done ran is =
-    let held = ran.2.0 is.2.0 in
-    let ts = same_targets words is.0 ran.0 is.1 ran.1 in
-    let b = same_book s.left is.2.1 held.0 is.2.2 held.1 in
-    absurd (no_reason held.0 ran.0 r held.2 (rw (b, ts) at is.2.3))
+      let held = ran.2.0 is.2.0 in
+      let ts = same_targets words is.0 ran.0 is.1 ran.1 in
+      let b = same_book s.left is.2.1 held.0 is.2.2 held.1 in
+      absurd (no_reason held.0 ran.0 r held.2 (rw (b, ts) at is.2.3))
   due_comes (BuildRefused r) (BookRefused f) ran is = let held = ran.2.0 is.2.0 in let e = held.1 in let g = is.2.1 in cc
   due_comes (BuildRefused r) (Usage f) ran is = let e = ran.1 in cc
   due_comes (BuildRefused r) (BuildRefused q) ran is =
-    let held = ran.2.0 is.2.0 in
-    let ts = same_targets words is.0 ran.0 is.1 ran.1 in
-    let b = same_book s.left is.2.1 held.0 is.2.2 held.1 in
-    inl (ap BuildRefused (one_reason held.0 ran.0 r q held.2 (rw (b, ts) at is.2.3)))
+      let held = ran.2.0 is.2.0 in
+      let ts = same_targets words is.0 ran.0 is.1 ran.1 in
+      let b = same_book s.left is.2.1 held.0 is.2.2 held.1 in
+      inl (ap BuildRefused (one_reason held.0 ran.0 r q held.2 (rw (b, ts) at is.2.3)))
 
 pub outcome : (a : Around) (old new : Status) → Ran a.words a.book a.out old → Reports old new → Ended a.err new → IsOutcome a new
 outcome a old new ran reports ended = record {

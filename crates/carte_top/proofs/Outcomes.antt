@@ -23,9 +23,9 @@ use Rattle.carte_top.specs.Running.{Prints, Answers, Reports}
 lines_same : (b : Book) (done : DoneMap) (ts : List (List ℕ)) → Extends (part b done) (clean b) → ((k : List ℕ) → Among ts k → IsKnownAt b done k) → target_lines (part b done) ts ≡ target_lines (clean b) ts
 lines_same b done [] more known = refl
 lines_same b done (k ∷ ks) more known =
-  let here = known k (inl refl) in
-  let there : clean b k ≡ Some here.0 = more k here.0 here.1 in
-  rw (here.1, there, lines_same b done ks more (λ j among. known j (inr among))) refl
+    let here = known k (inl refl) in
+    let there : clean b k ≡ Some here.0 = more k here.0 here.1 in
+    rw (here.1, there, lines_same b done ks more (λ j among. known j (inr among))) refl
 
 all_clean : (b : Book) (done : DoneMap) (ts : List (List ℕ)) → Extends (part b done) (clean b) → ((k : List ℕ) → Among ts k → IsKnownAt b done k) → AllClean b ts
 all_clean b done [] more known = tt

@@ -43,29 +43,29 @@ put_here done done' k v puts = puts k ∙ ap (λ b. cond b (Some v) (get name_cm
 
 pub put_elsewhere : (done done' : Done) (k : List ℕ) (v : Value) (q : List ℕ) → Puts done done' k v → ¬ (q ≡ k) → get name_cmp done' q ≡ get name_cmp done q
 put_elsewhere done done' k v q puts apart = puts q ∙ elim (eq_by_cmp name_cmp k q) as (λ b. eq_by_cmp name_cmp k q ≡ b → cond b (Some v) (get name_cmp done q) ≡ get name_cmp done q) [
-    | true ↦ λ tied. absurd (apart (sym (tied_name k q tied)))
-    | false ↦ λ e. refl
-  ] refl
+  | true ↦ λ tied. absurd (apart (sym (tied_name k q tied)))
+  | false ↦ λ e. refl
+] refl
 
 -- a name is the one that was put, or another
 pub same_or_not : (k q : List ℕ) → (q ≡ k) ⊎ (¬ (q ≡ k))
 same_or_not k q = elim (eq_by_cmp name_cmp k q) as (λ b. eq_by_cmp name_cmp k q ≡ b → (q ≡ k) ⊎ (¬ (q ≡ k))) [
-    | true ↦ λ tied. inl (sym (tied_name k q tied))
-    | false ↦ λ e. inr (λ same. let tied : eq_by_cmp name_cmp k k ≡ true = tied_itself k in let other : eq_by_cmp name_cmp k k ≡ false = rw same at e in cc)
-  ] refl
+  | true ↦ λ tied. inl (sym (tied_name k q tied))
+  | false ↦ λ e. inr (λ same. let tied : eq_by_cmp name_cmp k k ≡ true = tied_itself k in let other : eq_by_cmp name_cmp k k ≡ false = rw same at e in cc)
+] refl
 
 pub taken_here : (fresh fresh' : Fresh) (k : List ℕ) → Takes fresh fresh' k → contains name_cmp fresh' k ≡ false
 taken_here fresh fresh' k takes = takes k ∙ ap (λ b. cond b false (contains name_cmp fresh k)) (tied_itself k)
 
 pub taken_elsewhere : (fresh fresh' : Fresh) (k q : List ℕ) → Takes fresh fresh' k → ¬ (q ≡ k) → contains name_cmp fresh' q ≡ contains name_cmp fresh q
 taken_elsewhere fresh fresh' k q takes apart = takes q ∙ elim (eq_by_cmp name_cmp k q) as (λ b. eq_by_cmp name_cmp k q ≡ b → cond b false (contains name_cmp fresh q) ≡ contains name_cmp fresh q) [
-    | true ↦ λ tied. absurd (apart (sym (tied_name k q tied)))
-    | false ↦ λ e. refl
-  ] refl
+  | true ↦ λ tied. absurd (apart (sym (tied_name k q tied)))
+  | false ↦ λ e. refl
+] refl
 
 -- what is fresh still was fresh before, and is another name
 pub still_fresh : (fresh fresh' : Fresh) (k q : List ℕ) → Takes fresh fresh' k → contains name_cmp fresh' q ≡ true → (¬ (q ≡ k)) × (contains name_cmp fresh q ≡ true)
 still_fresh fresh fresh' k q takes has = elim (same_or_not k q) [
-    | inl same ↦ absurd (let here : contains name_cmp fresh' k ≡ false = taken_here fresh fresh' k takes in let there : contains name_cmp fresh' k ≡ true = rw same at has in cc)
-    | inr other ↦ (other, sym (taken_elsewhere fresh fresh' k q takes other) ∙ has)
-  ]
+  | inl same ↦ absurd (let here : contains name_cmp fresh' k ≡ false = taken_here fresh fresh' k takes in let there : contains name_cmp fresh' k ≡ true = rw same at has in cc)
+  | inr other ↦ (other, sym (taken_elsewhere fresh fresh' k q takes other) ∙ has)
+]

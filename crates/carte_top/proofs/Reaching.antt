@@ -48,11 +48,11 @@ known_already b ts goal read fresh path done r between same is found = record {
 pub first_refused : (b : Book) (ts : List (List ℕ)) (goal read : List ℕ) (fresh fresh' : Fresh) (path path' : Path) (done done' : Done) (fault : BuildFault) → IsBetween b ts fresh path done → read ≡ goal → part b done read ≡ None → Enters b fresh fresh' path path' read (Err fault) → Reaching b ts goal fresh' path' done done' (Err fault)
 first_refused b ts goal read fresh fresh' path path' done done' NoMemory between same none enters = tt
 first_refused b ts goal read fresh fresh' path path' done done' (Refused reason) between same none enters =
-  refused_first b ts goal fresh done reason (between.walk goal) (rw (← same) none) (rw (between.empty, same) at enters)
+    refused_first b ts goal fresh done reason (between.walk goal) (rw (← same) none) (rw (between.empty, same) at enters)
 
 pub first_turning : (b : Book) (ts : List (List ℕ)) (goal read : List ℕ) (i : ℕ) (fresh fresh' : Fresh) (path path' : Path) (done done' : Done) → slice_get ts i ≡ Some goal → IsBetween b ts fresh path done → read ≡ goal → Entered b fresh fresh' path path' read → done' ≡ done → IsTurning b ts goal fresh' path' done done'
 first_turning b ts goal read i fresh fresh' path path' done done' at between same e kept =
-  rw kept (first_entered b ts goal fresh fresh' path' done (goal_among ts i goal at) (between.walk goal) (rw (between.empty, same) at e))
+    rw kept (first_entered b ts goal fresh fresh' path' done (goal_among ts i goal at) (between.walk goal) (rw (between.empty, same) at e))
 
 stands_first : (b : Book) (t : Truth) (f : Frame) (rest : Path) → Linked b t (f ∷ rest) → Stands b t f
 stands_first b t f [] linked = linked
@@ -64,8 +64,8 @@ newest_stands b ts goal fresh path rest start done f is t = stands_first b (part
 pub later_refused : (b : Book) (ts : List (List ℕ)) (goal : List ℕ) (fresh fresh' : Fresh) (path rest path' : Path) (start done done' : Done) (f : Frame) (fault : BuildFault) → path ≡ f ∷ rest → IsTurning b ts goal fresh path start done → Turns b fresh fresh' rest path' done done' f (Err fault) → Reaching b ts goal fresh' path' start done' (Err fault)
 later_refused b ts goal fresh fresh' path rest path' start done done' f NoMemory is t turns = tt
 later_refused b ts goal fresh fresh' path rest path' start done done' f (Refused reason) is t turns =
-  refused_later b ts goal fresh rest done f turns.0 turns.1 reason (rw is at t.walk) turns.2 turns.3
+    refused_later b ts goal fresh rest done f turns.0 turns.1 reason (rw is at t.walk) turns.2 turns.3
 
 pub later_turning : (b : Book) (ts : List (List ℕ)) (goal : List ℕ) (fresh fresh' : Fresh) (path rest path' : Path) (start done done' : Done) (f : Frame) → path ≡ f ∷ rest → IsTurning b ts goal fresh path start done → Turned b fresh fresh' rest path' done done' f → IsTurning b ts goal fresh' path' start done'
 later_turning b ts goal fresh fresh' path rest path' start done done' f is t turns =
-  turned b ts goal fresh fresh' rest path' start done done' f (rw is at t) turns
+    turned b ts goal fresh fresh' rest path' start done done' f (rw is at t) turns

@@ -48,6 +48,7 @@ turned b ts goal fresh fresh' rest path' start done done' f t (inl fin) = record
   where
     value_here : part b done' f.name ≡ Some fin.0.value
     value_here = part_rule b done' f.name fin.0.formula fin.0.is_rule ∙ put_here done done' f.name fin.0.value fin.0.puts
+
     at_end : (r : Path) → r ≡ [] → EndsWith goal (f.name ∷ names r) → IsKnownAt b done' goal
     at_end [] is from = (fin.0.value, rw (← from) value_here)
     at_end (g ∷ gs) is from = cc

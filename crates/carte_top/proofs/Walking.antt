@@ -37,7 +37,6 @@ module _ (b : Book) (ts : List (List ℕ)) (target : List ℕ) where
   NewestStops t (f ∷ rest) k = StopsAt b t f.name k
 
   linked_more : (t : Truth) (path : Path) (k : List ℕ) → IsRule b k → NewestStops t path k → Linked b t path → Linked b t (record { name = k; at = 0 } ∷ path)
-
   linked_more t [] k is_rule stops linked = record { formula = is_rule.0; is_rule = is_rule.1; within = omega arith; before = none_taken is_rule.0 t }
   linked_more t (f ∷ rest) k is_rule stops linked = (record { formula = is_rule.0; is_rule = is_rule.1; within = omega arith; before = none_taken is_rule.0 t }, stops, linked)
 
@@ -46,30 +45,30 @@ module _ (b : Book) (ts : List (List ℕ)) (target : List ℕ) where
     finished = w.finished;
     fresh_rule = λ q h. w.fresh_rule q (still_fresh fresh fresh' k q e.takes h).1;
     fresh_apart = λ q h among. elim among [
-        | inl same ↦ (still_fresh fresh fresh' k q e.takes h).0 same
-        | inr later ↦ w.fresh_apart q (still_fresh fresh fresh' k q e.takes h).1 later
-      ];
+      | inl same ↦ (still_fresh fresh fresh' k q e.takes h).0 same
+      | inr later ↦ w.fresh_apart q (still_fresh fresh fresh' k q e.takes h).1 later
+    ];
     fresh_open = λ q h. w.fresh_open q (still_fresh fresh fresh' k q e.takes h).1;
     whole = λ q is_rule. elim (w.whole q is_rule) [
-        | inl is_fresh ↦ elim (same_or_not k q) [
-            | inl same ↦ inr (inl (inl same))
-            | inr other ↦ inl (taken_elsewhere fresh fresh' k q e.takes other ∙ is_fresh)
-          ]
-        | inr other ↦ elim other [
-            | inl among ↦ inr (inl (inr among))
-            | inr is_done ↦ inr (inr is_done)
-          ]
-      ];
+      | inl is_fresh ↦ elim (same_or_not k q) [
+        | inl same ↦ inr (inl (inl same))
+        | inr other ↦ inl (taken_elsewhere fresh fresh' k q e.takes other ∙ is_fresh)
+      ]
+      | inr other ↦ elim other [
+        | inl among ↦ inr (inl (inr among))
+        | inr is_done ↦ inr (inr is_done)
+      ]
+    ];
     linked = linked_more (part b done) path k e.is_rule stops w.linked;
     once = (w.fresh_apart k e.was_fresh, w.once);
     path_open = λ q among. elim among [
-        | inl same ↦ rw same (w.fresh_open k e.was_fresh)
-        | inr later ↦ w.path_open q later
-      ];
+      | inl same ↦ rw same (w.fresh_open k e.was_fresh)
+      | inr later ↦ w.path_open q later
+    ];
     path_reached = λ q among. elim among [
-        | inl same ↦ rw same reached
-        | inr later ↦ w.path_reached q later
-      ];
+      | inl same ↦ rw same reached
+      | inr later ↦ w.path_reached q later
+    ];
     from = ends;
   })
 
@@ -113,29 +112,29 @@ module _ (b : Book) (ts : List (List ℕ)) (target : List ℕ) where
 
   pub values_kept : (fresh : Fresh) (rest : Path) (done done' : Done) (f : Frame) → IsWalk b ts target fresh (f ∷ rest) done → Finishes b done done' f → (k : List ℕ) (v : Value) → get name_cmp done k ≡ Some v → get name_cmp done' k ≡ Some v
   values_kept fresh rest done done' f w fin k v h = elim (same_or_not f.name k) [
-      | inl same ↦ let none : get name_cmp done k ≡ None = rw same (w.path_open f.name (inl refl)) in cc
-      | inr other ↦ put_elsewhere done done' f.name fin.value k fin.puts other ∙ h
-    ]
+    | inl same ↦ let none : get name_cmp done k ≡ None = rw same (w.path_open f.name (inl refl)) in cc
+    | inr other ↦ put_elsewhere done done' f.name fin.value k fin.puts other ∙ h
+  ]
 
   pub finishing : (fresh : Fresh) (rest : Path) (done done' : Done) (f : Frame) → IsWalk b ts target fresh (f ∷ rest) done → Finishes b done done' f → IsWalk b ts target fresh rest done'
   finishing fresh rest done done' f w fin = record {
     finished = λ k v h. elim (same_or_not f.name k) [
-        | inl same ↦ subst (λ (q : List ℕ). Finished b ts done' q v) (sym same) (the_new v (let here : get name_cmp done' f.name ≡ Some v = rw (← same) h in here))
-        | inr other ↦ the_old k v (sym (put_elsewhere done done' f.name fin.value k fin.puts other) ∙ h)
-      ];
+      | inl same ↦ subst (λ (q : List ℕ). Finished b ts done' q v) (sym same) (the_new v (let here : get name_cmp done' f.name ≡ Some v = rw (← same) h in here))
+      | inr other ↦ the_old k v (sym (put_elsewhere done done' f.name fin.value k fin.puts other) ∙ h)
+    ];
     fresh_rule = w.fresh_rule;
     fresh_apart = λ k h among. w.fresh_apart k h (inr among);
     fresh_open = λ k h. put_elsewhere done done' f.name fin.value k fin.puts (λ same. w.fresh_apart k h (inl same)) ∙ w.fresh_open k h;
     whole = λ k is_rule. elim (w.whole k is_rule) [
-        | inl is_fresh ↦ inl is_fresh
-        | inr other ↦ elim other [
-            | inl among ↦ elim among [
-                | inl same ↦ inr (inr (fin.value, rw same (put_here done done' f.name fin.value fin.puts)))
-                | inr later ↦ inr (inl later)
-              ]
-            | inr is_done ↦ inr (inr (is_done.0, kept k is_done.0 is_done.1))
-          ]
-      ];
+      | inl is_fresh ↦ inl is_fresh
+      | inr other ↦ elim other [
+        | inl among ↦ elim among [
+          | inl same ↦ inr (inr (fin.value, rw same (put_here done done' f.name fin.value fin.puts)))
+          | inr later ↦ inr (inl later)
+        ]
+        | inr is_done ↦ inr (inr (is_done.0, kept k is_done.0 is_done.1))
+      ]
+    ];
     linked = linked_kept (part b done) (part b done') rest more same_on_path (rest_linked (part b done) f rest w.linked);
     once = w.once.1;
     path_open = λ k among. put_elsewhere done done' f.name fin.value k fin.puts (apart k among) ∙ w.path_open k (inr among);
@@ -145,23 +144,28 @@ module _ (b : Book) (ts : List (List ℕ)) (target : List ℕ) where
     where
       kept : (k : List ℕ) (v : Value) → get name_cmp done k ≡ Some v → get name_cmp done' k ≡ Some v
       kept = values_kept fresh rest done done' f w fin
+
       more : Extends (part b done) (part b done')
       more = part_more b done done' kept
+
       apart : (k : List ℕ) → Among (names rest) k → ¬ (k ≡ f.name)
       apart k among same = w.once.0 (rw same at among)
+
       same_on_path : (k : List ℕ) → Among (names rest) k → part b done' k ≡ part b done k
       same_on_path k among = ap (λ o. part_at (content b k) o) (put_elsewhere done done' f.name fin.value k fin.puts (apart k among))
+
       the_old : (k : List ℕ) (v : Value) → get name_cmp done k ≡ Some v → Finished b ts done' k v
       the_old k v h = let o = w.finished k v h in record { formula = o.formula; is_rule = o.is_rule; ends = eval_kept (part b done) (part b done') o.formula v more o.ends; is_clean = o.is_clean; reached = o.reached }
+
       the_new : (v : Value) → get name_cmp done' f.name ≡ Some v → Finished b ts done' f.name v
       the_new v h =
-        let here = put_here done done' f.name fin.value fin.puts in
-        let same : fin.value ≡ v = cc in
-        let ends : eval (part b done) fin.formula ≡ Ok v = cc (fin.ends) in
-        record {
-          formula = fin.formula;
-          is_rule = fin.is_rule;
-          ends = eval_kept (part b done) (part b done') fin.formula v more ends;
-          is_clean = clean_rule b f.name fin.formula fin.is_rule ∙ ap result_ok (eval_kept (part b done) (clean b) fin.formula v (walk_clean fresh (f ∷ rest) done w) ends);
-          reached = w.path_reached f.name (inl refl);
-        }
+          let here = put_here done done' f.name fin.value fin.puts in
+          let same : fin.value ≡ v = cc in
+          let ends : eval (part b done) fin.formula ≡ Ok v = cc (fin.ends) in
+          record {
+            formula = fin.formula;
+            is_rule = fin.is_rule;
+            ends = eval_kept (part b done) (part b done') fin.formula v more ends;
+            is_clean = clean_rule b f.name fin.formula fin.is_rule ∙ ap result_ok (eval_kept (part b done) (clean b) fin.formula v (walk_clean fresh (f ∷ rest) done w) ends);
+            reached = w.path_reached f.name (inl refl);
+          }

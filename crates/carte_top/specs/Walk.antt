@@ -81,7 +81,7 @@ pub record Stops (b : Book) (done : Done) (f : Frame) (at : ℕ) (k : List ℕ) 
 abbrev pub Turned : Book → Fresh → Fresh → Path → Path → Done → Done → Frame → Type 0
 Turned b fresh fresh' rest path' done done' f =
     (Finishes b done done' f × (path' ≡ rest) × (fresh' ≡ fresh))
-  ⊎ ((at : ℕ) × (k : List ℕ) × Stops b done f at k × Entered b fresh fresh' (record { name = f.name; at = at } ∷ rest) path' k × (done' ≡ done))
+    ⊎ ((at : ℕ) × (k : List ℕ) × Stops b done f at k × Entered b fresh fresh' (record { name = f.name; at = at } ∷ rest) path' k × (done' ≡ done))
 
 abbrev pub Turns : Book → Fresh → Fresh → Path → Path → Done → Done → Frame → Result (Unit {0}) BuildFault → Type 0
 Turns b fresh fresh' rest path' done done' f (Ok u) = Turned b fresh fresh' rest path' done done' f

@@ -54,9 +54,11 @@ fn shows(rt: &impl Abort, alloc: Global, cases: &[(&str, &str, &str)]) -> Result
 
 const SUMS: &str = "[inputs]\na = 10\nb = 20\n[rules]\nsum = \"a + b\"\ntotal = \"sum + sum\"\n";
 
-const EDGES: &str = "[inputs]\nm = -1\nlow = -9223372036854775808\n[rules]\nn = \"7\"\nover = \"9223372036854775807 + 1\"\nback = \"9223372036854775807 + 1 + m\"\nfits = \"m + 9223372036854775807 + 1\"\nunder = \"low + m\"\nbad = \"n + over\"\nblanks = \"\\t n\\n+\\r7 + n \"\n";
+const EDGES: &str =
+    "[inputs]\nm = -1\nlow = -9223372036854775808\n[rules]\nn = \"7\"\nover = \"9223372036854775807 + 1\"\nback = \"9223372036854775807 + 1 + m\"\nfits = \"m + 9223372036854775807 + 1\"\nunder = \"low + m\"\nbad = \"n + over\"\nblanks = \"\\t n\\n+\\r7 + n \"\n";
 
-const LOOPS: &str = "[inputs]\nx = 5\n[rules]\nt = \"t + 1\"\na = \"b + 1\"\nb = \"c\"\nc = \"d\"\nd = \"e\"\ne = \"c\"\nu = \"x + t + a\"\ngone = \"x + y\"\n";
+const LOOPS: &str =
+    "[inputs]\nx = 5\n[rules]\nt = \"t + 1\"\na = \"b + 1\"\nb = \"c\"\nc = \"d\"\nd = \"e\"\ne = \"c\"\nu = \"x + t + a\"\ngone = \"x + y\"\n";
 
 /// Values and counts by hand.
 #[test]
@@ -65,15 +67,51 @@ fn builds_are_answered(rt: HostRuntime) -> Result<(), Fail> {
         &rt,
         rt.alloc(),
         &[
-            ("build b s total", SUMS, "0\ntotal = 60\nran 2, given up 0, reused 0\n"),
-            ("build b s sum", SUMS, "0\nsum = 30\nran 1, given up 0, reused 0\n"),
-            ("build b s a total a", SUMS, "0\na = 10\ntotal = 60\na = 10\nran 2, given up 0, reused 0\n"),
-            ("build b s n", EDGES, "0\nn = 7\nran 1, given up 0, reused 0\n"),
-            ("build b s over back", EDGES, "0\nover = #NUM!\nback = #NUM!\nran 2, given up 0, reused 0\n"),
-            ("build b s fits under", EDGES, "0\nfits = 9223372036854775807\nunder = #NUM!\nran 2, given up 0, reused 0\n"),
-            ("build b s bad", EDGES, "0\nbad = #NUM!\nran 3, given up 0, reused 0\n"),
-            ("build b s blanks", EDGES, "0\nblanks = 21\nran 2, given up 0, reused 0\n"),
-            ("build b s x x", LOOPS, "0\nx = 5\nx = 5\nran 0, given up 0, reused 0\n"),
+            (
+                "build b s total",
+                SUMS,
+                "0\ntotal = 60\nran 2, given up 0, reused 0\n",
+            ),
+            (
+                "build b s sum",
+                SUMS,
+                "0\nsum = 30\nran 1, given up 0, reused 0\n",
+            ),
+            (
+                "build b s a total a",
+                SUMS,
+                "0\na = 10\ntotal = 60\na = 10\nran 2, given up 0, reused 0\n",
+            ),
+            (
+                "build b s n",
+                EDGES,
+                "0\nn = 7\nran 1, given up 0, reused 0\n",
+            ),
+            (
+                "build b s over back",
+                EDGES,
+                "0\nover = #NUM!\nback = #NUM!\nran 2, given up 0, reused 0\n",
+            ),
+            (
+                "build b s fits under",
+                EDGES,
+                "0\nfits = 9223372036854775807\nunder = #NUM!\nran 2, given up 0, reused 0\n",
+            ),
+            (
+                "build b s bad",
+                EDGES,
+                "0\nbad = #NUM!\nran 3, given up 0, reused 0\n",
+            ),
+            (
+                "build b s blanks",
+                EDGES,
+                "0\nblanks = 21\nran 2, given up 0, reused 0\n",
+            ),
+            (
+                "build b s x x",
+                LOOPS,
+                "0\nx = 5\nx = 5\nran 0, given up 0, reused 0\n",
+            ),
         ],
     )
 }
@@ -86,9 +124,17 @@ fn refusals_have_their_reason(rt: HostRuntime) -> Result<(), Fail> {
         rt.alloc(),
         &[
             ("build b s t", LOOPS, "3\ncarte: cycle: t -> t\n"),
-            ("build b s a", LOOPS, "3\ncarte: cycle: a -> b -> c -> d -> e -> c\n"),
+            (
+                "build b s a",
+                LOOPS,
+                "3\ncarte: cycle: a -> b -> c -> d -> e -> c\n",
+            ),
             ("build b s y", LOOPS, "3\ncarte: missing: y\n"),
-            ("build b s x gone t", LOOPS, "3\ncarte: missing: gone -> y\n"),
+            (
+                "build b s x gone t",
+                LOOPS,
+                "3\ncarte: missing: gone -> y\n",
+            ),
             ("build b s u", LOOPS, "3\ncarte: cycle: u -> t -> t\n"),
         ],
     )
@@ -101,23 +147,83 @@ fn faults_have_their_names(rt: HostRuntime) -> Result<(), Fail> {
         &rt,
         rt.alloc(),
         &[
-            ("build b", SUMS, "2\ncarte: usage: the words are no command\n"),
-            ("run b s a", SUMS, "2\ncarte: usage: the words are no command\n"),
-            ("build b s -a", SUMS, "2\ncarte: usage: the words are no command\n"),
+            (
+                "build b",
+                SUMS,
+                "2\ncarte: usage: the words are no command\n",
+            ),
+            (
+                "run b s a",
+                SUMS,
+                "2\ncarte: usage: the words are no command\n",
+            ),
+            (
+                "build b s -a",
+                SUMS,
+                "2\ncarte: usage: the words are no command\n",
+            ),
             ("build b s", SUMS, "2\ncarte: usage: no target\n"),
-            ("build b s a A b!", SUMS, "2\ncarte: usage: bad target \"A\"\n"),
-            ("build b s a\"\\\t\nz", SUMS, "2\ncarte: usage: bad target \"a\\\"\\\\\\t\\nz\"\n"),
+            (
+                "build b s a A b!",
+                SUMS,
+                "2\ncarte: usage: bad target \"A\"\n",
+            ),
+            (
+                "build b s a\"\\\t\nz",
+                SUMS,
+                "2\ncarte: usage: bad target \"a\\\"\\\\\\t\\nz\"\n",
+            ),
             ("build b s a", "a =", "1\ncarte: book refused: not TOML\n"),
-            ("build b s a", "[inputs]\na = 9223372036854775808", "1\ncarte: book refused: not TOML\n"),
-            ("build b s a", "[rules]\na = \"1 * 2\"", "1\ncarte: book refused: not yet\n"),
-            ("build b s a", "[rules]\na = \"1 +\"", "1\ncarte: book refused: not yet\n"),
-            ("build b s a", "[rules]\na = \"9223372036854775808\"", "1\ncarte: book refused: not yet\n"),
-            ("build b s a", "[rules]\na = 1", "1\ncarte: book refused: not yet\n"),
-            ("build b s a", "[inputs]\na = \"1\"", "1\ncarte: book refused: not yet\n"),
-            ("build b s a", "[inputs]\nA = 1", "1\ncarte: book refused: not yet\n"),
-            ("build b s a", "[inputs]\na = 1\n[rules]\na = \"1\"", "1\ncarte: book refused: not yet\n"),
-            ("build b s a", "[inputs]\na = 1\n[rest]", "1\ncarte: book refused: not yet\n"),
-            ("build b s a", "inputs = 1", "1\ncarte: book refused: not yet\n"),
+            (
+                "build b s a",
+                "[inputs]\na = 9223372036854775808",
+                "1\ncarte: book refused: not TOML\n",
+            ),
+            (
+                "build b s a",
+                "[rules]\na = \"1 * 2\"",
+                "1\ncarte: book refused: not yet\n",
+            ),
+            (
+                "build b s a",
+                "[rules]\na = \"1 +\"",
+                "1\ncarte: book refused: not yet\n",
+            ),
+            (
+                "build b s a",
+                "[rules]\na = \"9223372036854775808\"",
+                "1\ncarte: book refused: not yet\n",
+            ),
+            (
+                "build b s a",
+                "[rules]\na = 1",
+                "1\ncarte: book refused: not yet\n",
+            ),
+            (
+                "build b s a",
+                "[inputs]\na = \"1\"",
+                "1\ncarte: book refused: not yet\n",
+            ),
+            (
+                "build b s a",
+                "[inputs]\nA = 1",
+                "1\ncarte: book refused: not yet\n",
+            ),
+            (
+                "build b s a",
+                "[inputs]\na = 1\n[rules]\na = \"1\"",
+                "1\ncarte: book refused: not yet\n",
+            ),
+            (
+                "build b s a",
+                "[inputs]\na = 1\n[rest]",
+                "1\ncarte: book refused: not yet\n",
+            ),
+            (
+                "build b s a",
+                "inputs = 1",
+                "1\ncarte: book refused: not yet\n",
+            ),
         ],
     )
 }
@@ -174,7 +280,10 @@ fn bytes_come_and_go_one_by_one(rt: HostRuntime) -> Result<(), Fail> {
     let source = MemSource::of(alloc, SUMS.as_bytes(), &[])?;
     let mut drip = Drip { source };
     let text = shown(alloc, "build b s total", &mut drip, 1)?;
-    assert_eq!(rt; text.as_str(), "0\ntotal = 60\nran 2, given up 0, reused 0\n");
+    assert_eq!(rt;
+        text.as_str(),
+        "0\ntotal = 60\nran 2, given up 0, reused 0\n"
+    );
     Ok(())
 }
 
@@ -186,7 +295,10 @@ fn a_book_has_a_limit(rt: HostRuntime) -> Result<(), Fail> {
     assert_eq!(rt; text.as_str(), "3\ncarte: missing: y\n");
     let mut over = Hashes { left: 16777217 };
     let text = shown(alloc, "build b s y", &mut over, 4096)?;
-    assert_eq!(rt; text.as_str(), "1\ncarte: book refused: more than 16777216 bytes\n");
+    assert_eq!(rt;
+        text.as_str(),
+        "1\ncarte: book refused: more than 16777216 bytes\n"
+    );
     Ok(())
 }
 
@@ -206,7 +318,10 @@ fn a_long_chain_needs_no_stack(rt: HostRuntime) -> Result<(), Fail> {
     let alloc = rt.alloc();
     let book = chain(alloc, 65536)?;
     let text = shown_of(alloc, "build b s k65535", book.as_str())?;
-    assert_eq!(rt; text.as_str(), "0\nk65535 = 65536\nran 65536, given up 0, reused 0\n");
+    assert_eq!(rt;
+        text.as_str(),
+        "0\nk65535 = 65536\nran 65536, given up 0, reused 0\n"
+    );
     let book = chain(alloc, 65537)?;
     let text = shown_of(alloc, "build b s k0", book.as_str())?;
     assert_eq!(rt; text.as_str(), "1\ncarte: book refused: not yet\n");
@@ -214,13 +329,7 @@ fn a_long_chain_needs_no_stack(rt: HostRuntime) -> Result<(), Fail> {
 }
 
 /// What a run shows whose source, reply or error line fails at such a call.
-fn failing(
-    alloc: Global,
-    words: &str,
-    read: u64,
-    write: u64,
-    line: u64,
-) -> Result<String, Fail> {
+fn failing(alloc: Global, words: &str, read: u64, write: u64, line: u64) -> Result<String, Fail> {
     let mut book = MemSource::of(alloc, SUMS.as_bytes(), &[read])?;
     let mut out = MemSink::new(alloc, 8, &[write])?;
     let mut err = MemSink::new(alloc, 8, &[line])?;
@@ -239,9 +348,27 @@ fn each_call_may_fail(rt: HostRuntime) -> Result<(), Fail> {
         ("build b s total", 2, 0, 3, "4\ncarte: a read fa"),
         ("build b s total", 0, 1, 0, "5\n"),
         ("build b s total", 0, 2, 0, "5\ntotal = "),
-        ("build b s total", 0, 5, 0, "5\ntotal = 60\nran 2, given up 0, re"),
-        ("build b s total", 0, 6, 0, "5\ntotal = 60\nran 2, given up 0, reused 0\n"),
-        ("build b s total", 3, 7, 1, "0\ntotal = 60\nran 2, given up 0, reused 0\n"),
+        (
+            "build b s total",
+            0,
+            5,
+            0,
+            "5\ntotal = 60\nran 2, given up 0, re",
+        ),
+        (
+            "build b s total",
+            0,
+            6,
+            0,
+            "5\ntotal = 60\nran 2, given up 0, reused 0\n",
+        ),
+        (
+            "build b s total",
+            3,
+            7,
+            1,
+            "0\ntotal = 60\nran 2, given up 0, reused 0\n",
+        ),
         ("build b s", 1, 1, 2, "2\ncarte: u"),
     ];
     for (words, read, write, line, want) in cases.iter() {

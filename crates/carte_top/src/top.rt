@@ -32,10 +32,32 @@ pub fn carte<B: Source, O: Sink, E: Sink>(
 ) -> Status
     ensures { IsOutcome
         (record {
-            words = words.now;
-            book = record { tells = B.tells; left = B.left book.old; left' = B.left book.new; faults = B.faults book.old; faults' = B.faults book.new };
-            out = record { tells = O.tells; taken = O.taken out.old; taken' = O.taken out.new; handed = O.handed out.old; handed' = O.handed out.new; faults = O.faults out.old; faults' = O.faults out.new };
-            err = record { tells = E.tells; taken = E.taken err.old; taken' = E.taken err.new; handed = E.handed err.old; handed' = E.handed err.new; faults = E.faults err.old; faults' = E.faults err.new };
+          words = words.now;
+          book = record {
+            tells = B.tells;
+            left = B.left book.old;
+            left' = B.left book.new;
+            faults = B.faults book.old;
+            faults' = B.faults book.new;
+          };
+          out = record {
+            tells = O.tells;
+            taken = O.taken out.old;
+            taken' = O.taken out.new;
+            handed = O.handed out.old;
+            handed' = O.handed out.new;
+            faults = O.faults out.old;
+            faults' = O.faults out.new;
+          };
+          err = record {
+            tells = E.tells;
+            taken = E.taken err.old;
+            taken' = E.taken err.new;
+            handed = E.handed err.old;
+            handed' = E.handed err.new;
+            faults = E.faults err.old;
+            faults' = E.faults err.new;
+          };
         })
         result }
 {
@@ -45,8 +67,22 @@ pub fn carte<B: Source, O: Sink, E: Sink>(
 
 fn run<B: Source, O: Sink>(alloc: Global, words: &[Word], book: &mut B, out: &mut O) -> Status
     ensures { Ran words.now
-        (record { tells = B.tells; left = B.left book.old; left' = B.left book.new; faults = B.faults book.old; faults' = B.faults book.new })
-        (record { tells = O.tells; taken = O.taken out.old; taken' = O.taken out.new; handed = O.handed out.old; handed' = O.handed out.new; faults = O.faults out.old; faults' = O.faults out.new })
+        (record {
+          tells = B.tells;
+          left = B.left book.old;
+          left' = B.left book.new;
+          faults = B.faults book.old;
+          faults' = B.faults book.new;
+        })
+        (record {
+          tells = O.tells;
+          taken = O.taken out.old;
+          taken' = O.taken out.new;
+          handed = O.handed out.old;
+          handed' = O.handed out.new;
+          faults = O.faults out.old;
+          faults' = O.faults out.new;
+        })
         result }
 {
     match read_targets(alloc, words) {
@@ -71,8 +107,22 @@ fn run_build<B: Source, O: Sink>(
     out: &mut O,
 ) -> Status
     ensures { Built targets.now
-        (record { tells = B.tells; left = B.left book.old; left' = B.left book.new; faults = B.faults book.old; faults' = B.faults book.new })
-        (record { tells = O.tells; taken = O.taken out.old; taken' = O.taken out.new; handed = O.handed out.old; handed' = O.handed out.new; faults = O.faults out.old; faults' = O.faults out.new })
+        (record {
+          tells = B.tells;
+          left = B.left book.old;
+          left' = B.left book.new;
+          faults = B.faults book.old;
+          faults' = B.faults book.new;
+        })
+        (record {
+          tells = O.tells;
+          taken = O.taken out.old;
+          taken' = O.taken out.new;
+          handed = O.handed out.old;
+          handed' = O.handed out.new;
+          faults = O.faults out.old;
+          faults' = O.faults out.new;
+        })
         result }
 {
     match load(alloc, book) {
@@ -83,7 +133,13 @@ fn run_build<B: Source, O: Sink>(
 
 fn load<B: Source>(alloc: Global, source: &mut B) -> Result<Book, Status>
     ensures { Loads
-        (record { tells = B.tells; left = B.left source.old; left' = B.left source.new; faults = B.faults source.old; faults' = B.faults source.new })
+        (record {
+          tells = B.tells;
+          left = B.left source.old;
+          left' = B.left source.new;
+          faults = B.faults source.old;
+          faults' = B.faults source.new;
+        })
         result }
 {
     match read_whole(alloc, source, MOST_BYTES) {
@@ -122,7 +178,15 @@ fn unparsed(fault: BookFault) -> Status
 
 fn answer<O: Sink>(alloc: Global, book: &Book, targets: &Names, out: &mut O) -> Status
     ensures { Answers (book_view book.now) targets.now
-        (record { tells = O.tells; taken = O.taken out.old; taken' = O.taken out.new; handed = O.handed out.old; handed' = O.handed out.new; faults = O.faults out.old; faults' = O.faults out.new })
+        (record {
+          tells = O.tells;
+          taken = O.taken out.old;
+          taken' = O.taken out.new;
+          handed = O.handed out.old;
+          handed' = O.handed out.new;
+          faults = O.faults out.old;
+          faults' = O.faults out.new;
+        })
         result }
 {
     match build(alloc, book, targets.as_slice()) {
@@ -148,7 +212,15 @@ fn print<O: Sink>(
     out: &mut O,
 ) -> Status
     ensures { Prints (target_lines (part (book_view book.now) done.now) targets.now ++ counts_line (btree_map_len done.now))
-        (record { tells = O.tells; taken = O.taken out.old; taken' = O.taken out.new; handed = O.handed out.old; handed' = O.handed out.new; faults = O.faults out.old; faults' = O.faults out.new })
+        (record {
+          tells = O.tells;
+          taken = O.taken out.old;
+          taken' = O.taken out.new;
+          handed = O.handed out.old;
+          handed' = O.handed out.new;
+          faults = O.faults out.old;
+          faults' = O.faults out.new;
+        })
         result }
 {
     match reply(alloc, book, done, targets) {
@@ -159,7 +231,15 @@ fn print<O: Sink>(
 
 fn write_whole<O: Sink>(out: &mut O, bytes: &[u8]) -> Status
     ensures { Prints bytes.now
-        (record { tells = O.tells; taken = O.taken out.old; taken' = O.taken out.new; handed = O.handed out.old; handed' = O.handed out.new; faults = O.faults out.old; faults' = O.faults out.new })
+        (record {
+          tells = O.tells;
+          taken = O.taken out.old;
+          taken' = O.taken out.new;
+          handed = O.handed out.old;
+          handed' = O.handed out.new;
+          faults = O.faults out.old;
+          faults' = O.faults out.new;
+        })
         result }
 {
     match write_all(out, bytes) {
@@ -175,7 +255,15 @@ fn write_whole<O: Sink>(out: &mut O, bytes: &[u8]) -> Status
 fn report<E: Sink>(alloc: Global, err: &mut E, status: Status) -> Status
     ensures reports { Reports status result }
     ensures ended { Ended
-        (record { tells = E.tells; taken = E.taken err.old; taken' = E.taken err.new; handed = E.handed err.old; handed' = E.handed err.new; faults = E.faults err.old; faults' = E.faults err.new })
+        (record {
+          tells = E.tells;
+          taken = E.taken err.old;
+          taken' = E.taken err.new;
+          handed = E.handed err.old;
+          handed' = E.handed err.new;
+          faults = E.faults err.old;
+          faults' = E.faults err.new;
+        })
         result }
 {
     if !spoken(&status) {
@@ -205,7 +293,15 @@ fn spoken(status: &Status) -> bool
 
 fn say<E: Sink>(err: &mut E, bytes: &[u8])
     ensures { Says
-        (record { tells = E.tells; taken = E.taken err.old; taken' = E.taken err.new; handed = E.handed err.old; handed' = E.handed err.new; faults = E.faults err.old; faults' = E.faults err.new })
+        (record {
+          tells = E.tells;
+          taken = E.taken err.old;
+          taken' = E.taken err.new;
+          handed = E.handed err.old;
+          handed' = E.handed err.new;
+          faults = E.faults err.old;
+          faults' = E.faults err.new;
+        })
         bytes.now }
 {
     match write_all(err, bytes) {

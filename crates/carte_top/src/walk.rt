@@ -93,6 +93,7 @@ impl Walk {
         }
     }
 
+    // A rule that was fresh, at its first term.
     fn begin(&mut self, alloc: Global, name: &Name) -> Result<(), BuildFault>
         ensures path { OnOk result (self.new.path.items ≡ record { name = name.now; at = 0 } ∷ self.old.path.items) }
         ensures never { IfErr result (λ fault. Refuses fault (λ reason. ⊥)) }
@@ -117,6 +118,7 @@ impl Walk {
         }
     }
 
+    // The path ends with a name that has nothing.
     fn missing(&mut self, alloc: Global, name: &Name) -> BuildFault
         ensures path { Refuses result (λ reason. reason ≡ Missing (unwound (names self.old.path.items) (name.now ∷ []))) }
         ensures done { self.new.done ≡ self.old.done }
@@ -127,6 +129,7 @@ impl Walk {
         }
     }
 
+    // The path ends with a name that stands on it already.
     fn cycle(&mut self, alloc: Global, name: &Name) -> BuildFault
         ensures path { Refuses result (λ reason. reason ≡ Cycle (unwound (names self.old.path.items) (name.now ∷ []))) }
         ensures done { self.new.done ≡ self.old.done }
@@ -183,20 +186,21 @@ impl Walk {
         }
     }
 
+    // The rule goes back on the path, and the one that it needs goes on top.
     fn wait(
         &mut self,
         alloc: Global,
         book: &Book,
         name: Name,
         at: usize,
-        open: &Name,
+        need: &Name,
     ) -> Result<(), BuildFault>
-        requires { part (book_view book.now) self.old.done open.now ≡ None }
-        ensures enters { Enters (book_view book.now) self.old.fresh self.new.fresh (record { name = name; at = at } ∷ self.old.path.items) self.new.path.items open.now result }
+        requires { part (book_view book.now) self.old.done need.now ≡ None }
+        ensures enters { Enters (book_view book.now) self.old.fresh self.new.fresh (record { name = name; at = at } ∷ self.old.path.items) self.new.path.items need.now result }
         ensures done { self.new.done ≡ self.old.done }
     {
         match self.push(name, at) {
-            Ok(()) => self.enter(alloc, book, open),
+            Ok(()) => self.enter(alloc, book, need),
             Err(fault) => Err(fault),
         }
     }
