@@ -1,18 +1,17 @@
 -- The end of a build: exactly the reached rules were evaluated.
-use Rattle.std.proofs.Common.{◌≡◌, ℕ, Bool, true, false, cond, List, [], ◌∷◌, map, slice_get, take, suc, zero, ◌+◌, ◌<◌, ◌≤◌, length, Option, Some, None, is_some, IsSome, Result, Ok, Err, refl, ap, sym, ◌∙◌, subst, inl, inr, ◌⊎◌, arith, add-one}
+use Rattle.std.proofs.Common.{◌≡◌, ℕ, Bool, true, false, cond, List, [], ◌∷◌, slice_get, take, suc, zero, ◌+◌, ◌≤◌, length, Option, Some, None, Err, refl, ap, sym, ◌∙◌, inl, inr, ◌⊎◌, add-one}
 use Rattle.std.specs.Ordering.{eq_by_cmp}
 use Rattle.std.specs.Map.{lookup, keys_of}
-use Rattle.std.specs.BTreeMap.{get, keys, IsOrdered, is_at}
-use Rattle.std.specs.BTreeSet.{contains}
+use Rattle.std.specs.BTreeMap.{get, IsOrdered, is_at}
 use Rattle.carte_value.specs.declared.value.Value.{Value}
 use Rattle.carte_value.specs.Names.{name_cmp}
-use Rattle.carte_value.specs.Truths.{Truth, Extends, Among, IsListOf}
+use Rattle.carte_value.specs.Truths.{Extends, Among}
 use Rattle.carte_value.specs.Asks.{asked}
 use Rattle.carte_value.proofs.Asks.{asked_kept, asked_known}
 use Rattle.carte_value.proofs.Firsts.{among_firsts}
-use Rattle.carte_book.specs.Formula.{Formula, asks, fetched}
+use Rattle.carte_book.specs.Formula.{asks, fetched}
 use Rattle.carte_book.specs.Book.{Item, input, rule, Book, content, clean}
-use Rattle.carte_book.specs.Needs.{IsRule, Reaches, target, need, needs, needs_of, IsReachedRule}
+use Rattle.carte_book.specs.Needs.{Reaches, target, need, needs, needs_of}
 use Rattle.carte_book.specs.Looked.{HasRules}
 use Rattle.carte_book.specs.Reason.{IsReason, Begins, IsClean}
 use Rattle.carte_book.proofs.Clean.{tied_name}

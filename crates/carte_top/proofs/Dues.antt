@@ -1,13 +1,10 @@
 -- The status that is due is the one that comes.
-use Rattle.std.proofs.Common.{◌≡◌, ℕ, List, Result, Ok, Err, refl, ap, sym, ◌∙◌, inl, inr, ◌⊎◌, subst}
+use Rattle.std.proofs.Common.{◌≡◌, ℕ, List, Ok, Err, refl, ap, inl, inr, ◌⊎◌}
 use Rattle.carte_book.specs.Book.{Book}
 use Rattle.carte_book.specs.Reading.{book_of}
-use Rattle.carte_book.specs.Reason.{AllClean, IsReason}
 use Rattle.carte_book.specs.declared.fault.BookFault.{BookFault}
 use Rattle.carte_book.specs.declared.fault.BookFault.TheVariants.{Limit, NotToml, NotYet, NoMemory as BookNoMemory}
-use Rattle.carte_book.specs.declared.reason.Reason.{Reason}
 use Rattle.carte_book.proofs.Reasons.{one_reason, no_reason}
-use Rattle.carte_top.specs.declared.status.WordsFault.{WordsFault}
 use Rattle.carte_top.specs.declared.status.Status.{Status}
 use Rattle.carte_top.specs.declared.status.Status.TheVariants.{Done, BookRefused, Usage, BuildRefused, ReadFault, WriteFault, NoMemory}
 use Rattle.carte_top.specs.Words.{targets_of}

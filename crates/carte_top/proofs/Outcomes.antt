@@ -1,21 +1,19 @@
 -- What a build has done, from what its parts have done.
-use Rattle.std.proofs.Common.{◌≡◌, ℕ, suc, ◌+◌, List, [], ◌∷◌, ◌++◌, length, map, Option, Some, None, unwrap_or, Result, Ok, Err, refl, ap, sym, ◌∙◌, subst, inl, inr, true, false}
+use Rattle.std.proofs.Common.{◌≡◌, ℕ, suc, List, [], ◌∷◌, ◌++◌, length, Some, Ok, refl, ap, subst, inl, inr}
 use Rattle.std.specs.Map.{keys_of}
 use Rattle.std.specs.BTreeMap.{keys, btree_map_len}
 use Rattle.carte_value.specs.declared.value.Value.{Value}
-use Rattle.carte_value.specs.declared.value.Value.TheVariants.{Empty}
-use Rattle.carte_value.specs.Truths.{Truth, Extends, Among}
+use Rattle.carte_value.specs.Truths.{Extends, Among}
 use Rattle.carte_book.specs.Book.{Book, book_view, clean}
 use Rattle.carte_book.specs.Reading.{book_of}
 use Rattle.carte_book.specs.Reason.{AllClean}
 use Rattle.carte_book.specs.declared.book.Book.{Book as CodeBook}
 use Rattle.carte_top.specs.declared.status.Status.{Status}
 use Rattle.carte_top.specs.declared.status.Status.TheVariants.{Done, BookRefused, Usage, BuildRefused, ReadFault, WriteFault, NoMemory}
-use Rattle.carte_top.specs.declared.status.WordsFault.{WordsFault}
 use Rattle.carte_top.specs.Known.{Done as DoneMap, part}
 use Rattle.carte_top.specs.Building.{IsBuilt, IsKnownAt}
 use Rattle.carte_top.specs.Words.{targets_of}
-use Rattle.carte_top.specs.Reply.{target_line, target_lines, counts_line, reply}
+use Rattle.carte_top.specs.Reply.{target_lines, counts_line, reply}
 use Rattle.carte_top.specs.Around.{OverSource, OverSink, TakesAll, TakesFront}
 use Rattle.carte_top.specs.Outcome.{Replies, Built, Ran}
 use Rattle.carte_top.specs.Running.{Prints, Answers, Reports}

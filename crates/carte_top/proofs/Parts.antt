@@ -1,5 +1,5 @@
 -- What is known, as it grows.
-use Rattle.std.proofs.Common.{◌≡◌, ℕ, Bool, true, false, cond, List, [], ◌∷◌, Option, Some, None, Result, Ok, Err, refl, ap, sym, ◌∙◌, subst, inl, inr, ◌⊎◌}
+use Rattle.std.proofs.Common.{◌≡◌, ℕ, true, false, cond, List, Option, Some, None, refl, ap, sym, ◌∙◌, inl, inr, ◌⊎◌}
 use Rattle.std.specs.Ordering.{eq_by_cmp}
 use Rattle.std.specs.BTreeMap.{get}
 use Rattle.std.specs.BTreeSet.{contains}
@@ -7,13 +7,12 @@ use Rattle.std.specs.Cmp.{eq_by_cmp_equiv}
 use Rattle.std.proofs.lemmas.Cmp.{nat_list_cmp_total}
 use Rattle.carte_value.specs.declared.value.Value.{Value}
 use Rattle.carte_value.specs.Names.{name_cmp}
-use Rattle.carte_value.specs.Truths.{Truth, Extends, Among}
-use Rattle.carte_book.specs.Formula.{Formula, eval}
+use Rattle.carte_value.specs.Truths.{Extends}
+use Rattle.carte_book.specs.Formula.{Formula}
 use Rattle.carte_book.specs.Book.{Item, input, rule, Book, content, clean}
 use Rattle.carte_book.proofs.Clean.{clean_input, tied_name}
 use Rattle.carte_top.specs.Known.{Done, part, part_at}
 use Rattle.carte_top.specs.Walk.{Fresh, Takes, Puts}
-use Rattle.carte_top.specs.Building.{Finished}
 
 pub tied_itself : (k : List ℕ) → eq_by_cmp name_cmp k k ≡ true
 tied_itself k = (eq_by_cmp_equiv nat_list_cmp_total).refl k

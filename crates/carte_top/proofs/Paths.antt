@@ -1,14 +1,13 @@
 -- Paths of frames, unwound from the oldest on.
-use Rattle.std.proofs.Common.{◌≡◌, ℕ, List, [], ◌∷◌, ◌++◌, map, Option, Some, None, Result, Ok, Err, refl, ap, sym, ◌∙◌, subst, inl, inr, ◌⊎◌, append_assoc}
-use Rattle.carte_value.specs.declared.value.Value.{Value}
+use Rattle.std.proofs.Common.{◌≡◌, ℕ, List, [], ◌∷◌, ◌++◌, None, refl, ap, sym, ◌∙◌, inl, inr, ◌⊎◌, append_assoc}
 use Rattle.carte_value.specs.Truths.{Truth, Extends, Among}
 use Rattle.carte_value.proofs.Asks.{stop_kept}
-use Rattle.carte_book.specs.Formula.{Formula, asks, eval}
-use Rattle.carte_book.specs.Book.{rule, Book, content, clean}
+use Rattle.carte_book.specs.Formula.{asks}
+use Rattle.carte_book.specs.Book.{Book, content, clean}
 use Rattle.carte_book.specs.Reason.{StuckAt, GoesRound, GoesAstray}
 use Rattle.carte_book.proofs.Clean.{IsHeld, no_clean}
 use Rattle.carte_top.specs.declared.walk.Frame.{Frame}
-use Rattle.carte_top.specs.Walk.{Path, names, unwound, Stands}
+use Rattle.carte_top.specs.Walk.{Path, names, unwound}
 use Rattle.carte_top.specs.Building.{StopsAt, Linked, NoneTwice, EndsWith}
 
 unwound_last : (p : Path) (f : Frame) (ks : List (List ℕ)) → unwound (names (p ++ f ∷ [])) ks ≡ f.name ∷ unwound (names p) ks

@@ -1,5 +1,5 @@
 -- Reaching one target.
-use Rattle.std.proofs.Common.{◌≡◌, ℕ, zero, suc, ◌<◌, Bool, true, false, List, [], ◌∷◌, length, slice_get, get_or, Option, Some, None, is_some, Result, Ok, Err, refl, ap, sym, ◌∙◌, inl, inr, arith}
+use Rattle.std.proofs.Common.{◌≡◌, ℕ, zero, suc, ◌<◌, Bool, true, false, List, [], ◌∷◌, length, slice_get, get_or, Option, Some, None, is_some, Err, refl, sym, ◌∙◌, inl, inr, arith}
 use Rattle.carte_value.specs.declared.value.Value.{Value}
 use Rattle.carte_value.specs.Truths.{Truth, Among}
 use Rattle.carte_book.specs.Book.{Book}
@@ -8,7 +8,7 @@ use Rattle.carte_top.specs.declared.walk.BuildFault.{BuildFault}
 use Rattle.carte_top.specs.declared.walk.BuildFault.TheVariants.{Refused, NoMemory}
 use Rattle.carte_top.specs.Known.{Done, part}
 use Rattle.carte_top.specs.Walk.{Fresh, Path, Entered, Enters, Turned, Turns, Stands}
-use Rattle.carte_top.specs.Building.{Linked, IsWalk, IsBetween, Reached, Reaching}
+use Rattle.carte_top.specs.Building.{Linked, IsBetween, Reached, Reaching}
 use Rattle.carte_top.proofs.Refusing.{refused_first, refused_later}
 use Rattle.carte_top.proofs.Turning.{IsTurning, first_entered, turned}
 

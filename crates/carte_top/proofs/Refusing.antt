@@ -1,22 +1,20 @@
 -- A walk that is refused has found the reason.
-use Rattle.std.proofs.Common.{◌≡◌, ℕ, Bool, true, false, List, [], ◌∷◌, Option, Some, None, Result, Ok, Err, refl, ap, sym, ◌∙◌, subst, inl, inr, ◌⊎◌}
+use Rattle.std.proofs.Common.{◌≡◌, ℕ, false, List, [], ◌∷◌, None, sym, ◌∙◌, inl, inr, ◌⊎◌}
 use Rattle.std.specs.BTreeMap.{get}
 use Rattle.std.specs.BTreeSet.{contains}
-use Rattle.carte_value.specs.declared.value.Value.{Value}
 use Rattle.carte_value.specs.Names.{name_cmp}
-use Rattle.carte_value.specs.Truths.{Truth, Extends, Among}
+use Rattle.carte_value.specs.Truths.{Extends, Among}
 use Rattle.carte_value.proofs.Asks.{stop_open}
 use Rattle.carte_book.specs.Formula.{asks}
-use Rattle.carte_book.specs.Book.{rule, Book, content, clean}
+use Rattle.carte_book.specs.Book.{Book, clean}
 use Rattle.carte_book.specs.Needs.{IsRule}
-use Rattle.carte_book.specs.Reason.{GoesRound, GoesAstray}
 use Rattle.carte_book.proofs.Clean.{clean_nothing}
 use Rattle.carte_book.specs.declared.reason.Reason.{Reason}
 use Rattle.carte_book.specs.declared.reason.Reason.TheVariants.{Cycle, Missing}
 use Rattle.carte_top.specs.declared.walk.Frame.{Frame}
 use Rattle.carte_top.specs.Known.{Done, part}
-use Rattle.carte_top.specs.Walk.{Fresh, Path, names, unwound, Closes, Stops}
-use Rattle.carte_top.specs.Building.{StopsAt, EndsWith, IsWalk, IsPathFrom}
+use Rattle.carte_top.specs.Walk.{Fresh, Path, names, Closes, Stops}
+use Rattle.carte_top.specs.Building.{StopsAt, IsWalk, IsPathFrom}
 use Rattle.carte_top.proofs.Parts.{part_rule}
 use Rattle.carte_top.proofs.Paths.{Chain, chain_of, none_clean, round_unwound, astray_unwound, unwound_from, oldest_among}
 use Rattle.carte_top.proofs.Walking.{walk_clean}

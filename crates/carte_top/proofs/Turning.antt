@@ -1,24 +1,16 @@
 -- The loops of the walk: from one turn to the next, and from one target to the next.
-use Rattle.std.proofs.Common.{◌≡◌, ℕ, ◌+◌, ◌*◌, ◌<◌, Bool, true, false, List, [], ◌∷◌, take, length, slice_get, Option, Some, None, Result, Ok, Err, refl, ap, sym, ◌∙◌, subst, inl, inr, ◌⊎◌, arith}
-use Rattle.std.specs.BTreeMap.{get, keys}
-use Rattle.std.specs.BTreeSet.{contains}
-use Rattle.carte_value.specs.declared.value.Value.{Value}
-use Rattle.carte_value.specs.Names.{name_cmp}
-use Rattle.carte_value.specs.Truths.{Truth, Extends, Among}
-use Rattle.carte_value.proofs.Asks.{asked_kept, asked_known, stop_asked}
-use Rattle.carte_value.proofs.Firsts.{among_firsts, firsts_among}
+use Rattle.std.proofs.Common.{◌≡◌, ℕ, ◌+◌, ◌*◌, ◌<◌, List, [], ◌∷◌, length, Some, refl, sym, ◌∙◌, inl, inr, arith}
+use Rattle.carte_value.specs.Truths.{Extends, Among}
+use Rattle.carte_value.proofs.Asks.{stop_asked}
+use Rattle.carte_value.proofs.Firsts.{firsts_among}
 use Rattle.carte_value.specs.Asks.{asked}
-use Rattle.carte_book.specs.Formula.{Formula, asks}
-use Rattle.carte_book.specs.Book.{Item, input, rule, Book, content, clean}
-use Rattle.carte_book.specs.Needs.{IsRule, Reaches, target, need, needs, needs_of, IsReachedRule}
-use Rattle.carte_book.specs.Looked.{HasRules}
-use Rattle.carte_book.specs.Reason.{IsReason, Begins, IsClean}
-use Rattle.carte_book.specs.declared.reason.Reason.{Reason}
-use Rattle.carte_book.specs.declared.reason.Reason.TheVariants.{Cycle, Missing}
+use Rattle.carte_book.specs.Formula.{asks}
+use Rattle.carte_book.specs.Book.{Book, clean}
+use Rattle.carte_book.specs.Needs.{Reaches, target, need}
 use Rattle.carte_top.specs.declared.walk.Frame.{Frame}
 use Rattle.carte_top.specs.Known.{Done, part}
-use Rattle.carte_top.specs.Walk.{Fresh, Path, names, Entered, Turned, Finishes, Stops}
-use Rattle.carte_top.specs.Building.{EndsWith, IsWalk, IsPathFrom, IsBetween, IsKnownAt, Reached}
+use Rattle.carte_top.specs.Walk.{Fresh, Path, names, Entered, Turned, Stops}
+use Rattle.carte_top.specs.Building.{EndsWith, IsWalk, IsKnownAt}
 use Rattle.carte_top.proofs.Parts.{part_rule, part_more, put_here}
 use Rattle.carte_top.proofs.Walking.{walk_clean, entered, waits, finishing, values_kept}
 

@@ -1,27 +1,22 @@
 -- What a turn keeps, and what the walk has made at its end.
-use Rattle.std.proofs.Common.{◌≡◌, ℕ, zero, suc, ◌≤◌, Bool, true, false, List, [], ◌∷◌, take, length, Option, Some, None, Result, Ok, Err, refl, ap, sym, ◌∙◌, subst, inl, inr, ◌⊎◌, arith}
+use Rattle.std.proofs.Common.{◌≡◌, ℕ, List, [], ◌∷◌, take, Some, None, Ok, refl, ap, sym, ◌∙◌, subst, inl, inr, arith}
 use Rattle.std.specs.Result.{result_ok}
 use Rattle.std.specs.BTreeMap.{get}
-use Rattle.std.specs.BTreeSet.{contains}
 use Rattle.carte_value.specs.declared.value.Value.{Value}
 use Rattle.carte_value.specs.Names.{name_cmp}
 use Rattle.carte_value.specs.Truths.{Truth, Extends, Among}
 use Rattle.carte_value.proofs.Asks.{stop_open, stop_kept}
 use Rattle.carte_book.specs.Formula.{Formula, asks, eval}
-use Rattle.carte_book.specs.Book.{rule, Book, content, clean}
+use Rattle.carte_book.specs.Book.{Book, content, clean}
 use Rattle.carte_book.specs.Needs.{IsRule, Reaches}
 use Rattle.carte_book.specs.Terms.{AllKnown}
-use Rattle.carte_book.specs.Reason.{GoesRound, GoesAstray}
-use Rattle.carte_book.proofs.Clean.{clean_rule, clean_nothing, eval_kept}
+use Rattle.carte_book.proofs.Clean.{clean_rule, eval_kept}
 use Rattle.carte_book.proofs.Terms.{known_kept}
-use Rattle.carte_book.specs.declared.reason.Reason.{Reason}
-use Rattle.carte_book.specs.declared.reason.Reason.TheVariants.{Cycle, Missing}
 use Rattle.carte_top.specs.declared.walk.Frame.{Frame}
 use Rattle.carte_top.specs.Known.{Done, part, part_at}
-use Rattle.carte_top.specs.Walk.{Fresh, Path, names, unwound, Entered, Closes, Stands, Finishes, Stops, Puts}
-use Rattle.carte_top.specs.Building.{Finished, StopsAt, Linked, NoneTwice, EndsWith, IsWalk, IsPathFrom}
-use Rattle.carte_top.proofs.Parts.{part_rule, part_more, part_clean, put_here, put_elsewhere, same_or_not, taken_here, taken_elsewhere, still_fresh}
-use Rattle.carte_top.proofs.Paths.{Chain, chain_of, none_clean, round_unwound, astray_unwound, unwound_from, oldest_among}
+use Rattle.carte_top.specs.Walk.{Fresh, Path, names, Entered, Stands, Finishes, Stops}
+use Rattle.carte_top.specs.Building.{Finished, StopsAt, Linked, EndsWith, IsWalk}
+use Rattle.carte_top.proofs.Parts.{part_more, part_clean, put_here, put_elsewhere, same_or_not, taken_elsewhere, still_fresh}
 
 module _ (b : Book) (ts : List (List ℕ)) (target : List ℕ) where
   pub walk_clean : (fresh : Fresh) (path : Path) (done : Done) → IsWalk b ts target fresh path done → Extends (part b done) (clean b)

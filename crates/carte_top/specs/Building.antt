@@ -1,5 +1,5 @@
 -- What holds of the walk between its turns, and what it has made at its end.
-use Rattle.std.specs.Prelude.{ℕ, ◌≡◌, ◌⊎◌, Bool, true, List, [], ◌∷◌, Option, Some, None, Result, Ok, Err, slice_get, take}
+use Rattle.std.specs.Prelude.{ℕ, ◌≡◌, ◌⊎◌, true, List, [], ◌∷◌, Some, None, Result, Ok, Err}
 use Rattle.std.specs.BTreeMap.{get, keys}
 use Rattle.std.specs.BTreeSet.{contains}
 use Rattle.carte_value.specs.declared.value.Value.{Value}
@@ -11,7 +11,6 @@ use Rattle.carte_book.specs.Needs.{IsRule, Reaches, IsReachedRule}
 use Rattle.carte_book.specs.Reason.{IsReason, GoesRound, GoesAstray}
 use Rattle.carte_book.specs.declared.reason.Reason.{Reason}
 use Rattle.carte_book.specs.declared.reason.Reason.TheVariants.{Cycle, Missing}
-use Rattle.carte_top.specs.declared.walk.Frame.{Frame}
 use Rattle.carte_top.specs.declared.walk.BuildFault.{BuildFault}
 use Rattle.carte_top.specs.declared.walk.BuildFault.TheVariants.{Refused, NoMemory}
 use Rattle.carte_top.specs.Known.{Done, part}

@@ -1,5 +1,5 @@
 -- What a run has done, status by status.
-use Rattle.std.specs.Prelude.{ℕ, ◌≡◌, ◌⊎◌, List, Result, Ok, Err}
+use Rattle.std.specs.Prelude.{ℕ, ◌≡◌, ◌⊎◌, List, Ok, Err}
 use Rattle.carte_value.specs.Truths.{IsListOf}
 use Rattle.carte_io.specs.Causes.{Rose}
 use Rattle.carte_book.specs.Book.{Book}
@@ -7,7 +7,7 @@ use Rattle.carte_book.specs.Needs.{IsReachedRule}
 use Rattle.carte_book.specs.Reading.{book_of}
 use Rattle.carte_book.specs.Reason.{AllClean, IsReason}
 use Rattle.carte_book.specs.declared.fault.BookFault.{BookFault}
-use Rattle.carte_book.specs.declared.fault.BookFault.TheVariants.{Limit, NotToml, NotYet, NoMemory as BookNoMemory}
+use Rattle.carte_book.specs.declared.fault.BookFault.TheVariants.{NoMemory as BookNoMemory}
 use Rattle.carte_top.specs.declared.status.Status.{Status}
 use Rattle.carte_top.specs.declared.status.Status.TheVariants.{Done, BookRefused, Usage, BuildRefused, ReadFault, WriteFault, NoMemory}
 use Rattle.carte_top.specs.Around.{OverSource, OverSink, Around, IsUnread, IsUntouched, TakesAll, TakesFront, Says}

@@ -1,6 +1,6 @@
 -- The ordering walk: its state, and what one turn does to it.
-use Rattle.std.specs.Prelude.{ℕ, ◌≡◌, ◌≤◌, ◌+◌, ◌⊎◌, Bool, true, false, List, [], ◌∷◌, map, length, take, Option, Some, None, Result, Ok, Err, if◌then◌else◌}
-use Rattle.std.specs.BTreeMap.{BTreeMap, get}
+use Rattle.std.specs.Prelude.{ℕ, ◌≡◌, ◌≤◌, ◌+◌, ◌⊎◌, true, false, List, [], ◌∷◌, map, length, take, Some, None, Result, Ok, Err, if◌then◌else◌}
+use Rattle.std.specs.BTreeMap.{get}
 use Rattle.std.specs.BTreeSet.{BTreeSet, contains}
 use Rattle.std.specs.Ordering.{eq_by_cmp}
 use Rattle.carte_value.specs.declared.value.Value.{Value}

@@ -1,4 +1,4 @@
-use Rattle.std.proofs.Common.{◌≡◌, ◌∷◌, ◌++◌, [], List, rules}
+use Rattle.std.proofs.Common.{◌∷◌, []}
 use Rattle.carte_top.proofs.Paths.{unwound_more}
 use Rattle.carte_top.proofs.walk.Walk.unwind.Goals as goal
 
