@@ -1,0 +1,6 @@
+mod StreamLemmas
+mod MemDiskLemmas
+mod CrashLemmas
+pub mod Images
+pub mod Torn
+pub mod Acknowledged

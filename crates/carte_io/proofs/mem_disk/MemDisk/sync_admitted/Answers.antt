@@ -1,0 +1,13 @@
+use Rattle.std.proofs.Common.{ap}
+use Rattle.carte_io.specs.MemDisks.{MemoryOfDisk, begun}
+use Rattle.carte_io.specs.declared.passed.Passed.TheVariants.{Synced}
+use Rattle.carte_io.proofs.MemDiskLemmas.{reads_on, story_on}
+use Rattle.carte_io.proofs.mem_disk.MemDisk.sync_admitted.Goals as goal
+
+pub invariant_of-self : goal.invariant_of-self
+invariant_of-self c = reads_on (begun c.self.inside.first.items) _ _ Synced _ c.in-Ok.ensures.ok c.self.invariant
+
+pub returns-in-Ok-clause-ok : goal.returns-in-Ok-clause-ok
+returns-in-Ok-clause-ok c =
+    story_on c.args.self.now c.self.inside.first.items c.self.inside.passed.items _ Synced c.in-Ok.ensures.ok
+    (ap (λ (d : MemoryOfDisk). d.first) c.self.view_is) (ap (λ (d : MemoryOfDisk). d.passed) c.self.view_is)

@@ -1,0 +1,12 @@
+use Rattle.std.proofs.Common.{arith, ap, length, length-drop}
+use Rattle.std.proofs.lemmas.List.{take_rest}
+use Rattle.carte_io.proofs.StreamLemmas.{takes_more}
+use Rattle.carte_io.proofs.sink.write_all.Goals as goal
+
+pub loop-at-preserved : goal.loop-at-preserved
+loop-at-preserved g c = let piece = c.args.piece.now in let at = c.loop-at.at in record {
+  within = omega (arith, c.in-Ok.ensures.bound, ap length (take_rest piece at), length-drop at piece);
+  front = λ told. takes_more piece _ _ _ _ at c.in-Ok.count (take_rest piece at) (c.loop-at.invariant.front told) (c.in-Ok.ensures.bytes told);
+  kept = λ told. omega (arith, c.loop-at.invariant.kept told, c.write.ensures.kept told);
+  later = omega (arith, c.loop-at.invariant.later, c.write.ensures.cause.later);
+}

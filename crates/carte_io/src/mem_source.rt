@@ -1,0 +1,92 @@
+ghost use Rattle.std.specs.Prelude.{◌≡◌, ◌<◌, ◌≤◌, ◌↔◌, ◌++◌, [], length, take, drop, min, is_err, IfOk, OnErr};
+ghost use Rattle.carte_io.specs.Causes.{HasCause};
+ghost use Rattle.carte_io.specs.Memory.{gave, is_failing, source_failed};
+ghost use Rattle.carte_io.specs.Streams.{Moves};
+
+use crate::counts::{is_next_failing, one_more};
+use crate::{Failed, NoMemory, Source};
+use std::alloc::Global;
+use std::marker::Model;
+
+/// A source of given bytes. Each call gives as many as there are and have room, and the calls whose
+/// numbers are in a list, counted from 1, fail instead.
+#[derive(Drop)]
+pub struct MemSource {
+    bytes: Vec<u8>,
+    place: usize,
+    failing: Vec<u64>,
+    calls: u64,
+    faults: u64,
+}
+
+impl Model for MemSource {
+    ghost use Rattle.std.specs.Prelude.{◌≤◌, drop, vec_len};
+    ghost use Rattle.carte_io.specs.Memory.{MemoryOfSource};
+
+    ghost Value = { MemoryOfSource };
+
+    ghost view = { λ s. record {
+      left = drop s.place s.bytes.items;
+      failing = s.failing.items;
+      calls = s.calls;
+      faults = s.faults;
+    } };
+
+    ghost invariant = { λ s. s.place ≤ vec_len s.bytes };
+}
+
+impl MemSource {
+    /// A source of these bytes, no call of which was made.
+    pub fn of(alloc: Global, bytes: &[u8], failing: &[u64]) -> Result<MemSource, NoMemory>
+        ensures { IfOk result (λ s. s ≡ record { left = bytes.now; failing = failing.now; calls = 0; faults = 0 }) }
+    {
+        Ok(MemSource {
+            bytes: bytes.to_vec(alloc)?,
+            place: 0,
+            failing: failing.to_vec(alloc)?,
+            calls: 0,
+            faults: 0,
+        })
+    }
+}
+
+impl Source for MemSource {
+    ghost tells = { Unit {0} };
+
+    ghost left = { λ s. s.left };
+
+    ghost faults = { λ s. s.faults };
+
+    fn read(&mut self, into: &mut [u8]) -> Result<usize, Failed>
+        ensures bound { IfOk result (λ n. n ≤ length into.old) }
+        ensures bytes { IfOk result (λ n. Moves n self.old.left self.new.left into.old into.new) }
+        ensures end { 0 < length into.old → IfOk result (λ n. (n ≡ 0) ↔ (self.old.left ≡ [])) }
+        ensures failed { OnErr result (self.new.left ≡ self.old.left) }
+        ensures cause { HasCause self.old.faults self.new.faults result }
+
+        // It fails where the list says so, and only there.
+        ensures listed { is_err result ≡ is_failing self.old.failing self.old.calls }
+        ensures ok { IfOk result (λ n. (n ≡ min (length into.old) (length self.old.left)) × (self.new ≡ gave n self.old)) }
+        ensures err { OnErr result ((self.new ≡ source_failed self.old) × (into.new ≡ into.old)) }
+    {
+        let calls = self.calls;
+        self.calls = one_more(calls);
+        if is_next_failing(&self.failing, calls) {
+            self.faults = one_more(self.faults);
+            return Err(Failed);
+        }
+        let count = copy_front(&self.bytes[self.place..], into);
+        self.place += count;
+        Ok(count)
+    }
+}
+
+// Copies as much as there is and has room.
+fn copy_front(from: &[u8], into: &mut [u8]) -> usize
+    ensures count { result ≡ min (length into.old) (length from.now) }
+    ensures front { into.new ≡ take result from.now ++ drop result into.old }
+{
+    let count = from.len().min(into.len());
+    into[..count].copy_from_slice(&from[..count]);
+    count
+}

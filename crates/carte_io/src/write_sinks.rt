@@ -1,0 +1,73 @@
+ghost use Rattle.std.specs.Prelude.{◌≡◌, ◌<◌, ◌≤◌, [], length, is_ok, if◌then◌else◌, IfOk};
+ghost use Rattle.std.specs.Io.KnownBytes.{Keeps, WriteAppends};
+ghost use Rattle.carte_io.specs.Causes.{HasCause, counted};
+
+use crate::counts::{counted_answer, one_more};
+use crate::{Failed, Sink};
+use std::io::Write;
+use std::marker::Model;
+
+/// One of std's writers as a sink. It tells no bytes. Each error is a counted failure, and so is a call
+/// that takes no byte of a piece that has some. To finish is to flush.
+#[derive(Drop)]
+pub struct WriteSink<W> {
+    writer: W,
+    faults: u64,
+}
+
+impl<W> Model for WriteSink<W> {
+    ghost use Rattle.std.specs.Prelude.{ℕ};
+
+    ghost Value = { W × ℕ };
+
+    ghost view = { λ s. (s.writer, s.faults) };
+}
+
+impl<W: Write + Drop> WriteSink<W> {
+    /// A sink whose bytes the writer takes, no call of which was made.
+    pub fn of(writer: W) -> WriteSink<W>
+        ensures { result ≡ (writer, 0) }
+    {
+        WriteSink { writer, faults: 0 }
+    }
+}
+
+impl<W: Write + Drop> Sink for WriteSink<W> {
+    ghost tells = { ⊥ };
+
+    ghost taken = { λ _. [] };
+
+    ghost handed = { λ _. 0 };
+
+    ghost faults = { λ s. s.1 };
+
+    ghost handed_taken = { λ _ never. absurd never };
+
+    fn write(&mut self, piece: &[u8]) -> Result<usize, Failed>
+        ensures bound { IfOk result (λ n. n ≤ length piece.now) }
+        ensures some { 0 < length piece.now → IfOk result (λ n. 0 < n) }
+        ensures cause { HasCause self.old.1 self.new.1 result }
+
+        // It is one call of the writer.
+        ensures taken { WriteAppends (W.contents self.old.0) (W.contents self.new.0) result piece.now }
+        ensures counts { self.new.1 ≡ (if is_ok result then self.old.1 else counted self.old.1) }
+    {
+        match self.writer.write(piece) {
+            Ok(count) if count > 0 || piece.is_empty() => Ok(count),
+            _ => {
+                self.faults = one_more(self.faults);
+                Err(Failed)
+            }
+        }
+    }
+
+    fn finish(&mut self) -> Result<(), Failed>
+        ensures cause { HasCause self.old.1 self.new.1 result }
+
+        // It is one call of the writer.
+        ensures kept { Keeps (W.contents self.old.0) (W.contents self.new.0) }
+        ensures counts { self.new.1 ≡ (if is_ok result then self.old.1 else counted self.old.1) }
+    {
+        counted_answer(self.writer.flush(), &mut self.faults)
+    }
+}

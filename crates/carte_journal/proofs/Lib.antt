@@ -1,0 +1,5 @@
+pub mod Walks
+pub mod Files
+pub mod Readings
+pub mod Commits
+pub mod ManyCommits

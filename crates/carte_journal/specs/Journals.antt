@@ -1,0 +1,48 @@
+-- What a journal stands for, and what a commit may leave.
+use Rattle.std.specs.Prelude.{◌≡◌, ◌⊎◌, ℕ, ◌+◌, nat_le, Bool, true, false, cond, List, [], ◌∷◌, ◌++◌, length}
+use Rattle.carte_io.specs.Disk.{IsSettled, Story}
+use Rattle.carte_journal.specs.Frames.{BodyAt, Ends, Bad, Reading, end_of, reading}
+
+-- a journal as its clauses see it: the closed gate byte behind its frames, the most bytes that its file may have,
+-- whether the header has still to be written, and whether a commit of it failed
+pub record Standing : Type 0 where
+  pub gate : ℕ
+  pub limit : ℕ
+  pub fresh : Bool
+  pub broken : Bool
+
+-- the journal stands for these bodies, and the file holds them
+pub record IsRead (j : Standing) (bodies : List BodyAt) (file : List ℕ) : Type 0 where
+  pub reads : reading j.limit file ≡ Ends j.gate bodies
+  pub fresh_is : j.fresh ≡ nat_le (length file) 9
+
+-- and all of the file is on the disk
+pub record IsAtRest (j : Standing) (bodies : List BodyAt) (story : Story) : Type 0 where
+  pub read : IsRead j bodies story.now.reads
+  pub settled : IsSettled story.now
+
+-- the offset at which a reading is bad
+abbrev pub IsBadAt : Reading → ℕ → Type 0
+IsBadAt (Ends gate bodies) offset = ⊥
+IsBadAt (Bad gate) offset = offset ≡ gate
+
+-- how many bytes the file needs with one body more
+abbrev pub needed_for : Standing → List ℕ → ℕ
+needed_for j body = end_of j.gate body + 1
+
+-- how many writing calls a commit makes
+abbrev pub calls_of : Standing → ℕ
+calls_of j = cond j.fresh 6 4
+
+-- the journal after a commit of a body
+abbrev pub committed : Standing → List ℕ → Standing
+committed j body = record { gate = end_of j.gate body; limit = j.limit; fresh = false; broken = false }
+
+-- a commit of it failed
+abbrev pub broke : Standing → Standing
+broke j = record j { broken = true }
+
+-- the file holds these bodies, and then this one or not, whole
+abbrev pub IsBeforeOrAfter : ℕ → ℕ → List BodyAt → List ℕ → List ℕ → Type 0
+IsBeforeOrAfter limit gate bodies body file =
+    (reading limit file ≡ Ends gate bodies) ⊎ (reading limit file ≡ Ends (end_of gate body) (bodies ++ (gate, body) ∷ []))

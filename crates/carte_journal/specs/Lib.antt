@@ -1,0 +1,4 @@
+pub mod Frames
+pub mod Journals
+pub mod Ready
+pub mod Runs

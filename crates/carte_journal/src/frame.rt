@@ -1,0 +1,55 @@
+// A body as it is written to a journal.
+ghost use Rattle.std.specs.Prelude.{◌≡◌, ◌<◌, ◌^◌, length, IfOk};
+ghost use Rattle.carte_journal.specs.Frames.{piece_of};
+
+use carte_io::NoMemory;
+use std::alloc::Global;
+use std::marker::Model;
+
+/// A body that is ready to be written. It is made before a commit, so that the commit needs no memory.
+#[derive(Drop)]
+pub struct Frame {
+    piece: Vec<u8>,
+}
+
+impl Model for Frame {
+    ghost use Rattle.std.specs.Prelude.{◌≡◌, ◌<◌, ◌^◌, ℕ, List, length};
+    ghost use Rattle.carte_journal.specs.Frames.{body_in, piece_of};
+
+    ghost Value = { List ℕ };
+
+    ghost view = { λ f. body_in f.piece.items };
+
+    ghost invariant = { λ f. (f.piece.items ≡ piece_of (body_in f.piece.items)) × (length (body_in f.piece.items) < 2 ^ 32) };
+}
+
+impl Frame {
+    /// The frame of a body.
+    pub fn of(alloc: Global, body: &[u8]) -> Result<Frame, NoMemory>
+        requires { length body.now < 2 ^ 32 }
+        ensures { IfOk result (λ f. f ≡ body.now) }
+    {
+        let size = (body.len() as u32).to_be_bytes();
+        let mut piece = Vec::with_capacity(alloc, body.len() + 5)?;
+        piece.extend_from_slice(&size)?;
+        piece.extend_from_slice(body)?;
+        piece.push(0)?;
+        Ok(Frame { piece })
+    }
+
+    /// The length of its body.
+    pub(crate) fn len(&self) -> u64
+        ensures len { result ≡ length self.now }
+        ensures short { length self.now < 2 ^ 32 }
+    {
+        self.piece.len() as u64 - 5
+    }
+
+    /// The bytes behind its gate byte.
+    pub(crate) fn piece(&self) -> &[u8]
+        ensures piece { result.now ≡ piece_of self.now }
+        ensures short { length self.now < 2 ^ 32 }
+    {
+        &self.piece
+    }
+}

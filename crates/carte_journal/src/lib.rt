@@ -1,0 +1,33 @@
+//! A journal: bodies of bytes that are added to a file one after another, each of them whole or not at all.
+//!
+//! A file begins with `CARTE01` and a line feed. Behind that stand frames, from the gate byte at offset 8 on: a
+//! gate byte, a length of 4 bytes with the highest first, a body of that length, and then the next gate byte. A
+//! gate byte of 1 is open, and any other is closed. The bodies of a file are those up to the first closed one.
+//!
+//! A commit writes length, body and a closed gate byte behind the standing closed one, syncs, writes a 1 over
+//! that, and syncs again. Between two syncs a crash may leave any bytes in what was written, so the byte that
+//! counts is written alone, once all that it stands for is on the disk. A checksum would do with one sync, but
+//! then a body that was torn could pass for a whole one, by chance, and no theorem could rule it out.
+//!
+//! What a file holds is a function of its bytes, `reading` in `specs/Frames.antt`, which shares nothing with the
+//! code: it walks over the bytes, where the code seeks by offsets. The contract of `commit` says what an image
+//! reads as, at each moment. For calls one after another that becomes a chain: see `commit_all`.
+//!
+//! A journal doesn't hold its disk. It would be simpler to use, but a program would have to take it apart for
+//! whatever else it does with the disk.
+#![tactic(auto)]
+
+mod body;
+mod faults;
+mod frame;
+mod journal;
+mod load;
+mod many;
+mod reads;
+mod writes;
+
+pub use body::{Bodies, Body};
+pub use faults::{CommitFault, LoadFault};
+pub use frame::Frame;
+pub use journal::Journal;
+pub use many::commit_all;

@@ -1,0 +1,164 @@
+// Reading the bodies of a file.
+ghost use Rattle.std.specs.Prelude.{◌≡◌, ◌+◌, ◌-◌, ◌<◌, ◌≤◌, ◌^◌, ◌++◌, ◌∷◌, ℕ, [], true, false, length, slice_index, MatchOption, IsOkUnless, IfOk, IfSome, Err};
+ghost use Rattle.carte_io.specs.Causes.{Rose};
+ghost use Rattle.carte_journal.specs.Frames.{Bad, Ends, add, end_of, frames_from, reading};
+ghost use Rattle.carte_journal.specs.Journals.{IsRead};
+
+use crate::reads::{has_header, read_byte, read_bytes, read_size};
+use crate::{Bodies, Body, Journal, LoadFault};
+use carte_io::Disk;
+use std::alloc::Global;
+
+impl Journal {
+    /// Reads the bodies of the frames up to the first closed gate byte. A file of at most 9 bytes is a new one,
+    /// whatever it holds. Nothing is written.
+    pub fn load<D: Disk>(
+        alloc: Global,
+        disk: &mut D,
+        limit: u64,
+    ) -> Result<(Journal, Bodies), LoadFault>
+        requires { limit < 2 ^ 32 }
+        ensures read { D.tells → IfOk result (λ r. IsRead r.0 r.1 (D.story disk.old).now.reads) }
+        ensures starts { IfOk result (λ r. (r.0.limit ≡ limit) × (r.0.broken ≡ false)) }
+
+        // So a state is bad exactly where the definition says.
+        ensures bad { D.tells → (offset : ℕ) → result ≡ Err (LoadFault.BadState offset)
+            → reading limit (D.story disk.old).now.reads ≡ Bad offset }
+        ensures cause { result ≡ Err LoadFault.DiskFault → Rose (D.faults disk.old) (D.faults disk.new) }
+        ensures later { D.faults disk.old ≤ D.faults disk.new }
+        ensures same { D.tells → D.story disk.new ≡ D.story disk.old }
+    {
+        let len = match disk.len() {
+            Ok(len) => len,
+            Err(_) => return Err(LoadFault::DiskFault),
+        };
+        if len <= 9 {
+            return Ok((Journal::at(8, limit, true), Bodies::new(alloc)));
+        }
+        match has_header(disk) {
+            Ok(true) => {}
+            Ok(false) => return Err(LoadFault::BadState(0)),
+            Err(_) => return Err(LoadFault::DiskFault),
+        }
+        match load_bodies(alloc, disk, len, limit) {
+            Ok((gate, bodies)) => Ok((Journal::at(gate, limit, false), bodies)),
+            Err(fault) => Err(fault),
+        }
+    }
+}
+
+// The bodies behind a header, and the closed gate byte behind them.
+fn load_bodies<D: Disk>(
+    alloc: Global,
+    disk: &mut D,
+    len: u64,
+    limit: u64,
+) -> Result<(u64, Bodies), LoadFault>
+    requires limit { limit < 2 ^ 32 }
+    requires long { 9 < len }
+    requires len { D.tells → len ≡ length (D.story disk.old).now.reads }
+    ensures read { D.tells → IfOk result (λ r. frames_from limit 8 (D.story disk.old).now.reads ≡ Ends r.0 r.1) }
+    ensures gate { IfOk result (λ r. r.0 < 2 ^ 32) }
+    ensures bad { D.tells → (offset : ℕ) → result ≡ Err (LoadFault.BadState offset)
+        → frames_from limit 8 (D.story disk.old).now.reads ≡ Bad offset }
+    ensures cause { result ≡ Err LoadFault.DiskFault → Rose (D.faults disk.old) (D.faults disk.new) }
+    ensures later { D.faults disk.old ≤ D.faults disk.new }
+    ensures same { D.tells → D.story disk.new ≡ D.story disk.old }
+{
+    let mut gate = 8;
+    let mut bodies = Bodies::new(alloc);
+    'frames: loop {
+        match next_body(alloc, disk, len, limit, gate) {
+            Ok(Some(bytes)) => match add_body(&mut bodies, gate, bytes) {
+                Ok(end) => gate = end,
+                Err(fault) => return Err(fault),
+            },
+            Ok(None) => return Ok((gate, bodies)),
+            Err(fault) => return Err(fault),
+        }
+    }
+}
+
+// Adds the body of the frame at a gate byte, and gives the next gate byte.
+fn add_body(bodies: &mut Bodies, gate: u64, bytes: Vec<u8>) -> Result<u64, LoadFault>
+    requires { end_of gate bytes.items < 2 ^ 64 }
+    ensures ok { IfOk result (λ end. (end ≡ end_of gate bytes.items) × (bodies.new ≡ bodies.old ++ (gate, bytes.items) ∷ [])) }
+    ensures err { IsOkUnless result LoadFault.NoMemory }
+{
+    let end = gate + 5 + bytes.len() as u64;
+    match bodies.push(Body::with(gate, bytes)) {
+        Ok(()) => Ok(end),
+        Err(_) => Err(LoadFault::NoMemory),
+    }
+}
+
+// The body of the frame at a gate byte, or none where that is closed.
+fn next_body<D: Disk>(
+    alloc: Global,
+    disk: &mut D,
+    len: u64,
+    limit: u64,
+    gate: u64,
+) -> Result<Option<Vec<u8>>, LoadFault>
+    requires limit { limit < 2 ^ 32 }
+    requires inside { gate < len }
+    requires small { gate < 2 ^ 32 }
+    requires len { D.tells → len ≡ length (D.story disk.old).now.reads }
+    ensures read { D.tells → IfOk result (λ o. let file = (D.story disk.old).now.reads in MatchOption o
+        (frames_from limit gate file ≡ Ends gate [])
+        (λ bytes. frames_from limit gate file ≡ add (gate, bytes.items) (frames_from limit (end_of gate bytes.items) file))) }
+    ensures fits { IfOk result (λ o. IfSome o (λ bytes. (end_of gate bytes.items < limit) × (end_of gate bytes.items < len))) }
+    ensures bad { D.tells → (offset : ℕ) → result ≡ Err (LoadFault.BadState offset)
+        → frames_from limit gate (D.story disk.old).now.reads ≡ Bad offset }
+    ensures cause { result ≡ Err LoadFault.DiskFault → Rose (D.faults disk.old) (D.faults disk.new) }
+    ensures later { D.faults disk.old ≤ D.faults disk.new }
+    ensures same { D.tells → D.story disk.new ≡ D.story disk.old }
+{
+    match read_byte(disk, gate) {
+        Ok(1) => {}
+        Ok(_) => return Ok(None),
+        Err(_) => return Err(LoadFault::DiskFault),
+    }
+    match open_body(alloc, disk, len, limit, gate) {
+        Ok(bytes) => Ok(Some(bytes)),
+        Err(fault) => Err(fault),
+    }
+}
+
+// The body of the frame at an open gate byte.
+fn open_body<D: Disk>(
+    alloc: Global,
+    disk: &mut D,
+    len: u64,
+    limit: u64,
+    gate: u64,
+) -> Result<Vec<u8>, LoadFault>
+    requires limit { limit < 2 ^ 32 }
+    requires inside { gate < len }
+    requires small { gate < 2 ^ 32 }
+    requires len { D.tells → len ≡ length (D.story disk.old).now.reads }
+    ensures read { D.tells → slice_index (D.story disk.old).now.reads gate ≡ 1 → IfOk result (λ bytes. let file = (D.story disk.old).now.reads in
+        frames_from limit gate file ≡ add (gate, bytes.items) (frames_from limit (end_of gate bytes.items) file)) }
+    ensures fits { IfOk result (λ bytes. (end_of gate bytes.items < limit) × (end_of gate bytes.items < len)) }
+    ensures bad { D.tells → slice_index (D.story disk.old).now.reads gate ≡ 1 → (offset : ℕ) → result ≡ Err (LoadFault.BadState offset)
+        → frames_from limit gate (D.story disk.old).now.reads ≡ Bad offset }
+    ensures cause { result ≡ Err LoadFault.DiskFault → Rose (D.faults disk.old) (D.faults disk.new) }
+    ensures later { D.faults disk.old ≤ D.faults disk.new }
+    ensures same { D.tells → D.story disk.new ≡ D.story disk.old }
+{
+    if len - gate < 5 {
+        return Err(LoadFault::BadState(gate));
+    }
+    let size = match read_size(disk, gate + 1) {
+        Ok(size) => size,
+        Err(_) => return Err(LoadFault::DiskFault),
+    };
+    let end = gate + 6 + size as u64;
+    if end > len || end > limit {
+        return Err(LoadFault::BadState(gate));
+    }
+    match read_bytes(alloc, disk, gate + 5, size as usize) {
+        Ok(bytes) => Ok(bytes),
+        Err(fault) => Err(fault),
+    }
+}
