@@ -1,0 +1,9 @@
+pub mod Formula
+pub mod Book
+pub mod Needs
+pub mod Reason
+pub mod Terms
+pub mod Looked
+pub mod FormulaTexts
+pub mod Reading
+pub mod Found

@@ -1,0 +1,25 @@
+-- What a look-up answers.
+use Rattle.std.specs.Prelude.{ℕ, ◌≡◌, ◌↔◌, List, Option, Some, None, true, if◌then◌else◌}
+use Rattle.std.specs.BTreeSet.{BTreeSet, contains}
+use Rattle.std.specs.Ordering.{eq_by_cmp}
+use Rattle.carte_book.specs.declared.book.Item.{Item as CodeItem}
+use Rattle.carte_book.specs.declared.book.Item.TheVariants.{Input as InputItem, Rule as RuleItem}
+use Rattle.carte_value.specs.Names.{name_cmp}
+use Rattle.carte_book.specs.Book.{Item, input, rule, Book}
+use Rattle.carte_book.specs.Needs.{IsRule}
+use Rattle.carte_book.specs.declared.book.Looked.{Looked}
+use Rattle.carte_book.specs.declared.book.Looked.TheVariants.{Input as FoundInput, Rule as FoundRule, None as FoundNone}
+
+abbrev pub Answers : Option Item → Looked → Type 0
+Answers o (FoundInput v) = o ≡ Some (input v.now)
+Answers o (FoundRule f) = o ≡ Some (rule f.now.terms)
+Answers o FoundNone = o ≡ None
+
+-- the set has the names of all rules, and no other
+abbrev pub HasRules : Book → BTreeSet (List ℕ) → Type 0
+HasRules b names = (k : List ℕ) → (contains name_cmp names k ≡ true) ↔ IsRule b k
+
+-- a rule's name was put into the set
+abbrev pub AddsRule : BTreeSet (List ℕ) → BTreeSet (List ℕ) → List ℕ → CodeItem → Type 0
+AddsRule old new k (InputItem v) = (q : List ℕ) → contains name_cmp new q ≡ contains name_cmp old q
+AddsRule old new k (RuleItem f) = (q : List ℕ) → contains name_cmp new q ≡ (if eq_by_cmp name_cmp k q then true else contains name_cmp old q)

@@ -1,0 +1,76 @@
+-- The status that is due is the one that comes.
+use Rattle.std.proofs.Common.{◌≡◌, ℕ, List, Result, Ok, Err, refl, ap, sym, ◌∙◌, inl, inr, ◌⊎◌, subst}
+use Rattle.carte_book.specs.Book.{Book}
+use Rattle.carte_book.specs.Reading.{book_of}
+use Rattle.carte_book.specs.Reason.{AllClean, IsReason}
+use Rattle.carte_book.specs.declared.fault.BookFault.{BookFault}
+use Rattle.carte_book.specs.declared.fault.BookFault.TheVariants.{Limit, NotToml, NotYet, NoMemory as BookNoMemory}
+use Rattle.carte_book.specs.declared.reason.Reason.{Reason}
+use Rattle.carte_book.proofs.Reasons.{one_reason, no_reason}
+use Rattle.carte_top.specs.declared.status.WordsFault.{WordsFault}
+use Rattle.carte_top.specs.declared.status.Status.{Status}
+use Rattle.carte_top.specs.declared.status.Status.TheVariants.{Done, BookRefused, Usage, BuildRefused, ReadFault, WriteFault, NoMemory}
+use Rattle.carte_top.specs.Words.{targets_of}
+use Rattle.carte_top.specs.Around.{OverSource, OverSink, Around}
+use Rattle.carte_top.specs.Outcome.{Refuses, Ran, Ended, IsDue, IsHindered, IsOutcome}
+use Rattle.carte_top.specs.Running.{Reports}
+use Rattle.carte_top.proofs.Outcomes.{reported}
+
+same_targets : (words ts us : List (List ℕ)) → targets_of words ≡ Ok ts → targets_of words ≡ Ok us → ts ≡ us
+same_targets words ts us h g = cc
+
+same_book : (bytes : List ℕ) (b c : Book) → book_of bytes ≡ Ok b → book_of bytes ≡ Ok c → b ≡ c
+same_book bytes b c h g = cc
+
+refusal : (s : OverSource) (fault : BookFault) → s.tells → Refuses s fault → book_of s.left ≡ Err fault
+refusal s BookNoMemory tells h = absurd h
+refusal s (Limit w n) tells h = h tells
+refusal s NotToml tells h = h tells
+refusal s NotYet tells h = h tells
+
+module _ (words : List (List ℕ)) (s : OverSource) (k : OverSink) where
+  due_comes : (status due : Status) → Ran words s k status → IsDue words s due → (status ≡ due) ⊎ IsHindered status
+  due_comes ReadFault due ran is = inr tt
+  due_comes WriteFault due ran is = inr tt
+  due_comes NoMemory due ran is = inr tt
+  due_comes status ReadFault ran is = absurd is
+  due_comes status WriteFault ran is = absurd is
+  due_comes status NoMemory ran is = absurd is
+  due_comes Done Done ran is = inl refl
+  due_comes Done (BookRefused f) ran is = let held = ran.2 is.2.0 in let e = held.1 in let g = is.2.1 in cc
+  due_comes Done (Usage f) ran is = let e = ran.1 in cc
+  due_comes Done (BuildRefused r) ran is =
+    let held = ran.2 is.2.0 in
+    let ts = same_targets words ran.0 is.0 ran.1 is.1 in
+    let b = same_book s.left held.0 is.2.1 held.1 is.2.2 in
+    absurd (no_reason is.2.1 is.0 r is.2.3 (rw (b, ts) at held.2.0))
+  due_comes (BookRefused f) Done ran is = let e = refusal s f is.2.0 ran.2.0 in let g = is.2.2 in cc
+  due_comes (BookRefused f) (BookRefused g) ran is = let e = refusal s f is.2.0 ran.2.0 in let d = is.2.1 in inl (let same : f ≡ g = cc in ap BookRefused same)
+  due_comes (BookRefused f) (Usage g) ran is = let e = ran.1 in cc
+  due_comes (BookRefused f) (BuildRefused r) ran is = let e = refusal s f is.2.0 ran.2.0 in let g = is.2.2 in cc
+  due_comes (Usage f) Done ran is = let e = ran.0 in let g = is.1 in cc
+  due_comes (Usage f) (BookRefused g) ran is = let e = ran.0 in let d = is.1 in cc
+  due_comes (Usage f) (Usage g) ran is = let e = ran.0 in inl (let same : f ≡ g = cc in ap Usage same)
+  due_comes (Usage f) (BuildRefused r) ran is = let e = ran.0 in let g = is.1 in cc
+  due_comes (BuildRefused r) Done ran is =
+    let held = ran.2.0 is.2.0 in
+    let ts = same_targets words is.0 ran.0 is.1 ran.1 in
+    let b = same_book s.left is.2.1 held.0 is.2.2 held.1 in
+    absurd (no_reason held.0 ran.0 r held.2 (rw (b, ts) at is.2.3))
+  due_comes (BuildRefused r) (BookRefused f) ran is = let held = ran.2.0 is.2.0 in let e = held.1 in let g = is.2.1 in cc
+  due_comes (BuildRefused r) (Usage f) ran is = let e = ran.1 in cc
+  due_comes (BuildRefused r) (BuildRefused q) ran is =
+    let held = ran.2.0 is.2.0 in
+    let ts = same_targets words is.0 ran.0 is.1 ran.1 in
+    let b = same_book s.left is.2.1 held.0 is.2.2 held.1 in
+    inl (ap BuildRefused (one_reason held.0 ran.0 r q held.2 (rw (b, ts) at is.2.3)))
+
+pub outcome : (a : Around) (old new : Status) → Ran a.words a.book a.out old → Reports old new → Ended a.err new → IsOutcome a new
+outcome a old new ran reports ended = record {
+  ran = there;
+  ended = ended;
+  complete = λ due is. due_comes a.words a.book a.out new due there is;
+}
+  where
+    there : Ran a.words a.book a.out new
+    there = reported a.words a.book a.out old new reports ran

@@ -1,0 +1,59 @@
+-- The line that is written where the status isn't 0.
+use Rattle.std.specs.Prelude.{ℕ, List, [], ◌∷◌, ◌++◌, codes}
+use Rattle.std.specs.Fmt.{decimal}
+use Rattle.carte_value.specs.Printed.{quoted}
+use Rattle.carte_book.specs.declared.fault.Which.{Which}
+use Rattle.carte_book.specs.declared.fault.Which.TheVariants.{Bytes}
+use Rattle.carte_book.specs.declared.fault.BookFault.{BookFault}
+use Rattle.carte_book.specs.declared.fault.BookFault.TheVariants.{Limit, NotToml, NotYet, NoMemory as BookNoMemory}
+use Rattle.carte_book.specs.declared.reason.Reason.{Reason}
+use Rattle.carte_book.specs.declared.reason.Reason.TheVariants.{Cycle, Missing}
+use Rattle.carte_top.specs.declared.status.WordsFault.{WordsFault}
+use Rattle.carte_top.specs.declared.status.WordsFault.TheVariants.{Words, NoTarget, BadTarget}
+use Rattle.carte_top.specs.declared.status.Status.{Status}
+use Rattle.carte_top.specs.declared.status.Status.TheVariants.{Done, BookRefused, Usage, BuildRefused, ReadFault, WriteFault, NoMemory}
+
+abbrev pub which_text : Which → List ℕ
+which_text Bytes = codes "bytes"
+
+abbrev pub book_fault_text : BookFault → List ℕ
+book_fault_text (Limit which n) = codes "more than " ++ (decimal n ++ (codes " " ++ which_text which))
+book_fault_text NotToml = codes "not TOML"
+book_fault_text NotYet = codes "not yet"
+book_fault_text BookNoMemory = codes "out of memory"
+
+abbrev pub words_fault_text : WordsFault → List ℕ
+words_fault_text Words = codes "the words are no command"
+words_fault_text NoTarget = codes "no target"
+words_fault_text (BadTarget word) = codes "bad target " ++ quoted word
+
+abbrev pub arrows : List (List ℕ) → List ℕ
+arrows [] = []
+arrows (k ∷ ks) = codes " -> " ++ (k ++ arrows ks)
+
+-- the names with ` -> ` between them
+abbrev pub path_text : List (List ℕ) → List ℕ
+path_text [] = []
+path_text (k ∷ ks) = k ++ arrows ks
+
+abbrev pub reason_text : Reason → List ℕ
+reason_text (Cycle path) = codes "cycle: " ++ path_text path
+reason_text (Missing path) = codes "missing: " ++ path_text path
+
+abbrev pub status_text : Status → List ℕ
+status_text Done = []
+status_text (BookRefused fault) = codes "book refused: " ++ book_fault_text fault
+status_text (Usage fault) = codes "usage: " ++ words_fault_text fault
+status_text (BuildRefused reason) = reason_text reason
+status_text ReadFault = codes "a read failed"
+status_text WriteFault = []
+status_text NoMemory = codes "out of memory"
+
+abbrev pub line : List ℕ → List ℕ
+line text = codes "carte: " ++ (text ++ 10 ∷ [])
+
+-- nothing is said where all was done, or where the reply couldn't be written
+abbrev pub error_line : Status → List ℕ
+error_line Done = []
+error_line WriteFault = []
+error_line status = line (status_text status)

@@ -1,0 +1,102 @@
+ghost use Rattle.std.specs.Prelude.{◌≡◌, ◌++◌, ◌∷◌, [], codes, IfOk, OnOk, string_bytes, unwrap_or};
+ghost use Rattle.std.specs.BTreeMap.{btree_map_len};
+ghost use Rattle.carte_value.specs.Printed.{printed};
+ghost use Rattle.carte_book.specs.Book.{book_view};
+ghost use Rattle.carte_top.specs.Known.{part};
+ghost use Rattle.carte_top.specs.Reply.{target_line, target_lines, counts_line};
+
+use crate::known::Known;
+use carte_book::{Book, Look};
+use carte_value::{Name, NoMemory, Value};
+use std::alloc::Global;
+use std::collections::BTreeMap;
+
+/// The lines of the targets, and the line of counts.
+pub(crate) fn reply(
+    alloc: Global,
+    book: &Book,
+    done: &BTreeMap<Name, Value>,
+    targets: &[Name],
+) -> Result<String, NoMemory>
+    ensures { IfOk result (λ text. string_bytes text
+        ≡ target_lines (part (book_view book.now) done.now) targets.now ++ counts_line (btree_map_len done.now)) }
+{
+    let mut text = match lines(alloc, book, done, targets) {
+        Ok(text) => text,
+        Err(refused) => return Err(refused),
+    };
+    match push_counts(alloc, &mut text, done.len()) {
+        Ok(()) => Ok(text),
+        Err(refused) => Err(refused),
+    }
+}
+
+fn lines(
+    alloc: Global,
+    book: &Book,
+    done: &BTreeMap<Name, Value>,
+    targets: &[Name],
+) -> Result<String, NoMemory>
+    ensures { IfOk result (λ text. string_bytes text ≡ target_lines (part (book_view book.now) done.now) targets.now) }
+{
+    let mut text = String::new(alloc);
+    for target in targets {
+        if let Err(refused) = push_target(alloc, &mut text, book, done, target) {
+            return Err(refused);
+        }
+    }
+    Ok(text)
+}
+
+fn push_target(
+    alloc: Global,
+    text: &mut String,
+    book: &Book,
+    done: &BTreeMap<Name, Value>,
+    target: &Name,
+) -> Result<(), NoMemory>
+    ensures { OnOk result (string_bytes text.new
+        ≡ string_bytes text.old ++ target_line (part (book_view book.now) done.now) target.now) }
+{
+    match value_text(alloc, book, done, target) {
+        Ok(value) => push_line(text, target.text(), value.as_str()),
+        Err(refused) => Err(refused),
+    }
+}
+
+fn value_text(
+    alloc: Global,
+    book: &Book,
+    done: &BTreeMap<Name, Value>,
+    target: &Name,
+) -> Result<String, NoMemory>
+    ensures { IfOk result (λ text. string_bytes text
+        ≡ printed (unwrap_or (part (book_view book.now) done.now target.now) Value.Empty)) }
+{
+    let known = Known { book, done };
+    match known.look(target) {
+        Some(value) => value.print(alloc),
+        None => Value::Empty.print(alloc),
+    }
+}
+
+fn push_line(text: &mut String, name: &str, value: &str) -> Result<(), NoMemory>
+    ensures { OnOk result (string_bytes text.new
+        ≡ string_bytes text.old ++ (name.now ++ (codes " = " ++ (value.now ++ 10 ∷ [])))) }
+{
+    text.push_str(name)?;
+    text.push_str(" = ")?;
+    text.push_str(value)?;
+    text.push_str("\n")?;
+    Ok(())
+}
+
+fn push_counts(alloc: Global, text: &mut String, ran: usize) -> Result<(), NoMemory>
+    ensures { OnOk result (string_bytes text.new ≡ string_bytes text.old ++ counts_line ran) }
+{
+    let ran = ran.to_string(alloc)?;
+    text.push_str("ran ")?;
+    text.push_str(ran.as_str())?;
+    text.push_str(", given up 0, reused 0\n")?;
+    Ok(())
+}

@@ -1,0 +1,217 @@
+ghost use Rattle.std.specs.Prelude.{◌≡◌, ◌++◌};
+ghost use Rattle.std.specs.BTreeMap.{btree_map_len};
+ghost use Rattle.carte_book.specs.Book.{book_view};
+ghost use Rattle.carte_top.specs.Known.{part};
+ghost use Rattle.carte_top.specs.Reply.{target_lines, counts_line};
+ghost use Rattle.carte_top.specs.Around.{Says};
+ghost use Rattle.carte_top.specs.Outcome.{IsOutcome, Ran, Built, Ended};
+ghost use Rattle.carte_top.specs.Running.{Parses, Loads, Prints, Answers, Reports, refusal_of, usage_of, unread_of, unparsed_of, is_spoken};
+
+use crate::build::build;
+use crate::reply::reply;
+use crate::texts::{line, memory_line};
+use crate::walk::BuildFault;
+use crate::words::{WordsEnd, read_targets};
+use crate::{Status, Word};
+use carte_book::{Book, BookFault, Which, read_rules};
+use carte_io::{ReadEnd, Sink, Source, read_whole, write_all};
+use carte_value::{Name, Names, Value};
+use std::alloc::Global;
+use std::collections::BTreeMap;
+
+const MOST_BYTES: usize = 16777216;
+
+/// All that the program does: reads the command in the words, reads the book, builds the targets, writes
+/// the reply to `out`, and where something went wrong one line to `err`.
+pub fn carte<B: Source, O: Sink, E: Sink>(
+    alloc: Global,
+    words: &[Word],
+    book: &mut B,
+    out: &mut O,
+    err: &mut E,
+) -> Status
+    ensures { IsOutcome
+        (record {
+            words = words.now;
+            book = record { tells = B.tells; left = B.left book.old; left' = B.left book.new; faults = B.faults book.old; faults' = B.faults book.new };
+            out = record { tells = O.tells; taken = O.taken out.old; taken' = O.taken out.new; handed = O.handed out.old; handed' = O.handed out.new; faults = O.faults out.old; faults' = O.faults out.new };
+            err = record { tells = E.tells; taken = E.taken err.old; taken' = E.taken err.new; handed = E.handed err.old; handed' = E.handed err.new; faults = E.faults err.old; faults' = E.faults err.new };
+        })
+        result }
+{
+    let status = run(alloc, words, book, out);
+    report(alloc, err, status)
+}
+
+fn run<B: Source, O: Sink>(alloc: Global, words: &[Word], book: &mut B, out: &mut O) -> Status
+    ensures { Ran words.now
+        (record { tells = B.tells; left = B.left book.old; left' = B.left book.new; faults = B.faults book.old; faults' = B.faults book.new })
+        (record { tells = O.tells; taken = O.taken out.old; taken' = O.taken out.new; handed = O.handed out.old; handed' = O.handed out.new; faults = O.faults out.old; faults' = O.faults out.new })
+        result }
+{
+    match read_targets(alloc, words) {
+        Ok(targets) => run_build(alloc, &targets, book, out),
+        Err(end) => usage(end),
+    }
+}
+
+fn usage(end: WordsEnd) -> Status
+    ensures { result ≡ usage_of end }
+{
+    match end {
+        WordsEnd::Fault(fault) => Status::Usage(fault),
+        WordsEnd::NoMemory => Status::NoMemory,
+    }
+}
+
+fn run_build<B: Source, O: Sink>(
+    alloc: Global,
+    targets: &Names,
+    book: &mut B,
+    out: &mut O,
+) -> Status
+    ensures { Built targets.now
+        (record { tells = B.tells; left = B.left book.old; left' = B.left book.new; faults = B.faults book.old; faults' = B.faults book.new })
+        (record { tells = O.tells; taken = O.taken out.old; taken' = O.taken out.new; handed = O.handed out.old; handed' = O.handed out.new; faults = O.faults out.old; faults' = O.faults out.new })
+        result }
+{
+    match load(alloc, book) {
+        Ok(book) => answer(alloc, &book, targets, out),
+        Err(status) => status,
+    }
+}
+
+fn load<B: Source>(alloc: Global, source: &mut B) -> Result<Book, Status>
+    ensures { Loads
+        (record { tells = B.tells; left = B.left source.old; left' = B.left source.new; faults = B.faults source.old; faults' = B.faults source.new })
+        result }
+{
+    match read_whole(alloc, source, MOST_BYTES) {
+        Ok(bytes) => parse(alloc, bytes.as_slice()),
+        Err(end) => Err(unread(end)),
+    }
+}
+
+fn unread(end: ReadEnd) -> Status
+    ensures { result ≡ unread_of end }
+{
+    match end {
+        ReadEnd::TooLong => Status::BookRefused(BookFault::Limit(Which::Bytes, 16777216)),
+        ReadEnd::Failed => Status::ReadFault,
+        ReadEnd::NoMemory => Status::NoMemory,
+    }
+}
+
+fn parse(alloc: Global, bytes: &[u8]) -> Result<Book, Status>
+    ensures { Parses bytes.now result }
+{
+    match read_rules(alloc, bytes) {
+        Ok(book) => Ok(book),
+        Err(fault) => Err(unparsed(fault)),
+    }
+}
+
+fn unparsed(fault: BookFault) -> Status
+    ensures { result ≡ unparsed_of fault }
+{
+    match fault {
+        BookFault::NoMemory => Status::NoMemory,
+        fault => Status::BookRefused(fault),
+    }
+}
+
+fn answer<O: Sink>(alloc: Global, book: &Book, targets: &Names, out: &mut O) -> Status
+    ensures { Answers (book_view book.now) targets.now
+        (record { tells = O.tells; taken = O.taken out.old; taken' = O.taken out.new; handed = O.handed out.old; handed' = O.handed out.new; faults = O.faults out.old; faults' = O.faults out.new })
+        result }
+{
+    match build(alloc, book, targets.as_slice()) {
+        Ok(done) => print(alloc, book, &done, targets.as_slice(), out),
+        Err(fault) => refusal(fault),
+    }
+}
+
+fn refusal(fault: BuildFault) -> Status
+    ensures { result ≡ refusal_of fault }
+{
+    match fault {
+        BuildFault::Refused(reason) => Status::BuildRefused(reason),
+        BuildFault::NoMemory => Status::NoMemory,
+    }
+}
+
+fn print<O: Sink>(
+    alloc: Global,
+    book: &Book,
+    done: &BTreeMap<Name, Value>,
+    targets: &[Name],
+    out: &mut O,
+) -> Status
+    ensures { Prints (target_lines (part (book_view book.now) done.now) targets.now ++ counts_line (btree_map_len done.now))
+        (record { tells = O.tells; taken = O.taken out.old; taken' = O.taken out.new; handed = O.handed out.old; handed' = O.handed out.new; faults = O.faults out.old; faults' = O.faults out.new })
+        result }
+{
+    match reply(alloc, book, done, targets) {
+        Ok(text) => write_whole(out, text.as_str().as_bytes()),
+        Err(_) => Status::NoMemory,
+    }
+}
+
+fn write_whole<O: Sink>(out: &mut O, bytes: &[u8]) -> Status
+    ensures { Prints bytes.now
+        (record { tells = O.tells; taken = O.taken out.old; taken' = O.taken out.new; handed = O.handed out.old; handed' = O.handed out.new; faults = O.faults out.old; faults' = O.faults out.new })
+        result }
+{
+    match write_all(out, bytes) {
+        Ok(()) => match out.finish() {
+            Ok(()) => Status::Done,
+            Err(_) => Status::WriteFault,
+        },
+        Err(_) => Status::WriteFault,
+    }
+}
+
+// The line is written before the status is told; where there is no memory for it, that is the status.
+fn report<E: Sink>(alloc: Global, err: &mut E, status: Status) -> Status
+    ensures reports { Reports status result }
+    ensures ended { Ended
+        (record { tells = E.tells; taken = E.taken err.old; taken' = E.taken err.new; handed = E.handed err.old; handed' = E.handed err.new; faults = E.faults err.old; faults' = E.faults err.new })
+        result }
+{
+    if !spoken(&status) {
+        return status;
+    }
+    match line(alloc, &status) {
+        Ok(text) => {
+            say(err, text.as_str().as_bytes());
+            status
+        }
+        Err(_) => {
+            say(err, memory_line().as_bytes());
+            Status::NoMemory
+        }
+    }
+}
+
+fn spoken(status: &Status) -> bool
+    ensures { result ≡ is_spoken status.now }
+{
+    match status {
+        Status::Done => false,
+        Status::WriteFault => false,
+        _ => true,
+    }
+}
+
+fn say<E: Sink>(err: &mut E, bytes: &[u8])
+    ensures { Says
+        (record { tells = E.tells; taken = E.taken err.old; taken' = E.taken err.new; handed = E.handed err.old; handed' = E.handed err.new; faults = E.faults err.old; faults' = E.faults err.new })
+        bytes.now }
+{
+    match write_all(err, bytes) {
+        Ok(()) => {
+            let _ = err.finish();
+        }
+        Err(_) => {}
+    }
+}
