@@ -70,16 +70,16 @@ fn committed(alloc: Global, failing: &[u64], calls: u64) -> Result<(MemDisk, boo
     Ok((disk, done && !journal.is_broken()))
 }
 
-// The number of bodies of a disk, and that after one more commit.
-fn bodies_then(alloc: Global, disk: &mut MemDisk) -> Result<(usize, usize), NoMemory> {
+// The number of bodies of a disk, and whether there is one more after one more commit.
+fn bodies_then(alloc: Global, disk: &mut MemDisk) -> Result<(usize, bool), NoMemory> {
     let frame = Frame::of(alloc, b"cd")?;
     let Ok((mut journal, bodies)) = Journal::load(alloc, disk, 1000) else {
-        return Ok((99, 99));
+        return Ok((99, false));
     };
     let _ = journal.commit(disk, &frame);
     match Journal::load(alloc, disk, 1000) {
-        Ok((_journal, more)) => Ok((bodies.len(), more.len())),
-        Err(_) => Ok((bodies.len(), 99)),
+        Ok((_journal, more)) => Ok((bodies.len(), more.len() == bodies.len() + 1)),
+        Err(_) => Ok((bodies.len(), false)),
     }
 }
 
@@ -102,7 +102,7 @@ fn crashes_of_the_first_commit(rt: HostRuntime) -> Result<(), Fail> {
         for (pick, want) in picks.iter().zip(&wants) {
             let mut image = disk.crash(rt.alloc(), *pick)?;
             let got = bodies_then(rt.alloc(), &mut image)?;
-            assert_eq!(rt; got, (*want, *want + 1), "{calls} calls and then {pick:?}");
+            assert_eq!(rt; got, (*want, true), "{calls} calls and then {pick:?}");
         }
     }
     Ok(())
@@ -127,7 +127,7 @@ fn each_call_fails_in_turn(rt: HostRuntime) -> Result<(), Fail> {
         let mut image = disk.crash(rt.alloc(), Pick::Kept)?;
         assert_eq!(rt;
             bodies_then(rt.alloc(), &mut image)?,
-            (want, want + 1),
+            (want, true),
             "call {call}"
         );
     }
