@@ -43,3 +43,6 @@ pub use sink::{Sink, write_all};
 pub use source::Source;
 pub use whole::{ReadEnd, read_whole};
 pub use write_sinks::WriteSink;
+
+#[cfg(test)]
+mod tests;

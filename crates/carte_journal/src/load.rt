@@ -114,10 +114,12 @@ fn next_body<D: Disk>(
     ensures later { D.faults disk.old ≤ D.faults disk.new }
     ensures same { D.tells → D.story disk.new ≡ D.story disk.old }
 {
-    match read_byte(disk, gate) {
-        Ok(1) => {}
-        Ok(_) => return Ok(None),
+    let byte = match read_byte(disk, gate) {
+        Ok(byte) => byte,
         Err(_) => return Err(LoadFault::DiskFault),
+    };
+    if byte != 1 {
+        return Ok(None);
     }
     match open_body(alloc, disk, len, limit, gate) {
         Ok(bytes) => Ok(Some(bytes)),

@@ -1,7 +1,7 @@
 // Writes that are on the disk before the next one begins.
 ghost use Rattle.std.specs.Prelude.{◌≡◌, ◌+◌, ◌<◌, ◌≤◌, ◌^◌, ◌++◌, ◌∷◌, [], true, false, length, cond, List, ℕ, OnOk, OnErr};
 ghost use Rattle.carte_io.specs.Causes.{HasCause};
-ghost use Rattle.carte_journal.specs.Frames.{BodyAt, Ends, end_of, reading};
+ghost use Rattle.carte_journal.specs.Frames.{BodyAt, Ends, end_of, piece_of, reading};
 ghost use Rattle.carte_journal.specs.Journals.{IsAtRest, IsBeforeOrAfter, Standing};
 ghost use Rattle.carte_journal.specs.Ready.{IsReadyAt, start_bytes};
 ghost use Rattle.carte_io.specs.Disk.{IsSettled, IsTorn, LeavesOnly, did_sync, range_of, wrote};
@@ -38,6 +38,19 @@ fn write_start<D: Disk>(disk: &mut D) -> Result<(), Failed>
     ensures cause { HasCause (D.faults disk.old) (D.faults disk.new) result }
 {
     write_through(disk, 0, START.as_slice())
+}
+
+// Writes a frame behind its gate byte.
+fn write_piece<D: Disk>(disk: &mut D, gate: u64, frame: &Frame) -> Result<(), Failed>
+    requires { gate < 2 ^ 32 }
+    ensures ok { D.tells → OnOk result (D.story disk.new ≡ did_sync (wrote (gate + 1) (piece_of frame.now) (D.story disk.old))) }
+    ensures torn { D.tells → IsSettled (D.story disk.old).now
+        → LeavesOnly (D.story disk.old) (D.story disk.new) (IsTorn (range_of (gate + 1) (length (piece_of frame.now))) (D.story disk.old).now.reads) }
+    ensures fewer { D.tells → OnErr result ((D.story disk.new).passed ≤ (D.story disk.old).passed + 1) }
+    ensures cause { HasCause (D.faults disk.old) (D.faults disk.new) result }
+    ensures short { length frame.now < 2 ^ 32 }
+{
+    write_through(disk, gate + 1, frame.piece())
 }
 
 // Opens a gate byte.
@@ -79,7 +92,7 @@ pub(crate) fn put_frame<D: Disk>(disk: &mut D, gate: u64, frame: &Frame) -> Resu
     ensures fewer { D.tells → OnErr result ((D.story disk.new).passed < (D.story disk.old).passed + 4) }
     ensures cause { HasCause (D.faults disk.old) (D.faults disk.new) result }
 {
-    if let Err(failed) = write_through(disk, gate + 1, frame.piece()) {
+    if let Err(failed) = write_piece(disk, gate, frame) {
         return Err(failed);
     }
     match open_gate(disk, gate) {

@@ -1,0 +1,200 @@
+use super::*;
+use carte_io::{FileDisk, MemDisk, NoMemory, Pick};
+use std::alloc::Global;
+use std::fs::OpenOptions;
+use std::test::Fail;
+
+// Three frames, of `a`, `bc` and no bytes, at 8, 14 and 21, and the closed gate byte at 26.
+const FILE: [u8; 27] = *b"CARTE01\n\x01\0\0\0\x01a\x01\0\0\0\x02bc\x01\0\0\0\0\0";
+
+// What a front of that file gives, for each length from 0 on: a number of bodies, or A to E for a bad state at 0, 8,
+// 14, 21 or 26. From a reading of the format by a script.
+const FRONTS: [u8; 28] = *b"0000000000BBBBBCCCCCCCDDDDD3";
+
+// What the file gives with one bit turned, the lowest of each byte first. From the same script.
+const FLIPS: [u8; 216] =
+    *b"AAAAAAAAAAAAAAAAAAAAAAAAAAAAAAAAAAAAAAAAAAAAAAAAAAAAAAAAAAAAAAAA00000000BBBBBBBBBBBBBBBBBBBBBBBB1111BBBB3333333311111111CCCCCCCCCCCCCCCCCCCCCCCC222CCCCC333333333333333322222222DDDDDDDDDDDDDDDDDDDDDDDDDDDDDDDDE3333333";
+
+// How a file loads, in the letters of the tables.
+fn code(alloc: Global, bytes: &[u8]) -> Result<u8, NoMemory> {
+    let mut disk = MemDisk::of(alloc, bytes, &[])?;
+    match Journal::load(alloc, &mut disk, 1000) {
+        Ok((_journal, bodies)) => Ok(b'0' + bodies.len().min(9) as u8),
+        Err(LoadFault::BadState(0)) => Ok(b'A'),
+        Err(LoadFault::BadState(8)) => Ok(b'B'),
+        Err(LoadFault::BadState(14)) => Ok(b'C'),
+        Err(LoadFault::BadState(21)) => Ok(b'D'),
+        Err(LoadFault::BadState(26)) => Ok(b'E'),
+        Err(_) => Ok(b'?'),
+    }
+}
+
+fn flipped(alloc: Global, bit: usize) -> Result<Vec<u8>, NoMemory> {
+    let mut bytes = FILE.to_vec(alloc)?;
+    if let Some(byte) = bytes.get_mut(bit / 8) {
+        *byte ^= 1u8 << (bit % 8);
+    }
+    Ok(bytes)
+}
+
+#[test]
+fn damaged_files_load_by_the_format(rt: HostRuntime) -> Result<(), Fail> {
+    for (len, want) in FRONTS.iter().enumerate() {
+        let front = FILE.get(..len).unwrap_or(&FILE);
+        assert_eq!(rt; code(rt.alloc(), front)?, *want, "a front of {len}");
+    }
+    for (bit, want) in FLIPS.iter().enumerate() {
+        let bytes = flipped(rt.alloc(), bit)?;
+        assert_eq!(rt; code(rt.alloc(), &bytes)?, *want, "bit {bit} turned");
+    }
+    let cases = [
+        (b"CARTE01\n\x01\0\0\0\x10\x01\0".as_slice(), b'B'),
+        ([0xff; 9].as_slice(), b'0'),
+        ([0xff; 10].as_slice(), b'A'),
+    ];
+    for (bytes, want) in cases {
+        assert_eq!(rt; code(rt.alloc(), bytes)?, want);
+    }
+    Ok(())
+}
+
+// A disk after a commit of `ab` that was let make so many calls in all but those of the list, and whether it was Ok.
+fn committed(alloc: Global, failing: &[u64], calls: u64) -> Result<(MemDisk, bool), NoMemory> {
+    let mut disk = MemDisk::of(alloc, b"", failing)?;
+    let frame = Frame::of(alloc, b"ab")?;
+    let Ok((mut journal, _bodies)) = Journal::load(alloc, &mut disk, 1000) else {
+        return Ok((disk, false));
+    };
+    disk.stop_after(calls);
+    let done = journal.commit(&mut disk, &frame).is_ok();
+    Ok((disk, done && !journal.is_broken()))
+}
+
+// The number of bodies of a disk, and whether there is one more after one more commit.
+fn bodies_then(alloc: Global, disk: &mut MemDisk) -> Result<(usize, bool), NoMemory> {
+    let frame = Frame::of(alloc, b"cd")?;
+    let Ok((mut journal, bodies)) = Journal::load(alloc, disk, 1000) else {
+        return Ok((99, false));
+    };
+    let _ = journal.commit(disk, &frame);
+    match Journal::load(alloc, disk, 1000) {
+        Ok((_journal, more)) => Ok((bodies.len(), more.len() == bodies.len() + 1)),
+        Err(_) => Ok((bodies.len(), false)),
+    }
+}
+
+#[test]
+fn crashes_of_the_first_commit(rt: HostRuntime) -> Result<(), Fail> {
+    // For each number of writing calls: bodies after Lost, Kept, Fill 0x77 and Fill 0x01.
+    let cases = [
+        (0, [0, 0, 0, 0]),
+        (1, [0, 0, 0, 0]),
+        (2, [0, 0, 0, 0]),
+        (3, [0, 0, 0, 0]),
+        (4, [0, 0, 0, 0]),
+        (5, [0, 1, 0, 1]),
+        (6, [1, 1, 1, 1]),
+    ];
+    let picks = [Pick::Lost, Pick::Kept, Pick::Fill(0x77), Pick::Fill(0x01)];
+    for (calls, wants) in cases {
+        let (disk, done) = committed(rt.alloc(), &[], calls)?;
+        assert_eq!(rt; done, calls == 6);
+        for (pick, want) in picks.iter().zip(&wants) {
+            let mut image = disk.crash(rt.alloc(), *pick)?;
+            let got = bodies_then(rt.alloc(), &mut image)?;
+            assert_eq!(rt; got, (*want, true), "{calls} calls and then {pick:?}");
+        }
+    }
+    Ok(())
+}
+
+#[test]
+fn each_call_fails_in_turn(rt: HostRuntime) -> Result<(), Fail> {
+    // The length, three writes with a sync each, and none.
+    let cases = [
+        (1, 0),
+        (2, 0),
+        (3, 0),
+        (4, 0),
+        (5, 0),
+        (6, 0),
+        (7, 1),
+        (8, 1),
+    ];
+    for (call, want) in cases {
+        let (disk, done) = committed(rt.alloc(), [call].as_slice(), 100)?;
+        assert_eq!(rt; done, call == 8);
+        let mut image = disk.crash(rt.alloc(), Pick::Kept)?;
+        assert_eq!(rt;
+            bodies_then(rt.alloc(), &mut image)?,
+            (want, true),
+            "call {call}"
+        );
+    }
+    Ok(())
+}
+
+#[test]
+fn a_commit_has_its_bytes(rt: HostRuntime) -> Result<(), Fail> {
+    let (mut disk, done) = committed(rt.alloc(), &[], 100)?;
+    assert!(rt; done);
+    assert_eq!(rt; disk.bytes(), b"CARTE01\n\x01\0\0\0\x02ab\0".as_slice());
+    assert_eq!(rt; disk.passed(), 6);
+    let Ok((journal, bodies)) = Journal::load(rt.alloc(), &mut disk, 1000) else {
+        return Err(Fail::from("it loads"));
+    };
+    assert!(rt; !journal.is_broken());
+    let copy = bodies.copy(rt.alloc())?;
+    assert_eq!(rt; copy.len(), 1);
+    let first = copy.get(0).ok_or("a body")?;
+    assert_eq!(rt; (first.offset(), first.bytes()), (8, b"ab".as_slice()));
+    Ok(())
+}
+
+#[test]
+fn full_is_exact(rt: HostRuntime) -> Result<(), Fail> {
+    let frame = Frame::of(rt.alloc(), b"ab")?;
+    let mut disk = MemDisk::of(rt.alloc(), b"", &[])?;
+    let Ok((mut small, _bodies)) = Journal::load(rt.alloc(), &mut disk, 15) else {
+        return Err(Fail::from("it loads"));
+    };
+    let full = small.commit(&mut disk, &frame);
+    assert!(rt;
+        matches!(
+            full,
+            Err(CommitFault::Full {
+                needed: 16,
+                limit: 15
+            })
+        )
+    );
+    assert_eq!(rt; disk.passed(), 0);
+    let Ok((mut large, _bodies)) = Journal::load(rt.alloc(), &mut disk, 16) else {
+        return Err(Fail::from("it loads"));
+    };
+    assert!(rt; large.commit(&mut disk, &frame).is_ok());
+    Ok(())
+}
+
+#[test]
+fn a_file_holds_a_journal(rt: HostRuntime) -> Result<(), Fail> {
+    let file = OpenOptions::new()
+        .read(true)
+        .write(true)
+        .create(true)
+        .truncate(true)
+        .open(&rt, "journal_of_a_test")?;
+    let mut disk = FileDisk::of(file);
+    let frames = vec![in rt.alloc(); Frame::of(rt.alloc(), b"ab")?, Frame::of(rt.alloc(), b"")?]?;
+    let Ok((mut journal, _bodies)) = Journal::load(rt.alloc(), &mut disk, 1000) else {
+        return Err(Fail::from("it loads"));
+    };
+    assert!(rt; commit_all(&mut journal, &mut disk, &frames).is_ok());
+    let bytes = std::fs::read(&rt, "journal_of_a_test")?;
+    assert_eq!(rt;
+        bytes.as_slice(),
+        b"CARTE01\n\x01\0\0\0\x02ab\x01\0\0\0\0\0".as_slice()
+    );
+    std::fs::remove_file(&rt, "journal_of_a_test")?;
+    Ok(())
+}
