@@ -1,6 +1,7 @@
 //! Names, values and lists: what every other crate of `carte` speaks of.
 #![tactic(auto)]
 
+mod area;
 mod digest;
 mod items;
 mod kind;
@@ -9,6 +10,7 @@ mod name;
 mod text;
 mod value;
 
+pub use area::Area;
 pub use digest::Digest;
 pub use items::{Items, Same};
 pub use kind::Kind;
