@@ -4,4 +4,8 @@ pub mod Once
 pub mod Laws
 pub mod Fetches
 pub mod Fronts
+pub mod Places
+pub mod Quotes
+pub mod Readings
+pub mod Bytes
 pub mod Escapes

@@ -4,4 +4,8 @@ pub mod Kinds
 pub mod Truths
 pub mod Asks
 pub mod Once
+pub mod Areas
 pub mod Printed
+pub mod Texts
+pub mod Spelling
+pub mod Reading
