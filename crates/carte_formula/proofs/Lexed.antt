@@ -100,15 +100,15 @@ inside_kind : (q : Kind) (b : Bool) → ClassOf q (if b then closing else inside
 inside_kind q true = tt
 inside_kind q false = tt
 
-grown_kind : (q : Kind) (c : Class) (bs : List ℕ) (b : ℕ) → ClassOf q c → GrownOf q (grown_run c bs b)
-grown_kind q numeral bs b h = going_kind q (is_digit b) numeral h
-grown_kind q small bs b h = going_kind q (is_name_byte b) small h
-grown_kind q capitals bs b h = going_kind q (is_upper b) capitals h
-grown_kind q letters bs b h = going_kind q (is_letter b || is_digit b) letters h
-grown_kind q less bs b h = going_kind q ((length bs == 1) && (b == 61 || b == 62)) less h
-grown_kind q greater bs b h = going_kind q ((length bs == 1) && b == 61) greater h
-grown_kind q inside bs b h = inside_kind q (b == 34)
-grown_kind q closing bs b h = going_kind q (b == 34) inside tt
+grown_kind : (q : Kind) (c : Class) (n b : ℕ) → ClassOf q c → GrownOf q (grown_run c n b)
+grown_kind q numeral n b h = going_kind q (is_digit b) numeral h
+grown_kind q small n b h = going_kind q (is_name_byte b) small h
+grown_kind q capitals n b h = going_kind q (is_upper b) capitals h
+grown_kind q letters n b h = going_kind q (is_letter b || is_digit b) letters h
+grown_kind q less n b h = going_kind q (n == 1 && (b == 61 || b == 62)) less h
+grown_kind q greater n b h = going_kind q (n == 1 && b == 61) greater h
+grown_kind q inside n b h = inside_kind q (b == 34)
+grown_kind q closing n b h = going_kind q (b == 34) inside tt
 
 abbrev OkKind : Kind → Result (List Placed) ℕ → Type 0
 OkKind q (Ok ps) = AllOfKind q (tokens_of ps)
@@ -142,7 +142,7 @@ lexed_on q [] idle at h = tt
 lexed_on q [] (run c place bs) at h = emit_kind q (token_of c bs) place (Ok []) (token_kind q c bs h) tt
 lexed_on q (b ∷ rest) idle at h = from_start_kind q (start_of q b) at b (λ p. lexed q p (at + 1) rest) (start_kind q b) (λ p k. lexed_on q rest p (at + 1) k)
 lexed_on q (b ∷ rest) (run c place bs) at h =
-    from_run_kind q (grown_run c bs b) c place bs (start_of q b) at b (λ p. lexed q p (at + 1) rest) (grown_kind q c bs b h) h (start_kind q b) (λ p k. lexed_on q rest p (at + 1) k)
+    from_run_kind q (grown_run c (length bs) b) c place bs (start_of q b) at b (λ p. lexed q p (at + 1) rest) (grown_kind q c (length bs) b h) h (start_kind q b) (λ p k. lexed_on q rest p (at + 1) k)
 
 pub lexed_kind : (q : Kind) (bytes : List ℕ) (ps : List Placed) → lexed q idle 0 bytes ≡ Ok ps → AllOfKind q (tokens_of ps)
 lexed_kind q bytes ps h = rw h at (lexed_on q bytes idle 0 tt)

@@ -24,33 +24,33 @@ Stopped p (b ∷ rest) = p b ≡ false
 
 -- the run goes on with each byte that passes the test
 abbrev Steady : Class → (ℕ → Bool) → Type 0
-Steady c p = (bs : List ℕ) (b : ℕ) → grown_run c bs b ≡ going_on (p b) c
+Steady c p = (n b : ℕ) → grown_run c n b ≡ going_on (p b) c
 
 abbrev is_going : Option Class → Bool
 is_going None = false
 is_going (Some c) = true
 
 -- a run that doesn't go on is a token
-run_ends : (q : Kind) (c : Class) (place : ℕ) (bs : List ℕ) (at : ℕ) (rest : List ℕ) → Stopped (λ b. is_going (grown_run c bs b)) rest
+run_ends : (q : Kind) (c : Class) (place : ℕ) (bs : List ℕ) (at : ℕ) (rest : List ℕ) → Stopped (λ b. is_going (grown_run c (length bs) b)) rest
     → lexed q (run c place bs) at rest ≡ emit (token_of c bs) place (lexed q idle at rest)
 run_ends q c place bs at [] h = refl
-run_ends q c place bs at (b ∷ rest) h = ends_with (grown_run c bs b) c place bs (start_of q b) at b (λ p. lexed q p (at + 1) rest) h
+run_ends q c place bs at (b ∷ rest) h = ends_with (grown_run c (length bs) b) c place bs (start_of q b) at b (λ p. lexed q p (at + 1) rest) h
   where
     ends_with : (o : Option Class) (c : Class) (place : ℕ) (bs : List ℕ) (s : Start) (at b : ℕ) (go : Pending → Result (List Placed) ℕ) → is_going o ≡ false
         → from_run o c place bs s at b go ≡ emit (token_of c bs) place (from_start s at b go)
     ends_with None c place bs s at b go h = refl
     ends_with (Some d) c place bs s at b go h = absurd (let z : ⊥ = cc in z)
 
-stops_going : (c : Class) (p : ℕ → Bool) (bs rest : List ℕ) → Steady c p → Stopped p rest → Stopped (λ b. is_going (grown_run c bs b)) rest
+stops_going : (c : Class) (p : ℕ → Bool) (bs rest : List ℕ) → Steady c p → Stopped p rest → Stopped (λ b. is_going (grown_run c (length bs) b)) rest
 stops_going c p bs [] steady h = tt
-stops_going c p bs (b ∷ rest) steady h = rw (steady bs b, h) refl
+stops_going c p bs (b ∷ rest) steady h = rw (steady (length bs) b, h) refl
 
-run_step : (q : Kind) (c d : Class) (place : ℕ) (bs : List ℕ) (at b : ℕ) (rest : List ℕ) → grown_run c bs b ≡ Some d
+run_step : (q : Kind) (c d : Class) (place : ℕ) (bs : List ℕ) (at b : ℕ) (rest : List ℕ) → grown_run c (length bs) b ≡ Some d
     → lexed q (run c place bs) at (b ∷ rest) ≡ lexed q (run d place (bs ++ b ∷ [])) (at + 1) rest
 run_step q c d place bs at b rest h = ap (λ o. from_run o c place bs (start_of q b) at b (λ p. lexed q p (at + 1) rest)) h
 
-grown_by : (c : Class) (p : ℕ → Bool) (bs : List ℕ) (b : ℕ) → Steady c p → p b ≡ true → grown_run c bs b ≡ Some c
-grown_by c p bs b steady h = rw (steady bs b, h) refl
+grown_by : (c : Class) (p : ℕ → Bool) (bs : List ℕ) (b : ℕ) → Steady c p → p b ≡ true → grown_run c (length bs) b ≡ Some c
+grown_by c p bs b steady h = rw (steady (length bs) b, h) refl
 
 run_on : (q : Kind) (c : Class) (p : ℕ → Bool) (place : ℕ) (bs xs : List ℕ) (at : ℕ) (rest : List ℕ) → Steady c p → list_all p xs ≡ true
     → lexed q (run c place bs) at (xs ++ rest) ≡ lexed q (run c place (bs ++ xs)) (at + length xs) rest
@@ -78,19 +78,19 @@ run_lexed q c p b xs t rest at begin steady all stop is =
     ∙ ap (λ o. emit o at (lexed q idle ((at + 1) + length xs) rest)) is
 
 numeral_steady : Steady numeral is_digit
-numeral_steady bs b = refl
+numeral_steady n b = refl
 
 small_steady : Steady small is_name_byte
-small_steady bs b = refl
+small_steady n b = refl
 
 capitals_steady : Steady capitals is_upper
-capitals_steady bs b = refl
+capitals_steady n b = refl
 
 abbrev is_word_byte : ℕ → Bool
 is_word_byte b = is_letter b || is_digit b
 
 letters_steady : Steady letters is_word_byte
-letters_steady bs b = refl
+letters_steady n b = refl
 
 -- what closes an operand goes on with no run
 abbrev Quiet : (ℕ → Bool) → Type 0
@@ -254,7 +254,7 @@ text_lexed q k ts low c at =
         ∙ d.1 ∙ run_ends q closing at (34 ∷ (doubled k ++ 34 ∷ [])) (d.0 + 1) (text_of ts) (stops_going_text (34 ∷ (doubled k ++ 34 ∷ [])) (text_of ts) (closing_stops (λ b. b == 34) ts (refl, refl, refl, refl, refl, refl, refl, refl, refl, refl, refl) c))
         ∙ ap (λ o. emit o at (lexed q idle (d.0 + 1) (text_of ts))) (text_token k low)))
   where
-    stops_going_text : (bs rest : List ℕ) → Stopped (λ b. b == 34) rest → Stopped (λ b. is_going (grown_run closing bs b)) rest
+    stops_going_text : (bs rest : List ℕ) → Stopped (λ b. b == 34) rest → Stopped (λ b. is_going (grown_run closing (length bs) b)) rest
     stops_going_text bs [] h = tt
     stops_going_text bs (b ∷ rest) h = rw h refl
 
@@ -290,27 +290,27 @@ no_sign_of : (b : ℕ) → (b < 60) ⊎ (62 < b) → ((b == 61) ≡ false) × ((
 no_sign_of b (inl h) = (ne_eqb b 61 (λ q. omega arith), ne_eqb b 62 (λ q. omega arith))
 no_sign_of b (inr h) = (ne_eqb b 61 (λ q. omega arith), ne_eqb b 62 (λ q. omega arith))
 
-less_stops : (rest : List ℕ) → FirstByte rest → Stopped (λ b. is_going (grown_run less (60 ∷ []) b)) rest
+less_stops : (rest : List ℕ) → FirstByte rest → Stopped (λ b. is_going (grown_run less 1 b)) rest
 less_stops [] h = tt
 less_stops (b ∷ rest) h = let n = no_sign_of b h in rw (n.0, n.1) refl
 
-greater_stops : (rest : List ℕ) → FirstByte rest → Stopped (λ b. is_going (grown_run greater (62 ∷ []) b)) rest
+greater_stops : (rest : List ℕ) → FirstByte rest → Stopped (λ b. is_going (grown_run greater 1 b)) rest
 greater_stops [] h = tt
 greater_stops (b ∷ rest) h = let n = no_sign_of b h in rw n.0 refl
 
-less_full : (b : ℕ) (rest : List ℕ) → Stopped (λ c. is_going (grown_run less (60 ∷ b ∷ []) c)) rest
-less_full b [] = tt
-less_full b (c ∷ rest) = refl
+less_full : (rest : List ℕ) → Stopped (λ c. is_going (grown_run less 2 c)) rest
+less_full [] = tt
+less_full (c ∷ rest) = refl
 
-greater_full : (rest : List ℕ) → Stopped (λ c. is_going (grown_run greater (62 ∷ 61 ∷ []) c)) rest
+greater_full : (rest : List ℕ) → Stopped (λ c. is_going (grown_run greater 2 c)) rest
 greater_full [] = tt
 greater_full (c ∷ rest) = refl
 
 op_lexed : (q : Kind) (o : Op) (ts : List Token) → AllOfKind q ts → Opening ts → Lexes q (op o) (text_of ts)
 op_lexed q eq ts k c at = (at, at + 1, refl)
-op_lexed q ne ts k c at = (at, (at + 1) + 1, run_ends q less at (60 ∷ 62 ∷ []) ((at + 1) + 1) (text_of ts) (less_full 62 (text_of ts)))
+op_lexed q ne ts k c at = (at, (at + 1) + 1, run_ends q less at (60 ∷ 62 ∷ []) ((at + 1) + 1) (text_of ts) (less_full (text_of ts)))
 op_lexed q lt ts k c at = (at, at + 1, run_ends q less at (60 ∷ []) (at + 1) (text_of ts) (less_stops (text_of ts) (first_byte q ts k c)))
-op_lexed q le ts k c at = (at, (at + 1) + 1, run_ends q less at (60 ∷ 61 ∷ []) ((at + 1) + 1) (text_of ts) (less_full 61 (text_of ts)))
+op_lexed q le ts k c at = (at, (at + 1) + 1, run_ends q less at (60 ∷ 61 ∷ []) ((at + 1) + 1) (text_of ts) (less_full (text_of ts)))
 op_lexed q gt ts k c at = (at, at + 1, run_ends q greater at (62 ∷ []) (at + 1) (text_of ts) (greater_stops (text_of ts) (first_byte q ts k c)))
 op_lexed q ge ts k c at = (at, (at + 1) + 1, run_ends q greater at (62 ∷ 61 ∷ []) ((at + 1) + 1) (text_of ts) (greater_full (text_of ts)))
 op_lexed q join ts k c at = (at, at + 1, refl)

@@ -86,16 +86,16 @@ abbrev pub going_on : Bool → Class → Option Class
 going_on true c = Some c
 going_on false c = None
 
--- how a run goes on with a byte, if it does
-abbrev pub grown_run : Class → List ℕ → ℕ → Option Class
-grown_run numeral bs b = going_on (is_digit b) numeral
-grown_run small bs b = going_on (is_name_byte b) small
-grown_run capitals bs b = going_on (is_upper b) capitals
-grown_run letters bs b = going_on (is_letter b || is_digit b) letters
-grown_run less bs b = going_on ((length bs == 1) && (b == 61 || b == 62)) less
-grown_run greater bs b = going_on ((length bs == 1) && b == 61) greater
-grown_run inside bs b = Some (if b == 34 then closing else inside)
-grown_run closing bs b = going_on (b == 34) inside
+-- how a run of so many bytes goes on with a byte, if it does
+abbrev pub grown_run : Class → ℕ → ℕ → Option Class
+grown_run numeral n b = going_on (is_digit b) numeral
+grown_run small n b = going_on (is_name_byte b) small
+grown_run capitals n b = going_on (is_upper b) capitals
+grown_run letters n b = going_on (is_letter b || is_digit b) letters
+grown_run less n b = going_on (n == 1 && (b == 61 || b == 62)) less
+grown_run greater n b = going_on (n == 1 && b == 61) greater
+grown_run inside n b = Some (if b == 34 then closing else inside)
+grown_run closing n b = going_on (b == 34) inside
 
 -- the text between quotes, where `""` stands for one quote. paired: whether a quote was before it
 abbrev pub unpaired : Bool → List ℕ → List ℕ
@@ -159,7 +159,7 @@ abbrev pub lexed : Kind → Pending → ℕ → List ℕ → Result (List Placed
 lexed q idle at [] = Ok []
 lexed q (run c place bs) at [] = emit (token_of c bs) place (Ok [])
 lexed q idle at (b ∷ rest) = from_start (start_of q b) at b (λ p. lexed q p (at + 1) rest)
-lexed q (run c place bs) at (b ∷ rest) = from_run (grown_run c bs b) c place bs (start_of q b) at b (λ p. lexed q p (at + 1) rest)
+lexed q (run c place bs) at (b ∷ rest) = from_run (grown_run c (length bs) b) c place bs (start_of q b) at b (λ p. lexed q p (at + 1) rest)
 
 -- what is printed
 abbrev pub op_bytes : Op → List ℕ
