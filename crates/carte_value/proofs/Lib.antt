@@ -6,6 +6,7 @@ pub mod Fetches
 pub mod Fronts
 pub mod Places
 pub mod Quotes
+pub mod Rectangles
 pub mod Readings
 pub mod Bytes
 pub mod Escapes

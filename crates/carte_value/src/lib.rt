@@ -2,6 +2,7 @@
 #![tactic(auto)]
 
 mod area;
+mod cell_name;
 mod digest;
 mod items;
 mod kind;
@@ -9,6 +10,7 @@ mod link;
 mod name;
 mod name_fault;
 mod name_text;
+mod place;
 mod printing;
 mod reading;
 mod reading_law;
