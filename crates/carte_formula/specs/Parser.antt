@@ -7,6 +7,7 @@ use Rattle.carte_formula.specs.Machine.{Frame, sign, chain_at, group, args, Stat
 use Rattle.carte_formula.specs.Reading.{FormulaFault, BadToken, BadSyntax, TooDeep, TooLong, TooWide, NoMemory as OutOfMemory, Placed, depth, tokens_read, ReadAs}
 use Rattle.carte_formula.specs.declared.expr.Expr.{Expr}
 use Rattle.carte_formula.specs.declared.expr.Arg.{Arg as CodeArg}
+use Rattle.carte_formula.specs.declared.stack.OpenChain.{OpenChain}
 use Rattle.carte_formula.specs.declared.stack.Frame.{Frame as CodeFrame}
 use Rattle.carte_formula.specs.declared.stack.Frame.TheVariants as code
 use Rattle.carte_formula.specs.declared.state.State.{State as CodeState}
@@ -18,9 +19,12 @@ terms_of ps = map term_of (pairs_of ps)
 abbrev pub args_trees : List CodeArg → List Arg
 args_trees = map arg_tree
 
+abbrev pub open_frame : OpenChain → Frame
+open_frame c = chain_at c.level (tree_of c.first) (terms_of c.steps.items) c.last
+
 abbrev pub frame_of : CodeFrame → Frame
 frame_of (code.Sign b) = sign b
-frame_of (code.Chain l e done p) = chain_at l (tree_of e) (terms_of done.items) p
+frame_of (code.Chain c) = open_frame c
 frame_of code.Group = group
 frame_of (code.Call f xs) = args f (args_trees xs.items)
 

@@ -3,6 +3,7 @@
 
 mod building;
 mod cell;
+mod chains;
 mod copy;
 mod expr;
 mod fault;
