@@ -40,9 +40,12 @@ state_of (states.Half k f xs) S = half k f (args_trees xs.items) (frames_of S)
 state_of (states.Ranged a f xs) S = ranged a f (args_trees xs.items) (frames_of S)
 
 -- the state that a call led to, if any
+abbrev pub OptionGoesTo : Option CodeState → List CodeFrame → Option State → Type 0
+OptionGoesTo None S o = o ≡ None
+OptionGoesTo (Some s) S o = o ≡ Some (state_of s S)
+
 abbrev pub GoesTo : Result (Option CodeState) NoMemory → List CodeFrame → Option State → Type 0
-GoesTo (Ok None) S o = o ≡ None
-GoesTo (Ok (Some s)) S o = o ≡ Some (state_of s S)
+GoesTo (Ok r) S o = OptionGoesTo r S o
 GoesTo (Err e) S o = Unit {0}
 
 abbrev pub EndsTo : Result (Option Expr) NoMemory → Option Tree → Type 0

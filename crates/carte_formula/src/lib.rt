@@ -11,6 +11,7 @@ mod func;
 mod operand;
 mod stack;
 mod state;
+mod step;
 mod tokens;
 
 pub use expr::{Arg, Args, Chain, Expr, Func, Level, Op, Rest};
