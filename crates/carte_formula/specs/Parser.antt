@@ -1,5 +1,5 @@
 -- The machine's states as the code holds them.
-use Rattle.std.specs.Prelude.{ℕ, Bool, List, [], ◌∷◌, map, Option, Some, None, Result, Ok, Err, ◌≡◌, ◌≤◌, ◌<◌}
+use Rattle.std.specs.Prelude.{ℕ, Bool, true, false, nat_lt, List, [], ◌∷◌, map, Option, Some, None, Result, Ok, Err, ◌≡◌, ◌≤◌, ◌<◌}
 use Rattle.carte_value.specs.declared.NoMemory.{NoMemory}
 use Rattle.carte_formula.specs.Tree.{Op, Tree, Arg, Term}
 use Rattle.carte_formula.specs.Code.{tree_of, term_of, pairs_of, arg_tree}
@@ -52,3 +52,17 @@ abbrev pub EndsTo : Result (Option Expr) NoMemory → Option Tree → Type 0
 EndsTo (Ok None) o = o ≡ None
 EndsTo (Ok (Some e)) o = o ≡ Some (tree_of e)
 EndsTo (Err e) o = Unit {0}
+
+-- what comes of a token at a place, where the machine goes to o
+abbrev pub StepsTo : Result CodeState FormulaFault → List CodeFrame → Option State → ℕ → Type 0
+StepsTo (Ok s) S o place = (o ≡ Some (state_of s S)) × (nat_lt 64 (depth (state_of s S)) ≡ false)
+StepsTo (Err (BadSyntax at)) S o place = (o ≡ None) × (at ≡ place)
+StepsTo (Err (TooDeep at)) S o place = (u : State) × (o ≡ Some u) × (nat_lt 64 (depth u) ≡ true) × (at ≡ place)
+StepsTo (Err OutOfMemory) S o place = Unit {0}
+StepsTo (Err _) S o place = ⊥
+
+-- a call answered what it should, unless memory ran out
+abbrev pub ReadsTo : Result Expr FormulaFault → Result Tree FormulaFault → Type 0
+ReadsTo (Ok e) r = r ≡ Ok (tree_of e)
+ReadsTo (Err OutOfMemory) r = Unit {0}
+ReadsTo (Err f) r = r ≡ Err f

@@ -9,6 +9,7 @@ mod expr;
 mod fault;
 mod func;
 mod operand;
+mod reading;
 mod stack;
 mod state;
 mod step;
