@@ -11,6 +11,7 @@ mod func;
 mod operand;
 mod reading;
 mod stack;
+mod start;
 mod state;
 mod step;
 mod tokens;
