@@ -14,3 +14,4 @@ pub mod Lexing
 pub mod Lexed
 pub mod Round
 pub mod Depths
+pub mod Running

@@ -10,6 +10,7 @@ mod fault;
 mod func;
 mod operand;
 mod reading;
+mod runs;
 mod stack;
 mod start;
 mod state;
