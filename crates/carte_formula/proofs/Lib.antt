@@ -15,3 +15,4 @@ pub mod Lexed
 pub mod Round
 pub mod Depths
 pub mod Running
+pub mod Unpaired

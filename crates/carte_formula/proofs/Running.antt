@@ -62,8 +62,8 @@ or_low x y b f g h = elim (or_cases x y h) [ inl k ↦ f k | inr k ↦ g k ]
 name_low : (b : ℕ) → is_name_byte b ≡ true → b < 128
 name_low b = or_low (((is_lower b || is_digit b) || b == 95) || b == 46) (b == 47) b
     (or_low ((is_lower b || is_digit b) || b == 95) (b == 46) b
-      (or_low (is_lower b || is_digit b) (b == 95) b (or_low (is_lower b) (is_digit b) b (lower_low b) (digit_low b)) (equal_low 95 b (omega arith)))
-      (equal_low 46 b (omega arith)))
+    (or_low (is_lower b || is_digit b) (b == 95) b (or_low (is_lower b) (is_digit b) b (lower_low b) (digit_low b)) (equal_low 95 b (omega arith)))
+    (equal_low 46 b (omega arith)))
     (equal_low 47 b (omega arith))
 
 word_low : (b : ℕ) → (is_letter b || is_digit b) ≡ true → b < 128
@@ -108,7 +108,7 @@ runs_on c d e bytes from at r low g =
       after = omega arith;
       within = omega arith;
       known = rw m (known_on d e (slice_range bytes from at) (slice_index bytes at) (omega arith) r.known g');
-      gives = λ q. r.gives q ∙ ap (λ xs. lexed q (run d from (slice_range bytes from at)) at xs) cut ∙ run_step q d e from (slice_range bytes from at) at (slice_index bytes at) (drop (at + 1) bytes) g' ∙ ap (λ bs. lexed q (run e from bs) (at + 1) (drop (at + 1) bytes)) (sym m)
+      gives = λ q. r.gives q ∙ ap (λ xs. lexed q (run d from (slice_range bytes from at)) at xs) cut ∙ run_step q d e from (slice_range bytes from at) at (slice_index bytes at) (drop (at + 1) bytes) g' ∙ ap (λ bs. lexed q (run e from bs) (at + 1) (drop (at + 1) bytes)) (sym m);
     }
 
 stops : (c d : Class) (bytes : List ℕ) (from at : ℕ) → Running c bytes from d at → Stopped (λ b. is_going (grown_run d (length (slice_range bytes from at)) b)) (drop at bytes) → RunsTo c bytes from d at

@@ -8,6 +8,7 @@ mod copy;
 mod expr;
 mod fault;
 mod func;
+mod making;
 mod operand;
 mod reading;
 mod runs;
