@@ -16,3 +16,4 @@ pub mod Round
 pub mod Depths
 pub mod Running
 pub mod Unpaired
+pub mod Taking

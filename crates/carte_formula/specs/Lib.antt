@@ -9,3 +9,4 @@ pub mod Lexer
 pub mod Whole
 pub mod Parser
 pub mod Runs
+pub mod Takes

@@ -8,6 +8,7 @@ mod copy;
 mod expr;
 mod fault;
 mod func;
+mod lexer;
 mod making;
 mod operand;
 mod reading;
