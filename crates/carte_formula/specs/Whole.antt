@@ -17,10 +17,14 @@ abbrev pub width : List Token → ℕ
 width [] = 0
 width (t ∷ ts) = front_size t ts + width ts
 
+abbrev pub size_at : List Placed → ℕ
+size_at [] = 0
+size_at (p ∷ ps) = front_size p.token (tokens_of ps)
+
 -- the place of the first cell of the range with which there are more than 65,536 cells
 abbrev pub wide_from : ℕ → List Placed → Option ℕ
 wide_from sum [] = None
-wide_from sum (p ∷ ps) = if nat_lt 65536 (sum + front_size p.token (tokens_of ps)) then Some p.place else wide_from (sum + front_size p.token (tokens_of ps)) ps
+wide_from sum (p ∷ ps) = if nat_lt 65536 (sum + size_at (p ∷ ps)) then Some p.place else wide_from (sum + size_at (p ∷ ps)) ps
 
 -- the text's tokens
 abbrev pub Tokens : Kind → List ℕ → List Placed → Type 0

@@ -18,6 +18,7 @@ mod start;
 mod state;
 mod step;
 mod tokens;
+mod width;
 
 pub use expr::{Arg, Args, Chain, Expr, Func, Level, Op, Rest};
 pub use fault::FormulaFault;
