@@ -17,3 +17,5 @@ pub mod Depths
 pub mod Running
 pub mod Unpaired
 pub mod Taking
+pub mod Formulas
+pub mod ReadWhole

@@ -4,7 +4,7 @@ use Rattle.carte_value.specs.Areas.{IsArea, cells_of}
 use Rattle.carte_value.specs.Kinds.{is_name_of}
 use Rattle.carte_value.specs.declared.kind.Kind.{Kind}
 use Rattle.carte_value.specs.Asks.{firsts}
-use Rattle.carte_formula.specs.Tree.{Op, Level, level_of, Func, Tree, number, text, ref, neg, chain, call, Steps, no_step, step, Args, no_arg, arg, Arg, one, cells, Arity, many, between, arity, takes_ranges}
+use Rattle.carte_formula.specs.Tree.{Level, level_of, Func, Tree, number, text, ref, neg, chain, call, Steps, no_step, step, Args, no_arg, arg, Arg, one, cells, Arity, many, between, arity, takes_ranges}
 use Rattle.carte_formula.specs.declared.expr.Func.TheVariants as functions
 
 -- a number of a formula isn't negative

@@ -11,6 +11,7 @@ mod func;
 mod lexer;
 mod making;
 mod operand;
+mod reader;
 mod reading;
 mod runs;
 mod stack;
@@ -22,3 +23,4 @@ mod width;
 
 pub use expr::{Arg, Args, Chain, Expr, Func, Level, Op, Rest};
 pub use fault::FormulaFault;
+pub use reader::read;
