@@ -1,0 +1,14 @@
+pub mod Tree
+pub mod Frames
+pub mod Code
+pub mod Grammar
+pub mod Machine
+pub mod Reading
+pub mod Print
+pub mod Lexer
+pub mod Whole
+pub mod Parser
+pub mod Runs
+pub mod Takes
+pub mod Formula
+pub mod Printed
