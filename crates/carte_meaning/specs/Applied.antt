@@ -1,0 +1,67 @@
+-- What operators and functions make of the values of their arguments.
+use Rattle.std.specs.Prelude.{pos, Bool, true, false, not, List, [], ◌∷◌, length, Result, Ok, Err, ◌+ℤ◌, ◌-ℤ◌, ◌*ℤ◌, neg_ℤ}
+use Rattle.std.specs.List.{list_all, list_any}
+use Rattle.std.specs.Str.{str_to_ascii_uppercase}
+use Rattle.carte_value.specs.declared.value.Bad.TheVariants as bad
+use Rattle.carte_value.specs.declared.value.Value.{Value}
+use Rattle.carte_value.specs.declared.value.Value.TheVariants.{Empty, Number, Text, Bad}
+use Rattle.carte_formula.specs.declared.expr.Op.{Op}
+use Rattle.carte_formula.specs.declared.expr.Op.TheVariants as op
+use Rattle.carte_formula.specs.declared.expr.Func.{Func}
+use Rattle.carte_formula.specs.declared.expr.Func.TheVariants as f
+use Rattle.carte_meaning.specs.Coercions.{as_number, as_text, as_truth, is_nonzero, number_value, truth_value, strict, taking, one, two}
+use Rattle.carte_meaning.specs.Numbers.{divided, total, numbers_in, least, greatest}
+use Rattle.carte_meaning.specs.Order.{compared, is_less, is_equal, is_greater}
+use Rattle.carte_meaning.specs.Texts.{joined, lines, line_of}
+
+-- the truth of a condition, or what takes the place of both branches
+abbrev pub condition : Value → Result Bool Value
+condition Empty = Ok false
+condition (Number n) = Ok (is_nonzero n)
+condition (Text t) = Err (Bad bad.Value)
+condition (Bad b) = Err (Bad b)
+
+abbrev pub picked : Result Bool Value → Value → Value → Value
+picked (Ok true) a b = a
+picked (Ok false) a b = b
+picked (Err v) a b = v
+
+-- whatever the other branch is
+abbrev pub pick : List Value → Value
+pick (c ∷ a ∷ b ∷ []) = picked (condition c) a b
+pick vs = Empty
+
+abbrev pub negated : List Value → Value
+negated vs = taking as_number (one (λ n. number_value (neg_ℤ n))) vs
+
+abbrev pub applied : Op → List Value → Value
+applied op.Add vs = taking as_number (two (λ m n. number_value (m +ℤ n))) vs
+applied op.Sub vs = taking as_number (two (λ m n. number_value (m -ℤ n))) vs
+applied op.Mul vs = taking as_number (two (λ m n. number_value (m *ℤ n))) vs
+applied op.Div vs = taking as_number (two divided) vs
+applied op.Join vs = joined vs
+applied op.Eq vs = compared is_equal vs
+applied op.Ne vs = compared (λ o. not (is_equal o)) vs
+applied op.Lt vs = compared is_less vs
+applied op.Le vs = compared (λ o. not (is_greater o)) vs
+applied op.Gt vs = compared is_greater vs
+applied op.Ge vs = compared (λ o. not (is_less o)) vs
+
+-- IF, INDIRECT and GATHER do more than look at values: `asks` says what
+abbrev pub called : Func → List Value → Value
+called f.Sum vs = strict (λ us. number_value (total (numbers_in us))) vs
+called f.Min vs = strict (λ us. Number (least (numbers_in us))) vs
+called f.Max vs = strict (λ us. Number (greatest (numbers_in us))) vs
+called f.Count vs = Number (pos (length (numbers_in vs)))
+called f.Concat vs = joined vs
+called f.And vs = taking as_truth (λ bs. truth_value (list_all (λ b. b) bs)) vs
+called f.Or vs = taking as_truth (λ bs. truth_value (list_any (λ b. b) bs)) vs
+called f.Not vs = taking as_truth (one (λ b. truth_value (not b))) vs
+called f.Len vs = taking as_text (one (λ t. Number (pos (length t)))) vs
+called f.Upper vs = taking as_text (one (λ t. Text (str_to_ascii_uppercase t))) vs
+called f.Lines vs = taking as_text (one (λ t. Number (pos (length (lines t))))) vs
+called f.Line vs = strict line_of vs
+called f.Pick vs = pick vs
+called f.If vs = Empty
+called f.Indirect vs = Empty
+called f.Gather vs = Empty

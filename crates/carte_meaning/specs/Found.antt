@@ -1,0 +1,40 @@
+-- The names that a text is, or that its lines are.
+use Rattle.std.specs.Prelude.{ℕ, List, [], ◌∷◌, Option, Some, None, Result, Ok, Err, if◌then◌else◌}
+use Rattle.std.specs.Str.{str_to_ascii_uppercase}
+use Rattle.carte_value.specs.Names.{is_rule_name, is_cell_name}
+use Rattle.carte_value.specs.declared.kind.Kind.{Kind}
+use Rattle.carte_value.specs.declared.kind.Kind.TheVariants.{Rules, Sheet}
+use Rattle.carte_value.specs.declared.value.Bad.TheVariants as bad
+use Rattle.carte_value.specs.declared.value.Value.{Value}
+use Rattle.carte_value.specs.declared.value.Value.TheVariants.{Empty, Number, Text, Bad}
+use Rattle.carte_meaning.specs.Coercions.{as_text, both}
+use Rattle.carte_meaning.specs.Texts.{lines}
+
+-- a rule's name as it stands; a cell's in either case, raised
+abbrev pub named : Kind → List ℕ → Option (List ℕ)
+named Rules t = if is_rule_name t then Some t else None
+named Sheet t = if is_cell_name (str_to_ascii_uppercase t) then Some (str_to_ascii_uppercase t) else None
+
+abbrev pub or_no_name : {A : Type 0} → Option A → Result A Value
+or_no_name None = Err (Bad bad.Ref)
+or_no_name (Some a) = Ok a
+
+-- the name that a value is, or what INDIRECT gives in place of the look-up
+abbrev pub name_in : Kind → Value → Result (List ℕ) Value
+name_in kind (Text t) = or_no_name (named kind t)
+name_in kind (Bad b) = Err (Bad b)
+name_in kind Empty = Err (Bad bad.Ref)
+name_in kind (Number n) = Err (Bad bad.Ref)
+
+abbrev pub each_named : Kind → List (List ℕ) → Option (List (List ℕ))
+each_named kind [] = Some []
+each_named kind (l ∷ ls) = both (named kind l) (each_named kind ls)
+
+-- the names that its lines are, or what GATHER gives in place of the look-ups
+abbrev pub names_in_text : Kind → Option (List ℕ) → Result (List (List ℕ)) Value
+names_in_text kind None = Err (Bad bad.Value)
+names_in_text kind (Some t) = or_no_name (each_named kind (lines t))
+
+abbrev pub names_in : Kind → Value → Result (List (List ℕ)) Value
+names_in kind (Bad b) = Err (Bad b)
+names_in kind v = names_in_text kind (as_text v)

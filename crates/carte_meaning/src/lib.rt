@@ -1,0 +1,2 @@
+//! What formulas mean.
+#![tactic(auto)]
