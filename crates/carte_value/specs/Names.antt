@@ -1,5 +1,5 @@
 -- Names of keys, as their bytes.
-use Rattle.std.specs.Prelude.{ℕ, Bool, true, false, List, [], ◌∷◌, length, slice_index, ◌==◌, ◌&&◌, ◌||◌, ◌*◌, ◌+◌, ◌-◌, nat_le, drop, bytes_eq, if◌then◌else◌}
+use Rattle.std.specs.Prelude.{ℕ, Bool, List, length, slice_index, ◌==◌, ◌&&◌, ◌||◌, nat_le, drop, bytes_eq, if◌then◌else◌}
 use Rattle.std.specs.Ordering.{nat_cmp}
 use Rattle.std.specs.declared.cmp.Ordering.{Ordering}
 use Rattle.std.specs.List.{list_all}

@@ -1,4 +1,4 @@
-use Rattle.std.proofs.Common.{◌≡◌, ◌++◌, take}
+use Rattle.std.proofs.Common.{◌≡◌, take}
 use Rattle.carte_value.proofs.items.Items.copy.Given as goal
 
 abbrev pub invariant-loop-item : goal.invariant-loop-item

@@ -1,0 +1,5 @@
+pub mod Asks
+pub mod Firsts
+pub mod Once
+pub mod Laws
+pub mod Fetches
