@@ -1,6 +1,7 @@
 //! The formula language: its grammar, and the reader and printer that are proved against it.
 #![tactic(auto)]
 
+mod copy;
 mod expr;
 
 pub use expr::{Arg, Args, Chain, Expr, Func, Level, Op, Rest};
