@@ -9,7 +9,7 @@ use Rattle.carte_formula.specs.declared.expr.Op.{Op}
 use Rattle.carte_formula.specs.declared.expr.Op.TheVariants as op
 use Rattle.carte_formula.specs.declared.expr.Func.{Func}
 use Rattle.carte_formula.specs.declared.expr.Func.TheVariants as f
-use Rattle.carte_meaning.specs.Coercions.{as_number, as_text, as_truth, is_nonzero, number_value, truth_value, strict, taking, one, two}
+use Rattle.carte_meaning.specs.Coercions.{as_number, as_truth, text_of, is_nonzero, number_value, truth_value, strict, or_wrong, each_as, one, two, numbers}
 use Rattle.carte_meaning.specs.Numbers.{divided, total, numbers_in, least, greatest}
 use Rattle.carte_meaning.specs.Order.{compared, is_less, is_equal, is_greater}
 use Rattle.carte_meaning.specs.Texts.{joined, lines, line_of}
@@ -26,19 +26,19 @@ picked (Ok true) a b = a
 picked (Ok false) a b = b
 picked (Err v) a b = v
 
--- whatever the other branch is
+-- one of two values, whatever the other is
 abbrev pub pick : List Value → Value
 pick (c ∷ a ∷ b ∷ []) = picked (condition c) a b
 pick vs = Empty
 
 abbrev pub negated : List Value → Value
-negated vs = taking as_number (one (λ n. number_value (neg_ℤ n))) vs
+negated vs = strict (one (λ v. or_wrong (as_number v) (λ n. number_value (neg_ℤ n)))) vs
 
 abbrev pub applied : Op → List Value → Value
-applied op.Add vs = taking as_number (two (λ m n. number_value (m +ℤ n))) vs
-applied op.Sub vs = taking as_number (two (λ m n. number_value (m -ℤ n))) vs
-applied op.Mul vs = taking as_number (two (λ m n. number_value (m *ℤ n))) vs
-applied op.Div vs = taking as_number (two divided) vs
+applied op.Add vs = strict (two (numbers (λ m n. number_value (m +ℤ n)))) vs
+applied op.Sub vs = strict (two (numbers (λ m n. number_value (m -ℤ n)))) vs
+applied op.Mul vs = strict (two (numbers (λ m n. number_value (m *ℤ n)))) vs
+applied op.Div vs = strict (two (numbers divided)) vs
 applied op.Join vs = joined vs
 applied op.Eq vs = compared is_equal vs
 applied op.Ne vs = compared (λ o. not (is_equal o)) vs
@@ -47,20 +47,20 @@ applied op.Le vs = compared (λ o. not (is_greater o)) vs
 applied op.Gt vs = compared is_greater vs
 applied op.Ge vs = compared (λ o. not (is_less o)) vs
 
--- IF, INDIRECT and GATHER do more than look at values: `asks` says what
+-- IF, INDIRECT and GATHER do more than look at values, as `asks` says
 abbrev pub called : Func → List Value → Value
 called f.Sum vs = strict (λ us. number_value (total (numbers_in us))) vs
 called f.Min vs = strict (λ us. Number (least (numbers_in us))) vs
 called f.Max vs = strict (λ us. Number (greatest (numbers_in us))) vs
 called f.Count vs = Number (pos (length (numbers_in vs)))
 called f.Concat vs = joined vs
-called f.And vs = taking as_truth (λ bs. truth_value (list_all (λ b. b) bs)) vs
-called f.Or vs = taking as_truth (λ bs. truth_value (list_any (λ b. b) bs)) vs
-called f.Not vs = taking as_truth (one (λ b. truth_value (not b))) vs
-called f.Len vs = taking as_text (one (λ t. Number (pos (length t)))) vs
-called f.Upper vs = taking as_text (one (λ t. Text (str_to_ascii_uppercase t))) vs
-called f.Lines vs = taking as_text (one (λ t. Number (pos (length (lines t))))) vs
-called f.Line vs = strict line_of vs
+called f.And vs = strict (λ us. or_wrong (each_as as_truth us) (λ bs. truth_value (list_all (λ b. b) bs))) vs
+called f.Or vs = strict (λ us. or_wrong (each_as as_truth us) (λ bs. truth_value (list_any (λ b. b) bs))) vs
+called f.Not vs = strict (one (λ v. or_wrong (as_truth v) (λ b. truth_value (not b)))) vs
+called f.Len vs = strict (one (λ v. Number (pos (length (text_of v))))) vs
+called f.Upper vs = strict (one (λ v. Text (str_to_ascii_uppercase (text_of v)))) vs
+called f.Lines vs = strict (one (λ v. Number (pos (length (lines (text_of v)))))) vs
+called f.Line vs = strict (two line_of) vs
 called f.Pick vs = pick vs
 called f.If vs = Empty
 called f.Indirect vs = Empty

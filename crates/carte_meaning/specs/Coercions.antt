@@ -22,18 +22,12 @@ abbrev pub truth_value : Bool → Value
 truth_value true = Number (pos 1)
 truth_value false = Number (pos 0)
 
--- None is a value of the wrong kind
+-- None where the kind is wrong
 abbrev pub as_number : Value → Option ℤ
 as_number Empty = Some (pos 0)
 as_number (Number n) = Some n
 as_number (Text t) = None
 as_number (Bad b) = None
-
-abbrev pub as_text : Value → Option (List ℕ)
-as_text Empty = Some []
-as_text (Number n) = Some (signed_decimal n)
-as_text (Text t) = Some t
-as_text (Bad b) = None
 
 abbrev pub is_nonzero : ℤ → Bool
 is_nonzero (pos zero) = false
@@ -44,6 +38,13 @@ as_truth Empty = Some false
 as_truth (Number n) = Some (is_nonzero n)
 as_truth (Text t) = None
 as_truth (Bad b) = None
+
+-- each value but a bad one is a text; a bad one is the result before it is read as one
+abbrev pub text_of : Value → List ℕ
+text_of Empty = []
+text_of (Number n) = signed_decimal n
+text_of (Text t) = t
+text_of (Bad b) = []
 
 -- the first bad value, in order
 abbrev pub first_bad : List Value → Option BadValue
@@ -59,28 +60,30 @@ unless_bad None v = v
 abbrev pub strict : (List Value → Value) → List Value → Value
 strict g vs = unless_bad (first_bad vs) (g vs)
 
+-- what `g` makes of what could be read
+abbrev pub or_wrong : {A : Type 0} → Option A → (A → Value) → Value
+or_wrong None g = Bad bad.Value
+or_wrong (Some a) g = g a
+
 abbrev pub both : {A : Type 0} → Option A → Option (List A) → Option (List A)
 both None xs = None
 both (Some a) None = None
 both (Some a) (Some xs) = Some (a ∷ xs)
 
-abbrev pub each_as : {A : Type 0} → (Value → Option A) → List Value → Option (List A)
-each_as kind [] = Some []
-each_as kind (v ∷ vs) = both (kind v) (each_as kind vs)
+-- all of a list, where each can be read
+abbrev pub each_as : {A B : Type 0} → (A → Option B) → List A → Option (List B)
+each_as read [] = Some []
+each_as read (x ∷ xs) = both (read x) (each_as read xs)
 
-abbrev pub or_wrong : {A : Type 0} → Option A → (A → Value) → Value
-or_wrong None g = Bad bad.Value
-or_wrong (Some a) g = g a
+-- of one argument, and of two; the grammar lets no other number of them through
+abbrev pub one : (Value → Value) → List Value → Value
+one g (v ∷ []) = g v
+one g vs = Empty
 
--- of values that are read as one kind, where each of them can be
-abbrev pub taking : {A : Type 0} → (Value → Option A) → (List A → Value) → List Value → Value
-taking kind g vs = strict (λ us. or_wrong (each_as kind us) g) vs
+abbrev pub two : (Value → Value → Value) → List Value → Value
+two g (v ∷ w ∷ []) = g v w
+two g vs = Empty
 
--- of one argument, and of two; a formula gives no other number of them
-abbrev pub one : {A : Type 0} → (A → Value) → List A → Value
-one g (a ∷ []) = g a
-one g xs = Empty
-
-abbrev pub two : {A : Type 0} → (A → A → Value) → List A → Value
-two g (a ∷ b ∷ []) = g a b
-two g xs = Empty
+-- of two numbers: the wrong kind of either is the same
+abbrev pub numbers : (ℤ → ℤ → Value) → Value → Value → Value
+numbers g v w = or_wrong (as_number v) (λ m. or_wrong (as_number w) (λ n. g m n))

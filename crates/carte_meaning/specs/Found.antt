@@ -1,13 +1,13 @@
 -- The names that a text is, or that its lines are.
-use Rattle.std.specs.Prelude.{ℕ, List, [], ◌∷◌, Option, Some, None, Result, Ok, Err, if◌then◌else◌}
+use Rattle.std.specs.Prelude.{ℕ, List, Option, Some, None, Result, Ok, Err, if◌then◌else◌}
 use Rattle.std.specs.Str.{str_to_ascii_uppercase}
 use Rattle.carte_value.specs.Names.{is_rule_name, is_cell_name}
 use Rattle.carte_value.specs.declared.kind.Kind.{Kind}
 use Rattle.carte_value.specs.declared.kind.Kind.TheVariants.{Rules, Sheet}
 use Rattle.carte_value.specs.declared.value.Bad.TheVariants as bad
 use Rattle.carte_value.specs.declared.value.Value.{Value}
-use Rattle.carte_value.specs.declared.value.Value.TheVariants.{Empty, Number, Text, Bad}
-use Rattle.carte_meaning.specs.Coercions.{as_text, both}
+use Rattle.carte_value.specs.declared.value.Value.TheVariants.{Text, Bad}
+use Rattle.carte_meaning.specs.Coercions.{text_of, each_as}
 use Rattle.carte_meaning.specs.Texts.{lines}
 
 -- a rule's name as it stands; a cell's in either case, raised
@@ -23,18 +23,9 @@ or_no_name (Some a) = Ok a
 abbrev pub name_in : Kind → Value → Result (List ℕ) Value
 name_in kind (Text t) = or_no_name (named kind t)
 name_in kind (Bad b) = Err (Bad b)
-name_in kind Empty = Err (Bad bad.Ref)
-name_in kind (Number n) = Err (Bad bad.Ref)
-
-abbrev pub each_named : Kind → List (List ℕ) → Option (List (List ℕ))
-each_named kind [] = Some []
-each_named kind (l ∷ ls) = both (named kind l) (each_named kind ls)
+name_in kind v = Err (Bad bad.Ref)
 
 -- the names that its lines are, or what GATHER gives in place of the look-ups
-abbrev pub names_in_text : Kind → Option (List ℕ) → Result (List (List ℕ)) Value
-names_in_text kind None = Err (Bad bad.Value)
-names_in_text kind (Some t) = or_no_name (each_named kind (lines t))
-
 abbrev pub names_in : Kind → Value → Result (List (List ℕ)) Value
 names_in kind (Bad b) = Err (Bad b)
-names_in kind v = names_in_text kind (as_text v)
+names_in kind v = or_no_name (each_as (named kind) (lines (text_of v)))

@@ -1,16 +1,12 @@
 -- Texts and their lines.
-use Rattle.std.specs.Prelude.{ℕ, ℤ, pos, suc, List, [], ◌∷◌, ◌++◌, ◌==◌, Option, None, slice_get}
-use Rattle.std.specs.List.{slice_split}
+use Rattle.std.specs.Prelude.{ℕ, ℤ, pos, suc, List, [], ◌∷◌, ◌==◌, Option, None, slice_get}
+use Rattle.std.specs.List.{slice_split, flat_map}
 use Rattle.carte_value.specs.declared.value.Value.{Value}
-use Rattle.carte_value.specs.declared.value.Value.TheVariants.{Empty, Text}
-use Rattle.carte_meaning.specs.Coercions.{as_text, as_number, or_wrong, taking, text_value}
-
-abbrev pub concat : List (List ℕ) → List ℕ
-concat [] = []
-concat (t ∷ ts) = t ++ concat ts
+use Rattle.carte_value.specs.declared.value.Value.TheVariants.{Text}
+use Rattle.carte_meaning.specs.Coercions.{as_number, text_of, text_value, or_wrong, strict}
 
 abbrev pub joined : List Value → Value
-joined vs = taking as_text (λ ts. text_value (concat ts)) vs
+joined vs = strict (λ us. text_value (flat_map text_of us)) vs
 
 abbrev pub without_last_empty : List (List ℕ) → List (List ℕ)
 without_last_empty [] = []
@@ -26,6 +22,5 @@ abbrev pub line_at : List (List ℕ) → ℤ → Option (List ℕ)
 line_at ls (pos (suc n)) = slice_get ls n
 line_at ls n = None
 
-abbrev pub line_of : List Value → Value
-line_of (x ∷ n ∷ []) = or_wrong (as_text x) (λ t. or_wrong (as_number n) (λ m. or_wrong (line_at (lines t) m) (λ l. Text l)))
-line_of vs = Empty
+abbrev pub line_of : Value → Value → Value
+line_of x n = or_wrong (as_number n) (λ m. or_wrong (line_at (lines (text_of x)) m) (λ l. Text l))
