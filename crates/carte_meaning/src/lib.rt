@@ -1,2 +1,5 @@
 //! What formulas mean.
 #![tactic(auto)]
+
+mod coercions;
+mod numbers;
