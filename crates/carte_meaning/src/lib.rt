@@ -3,3 +3,5 @@
 
 mod coercions;
 mod numbers;
+mod order;
+mod truths;
