@@ -1,6 +1,6 @@
 //! Operators on numbers, and the functions that look at numbers alone.
 
-ghost use Rattle.std.specs.Prelude.{◌≡◌, ℕ, ◌<◌, ◌≤◌, ◌^◌, ℤ, pos, ◌+ℤ◌, ◌-ℤ◌, ◌*ℤ◌, neg_ℤ, List, ◌∷◌, [], length, MatchResult, Option, FitsSigned};
+ghost use Rattle.std.specs.Prelude.{◌≡◌, ℕ, ◌<◌, ◌≤◌, ◌^◌, ℤ, pos, negsuc, ◌≤ℤ◌, ◌+ℤ◌, ◌-ℤ◌, ◌*ℤ◌, neg_ℤ, List, ◌∷◌, [], length, MatchResult, Option, FitsSigned};
 ghost use Rattle.std.specs.Int.{w64};
 ghost use Rattle.std.specs.Option.{SomeIff};
 ghost use Rattle.carte_value.specs.declared.value.Value.{Value};
@@ -177,4 +177,28 @@ pub(crate) fn count(values: &[Value]) -> Value
         }
     }
     Value::Number(i64::from(count))
+}
+
+/// A sum of few enough numbers, in i128 where no such sum is too great.
+fn plus(sum: i128, addend: i64) -> i128
+    requires low { negsuc (2 ^ 100) ≤ℤ sum }
+    requires high { sum ≤ℤ pos (2 ^ 100) }
+    ensures { result ≡ sum +ℤ addend }
+{
+    sum + i128::from(addend)
+}
+
+/// SUM: the exact sum of the numbers.
+pub(crate) fn sum(values: &[Value]) -> Value
+    requires { length values.now < 2 ^ 32 }
+    ensures { result ≡ number_value (total (numbers_in values.now)) }
+{
+    let mut sum: i128 = 0;
+    for value in values {
+        sum = plus(sum, addend(value));
+    }
+    match i64::try_from(sum) {
+        Ok(sum) => Value::Number(sum),
+        Err(_) => Value::Bad(Bad::Num),
+    }
 }
