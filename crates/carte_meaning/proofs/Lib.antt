@@ -1,3 +1,4 @@
 mod Examples
 pub mod Bests
 pub mod Sums
+pub mod Lined

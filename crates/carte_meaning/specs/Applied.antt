@@ -11,7 +11,7 @@ use Rattle.carte_formula.specs.declared.expr.Func.{Func}
 use Rattle.carte_formula.specs.declared.expr.Func.TheVariants as f
 use Rattle.carte_meaning.specs.Coercions.{as_number, as_truth, text_of, is_nonzero, number_value, truth_value, strict, or_wrong, each_as, one, two, numbers}
 use Rattle.carte_meaning.specs.Numbers.{divided, total, numbers_in, least, greatest}
-use Rattle.carte_meaning.specs.Order.{compared, is_less, is_equal, is_greater}
+use Rattle.carte_meaning.specs.Order.{compared}
 use Rattle.carte_meaning.specs.Texts.{joined, lines, line_of}
 
 -- the truth of a condition, or what takes the place of both branches

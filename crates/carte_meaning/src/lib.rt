@@ -2,6 +2,7 @@
 #![tactic(auto)]
 
 mod coercions;
+mod lines;
 mod numbers;
 mod order;
 mod truths;
