@@ -4,3 +4,4 @@ pub mod Once
 pub mod Laws
 pub mod Fetches
 pub mod Fronts
+pub mod Escapes

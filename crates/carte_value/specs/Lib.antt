@@ -4,3 +4,4 @@ pub mod Kinds
 pub mod Truths
 pub mod Asks
 pub mod Once
+pub mod Printed

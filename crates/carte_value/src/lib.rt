@@ -9,6 +9,7 @@ mod link;
 mod name;
 mod name_fault;
 mod name_text;
+mod printing;
 mod text;
 mod value;
 
@@ -19,9 +20,17 @@ pub use kind::Kind;
 pub use link::{Link, Links, Names, Values};
 pub use name::Name;
 pub use name_fault::NameFault;
+pub use printing::quoted;
+use std::alloc::AllocError;
 pub use text::Text;
 pub use value::{Bad, Value};
 
 /// There was no memory for what was asked. Nothing that was lent has changed.
 #[derive(Clone, Copy, Debug, PartialEq, Eq)]
 pub struct NoMemory;
+
+impl From<AllocError> for NoMemory {
+    fn from(_: AllocError) -> NoMemory {
+        NoMemory
+    }
+}
