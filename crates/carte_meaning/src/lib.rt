@@ -5,4 +5,5 @@ mod coercions;
 mod lines;
 mod numbers;
 mod order;
+mod texts;
 mod truths;
