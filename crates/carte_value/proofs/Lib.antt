@@ -4,4 +4,5 @@ pub mod Once
 pub mod Laws
 pub mod Fetches
 pub mod Fronts
+pub mod Bytes
 pub mod Escapes

@@ -5,3 +5,5 @@ pub mod Truths
 pub mod Asks
 pub mod Once
 pub mod Printed
+pub mod Texts
+pub mod Spelling

@@ -10,7 +10,9 @@ mod name;
 mod name_fault;
 mod name_text;
 mod printing;
+mod spelling;
 mod text;
+mod text_fault;
 mod value;
 
 pub use area::Area;
@@ -23,6 +25,7 @@ pub use name_fault::NameFault;
 pub use printing::quoted;
 use std::alloc::AllocError;
 pub use text::Text;
+pub use text_fault::TextFault;
 pub use value::{Bad, Value};
 
 /// There was no memory for what was asked. Nothing that was lent has changed.
