@@ -1,6 +1,7 @@
 //! What formulas mean.
 #![tactic(auto)]
 
+mod applied;
 mod coercions;
 mod found;
 mod lines;
@@ -9,4 +10,5 @@ mod order;
 mod texts;
 mod truths;
 
+pub use applied::{apply, call, condition, negate};
 pub use found::{name_in, names_in};
