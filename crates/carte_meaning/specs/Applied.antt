@@ -47,6 +47,15 @@ applied op.Le vs = compared op.Le vs
 applied op.Gt vs = compared op.Gt vs
 applied op.Ge vs = compared op.Ge vs
 
+-- a bad value among the arguments is the result
+abbrev pub is_strict : Func → Bool
+is_strict f.Count = false
+is_strict f.Pick = false
+is_strict f.If = false
+is_strict f.Indirect = false
+is_strict f.Gather = false
+is_strict func = true
+
 -- IF, INDIRECT and GATHER do more than look at values, as `asks` says
 abbrev pub called : Func → List Value → Value
 called f.Sum vs = strict (λ us. number_value (total (numbers_in us))) vs

@@ -1,8 +1,8 @@
 //! Operators and functions by their names.
 
-ghost use Rattle.std.specs.Prelude.{◌≡◌, ◌<◌, ◌^◌, length, None, IfOk};
+ghost use Rattle.std.specs.Prelude.{◌≡◌, ◌<◌, ◌^◌, true, length, None, IfOk};
 ghost use Rattle.carte_meaning.specs.Coercions.{first_bad};
-ghost use Rattle.carte_meaning.specs.Applied.{applied, called, condition, negated, pick};
+ghost use Rattle.carte_meaning.specs.Applied.{applied, called, condition, is_strict, negated, pick};
 
 use crate::coercions::first_bad;
 use crate::numbers::{add, count, divide, max, min, multiply, negative, subtract, sum};
@@ -67,9 +67,20 @@ fn pick(alloc: Global, values: &[Value]) -> Result<Value, NoMemory>
     }
 }
 
-/// A function of values none of which is bad.
+/// Whether a bad value among the arguments of a function is what it gives.
+fn is_strict(func: Func) -> bool
+    ensures { result ≡ is_strict func }
+{
+    match func {
+        Func::Count | Func::Pick => false,
+        Func::If | Func::Indirect | Func::Gather => false,
+        _ => true,
+    }
+}
+
+/// What a function makes of values of which none is bad, unless it takes bad ones.
 fn call_clean(alloc: Global, func: Func, values: &[Value]) -> Result<Value, NoMemory>
-    requires clean { first_bad values.now ≡ None }
+    requires clean { is_strict func ≡ true → first_bad values.now ≡ None }
     requires length { length values.now < 2 ^ 32 }
     ensures { IfOk result (λ v. v ≡ called func values.now) }
 {
@@ -97,13 +108,10 @@ pub fn call(alloc: Global, func: Func, values: &[Value]) -> Result<Value, NoMemo
     requires { length values.now < 2 ^ 32 }
     ensures { IfOk result (λ v. v ≡ called func values.now) }
 {
-    match func {
-        Func::Count => Ok(count(values)),
-        Func::Pick => pick(alloc, values),
-        Func::If | Func::Indirect | Func::Gather => Ok(Value::Empty),
-        _ => match first_bad(values) {
-            Some(bad) => Ok(Value::Bad(bad)),
-            None => call_clean(alloc, func, values),
-        },
+    if is_strict(func) {
+        if let Some(bad) = first_bad(values) {
+            return Ok(Value::Bad(bad));
+        }
     }
+    call_clean(alloc, func, values)
 }
