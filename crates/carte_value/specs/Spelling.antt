@@ -60,3 +60,7 @@ IsTextAhead bytes None = (t rest : List ℕ) → IsText t → ¬ (bytes ≡ spel
 abbrev pub IsBadAhead : List ℕ → Option Bad → Type 0
 IsBadAhead bytes (Some b) = (rest : List ℕ) × (bytes ≡ bad_code b ∷ rest)
 IsBadAhead bytes None = (b : Bad) (rest : List ℕ) → ¬ (bytes ≡ bad_code b ∷ rest)
+
+-- bytes begin with one spelling at most, and that is of one value
+abbrev pub OneSpelling : Type 0
+OneSpelling = (v w : Value) (r s : List ℕ) → IsValue v → IsValue w → spelling v ++ r ≡ spelling w ++ s → (v ≡ w) × (r ≡ s)
