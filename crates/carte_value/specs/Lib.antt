@@ -7,3 +7,4 @@ pub mod Once
 pub mod Printed
 pub mod Texts
 pub mod Spelling
+pub mod Reading

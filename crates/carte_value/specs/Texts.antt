@@ -1,5 +1,5 @@
 -- Texts that are values.
-use Rattle.std.specs.Prelude.{ℕ, List, ◌≡◌, ◌<◌, ◌≤◌, length, Result, Ok, Err, IsUtf8}
+use Rattle.std.specs.Prelude.{ℕ, List, ◌≡◌, ◌<◌, ◌≤◌, length, Option, Some, None, Result, Ok, Err, IsUtf8}
 use Rattle.carte_value.specs.declared.text_fault.TextFault.{TextFault}
 use Rattle.carte_value.specs.declared.text_fault.TextFault.TheVariants.{TooLong, NoMemory}
 
@@ -12,3 +12,8 @@ abbrev pub IsTextMade : List ℕ → Result (List ℕ) TextFault → Type 0
 IsTextMade bytes (Ok t) = (t ≡ bytes) × (length bytes ≤ 65536)
 IsTextMade bytes (Err (TooLong n)) = (n ≡ length bytes) × (65536 < n)
 IsTextMade bytes (Err NoMemory) = length bytes ≤ 65536
+
+-- the same without memory
+abbrev pub IsTextKept : List ℕ → Option (List ℕ) → Type 0
+IsTextKept bytes (Some t) = (t ≡ bytes) × (length bytes ≤ 65536)
+IsTextKept bytes None = 65536 < length bytes

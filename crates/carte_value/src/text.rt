@@ -1,5 +1,5 @@
-ghost use Rattle.std.specs.Prelude.{◌≡◌, IfOk};
-ghost use Rattle.carte_value.specs.Texts.{IsText, IsTextMade};
+ghost use Rattle.std.specs.Prelude.{◌≡◌, IfOk, string_bytes};
+ghost use Rattle.carte_value.specs.Texts.{IsText, IsTextMade, IsTextKept};
 
 use crate::{NoMemory, TextFault};
 use std::alloc::Global;
@@ -33,6 +33,16 @@ impl Text {
             Ok(text) => Ok(Text { text }),
             Err(_) => Err(TextFault::NoMemory),
         }
+    }
+
+    /// The text as a value, where it isn't too long. It takes no memory.
+    pub fn made(text: String) -> Option<Text>
+        ensures { IsTextKept (string_bytes text) result }
+    {
+        if text.len() > 65536 {
+            return None;
+        }
+        Some(Text { text })
     }
 
     pub fn text(&self) -> &str
