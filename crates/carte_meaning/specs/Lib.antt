@@ -9,3 +9,4 @@ pub mod Meaning
 pub mod Best
 pub mod Static
 pub mod InTurn
+pub mod Laws

@@ -4,6 +4,7 @@
 mod applied;
 mod coercions;
 mod found;
+mod laws;
 mod lines;
 mod numbers;
 mod order;
@@ -12,3 +13,4 @@ mod truths;
 
 pub use applied::{apply, call, condition, negate};
 pub use found::{name_in, names_in};
+pub use laws::{static_asks, static_ends, static_looks, static_needs};
