@@ -14,3 +14,6 @@ mod truths;
 pub use applied::{apply, call, condition, negate};
 pub use found::{name_in, names_in};
 pub use laws::{static_asks, static_ends, static_looks, static_needs};
+
+#[cfg(test)]
+mod tests;
