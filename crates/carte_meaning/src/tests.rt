@@ -243,50 +243,62 @@ cell names|"a1\r\nB2" -> #REF!
 cell names|12 -> #REF!"#;
 
 fn op_of(name: &str) -> Option<Op> {
-    match name {
-        "=" => Some(Op::Eq),
-        "<>" => Some(Op::Ne),
-        "<" => Some(Op::Lt),
-        "<=" => Some(Op::Le),
-        ">" => Some(Op::Gt),
-        ">=" => Some(Op::Ge),
-        "&" => Some(Op::Join),
-        "+" => Some(Op::Add),
-        "-" => Some(Op::Sub),
-        "*" => Some(Op::Mul),
-        "/" => Some(Op::Div),
-        _ => None,
+    for (known, found) in [
+        ("=", Op::Eq),
+        ("<>", Op::Ne),
+        ("<", Op::Lt),
+        ("<=", Op::Le),
+        (">", Op::Gt),
+        (">=", Op::Ge),
+        ("&", Op::Join),
+        ("+", Op::Add),
+        ("-", Op::Sub),
+        ("*", Op::Mul),
+        ("/", Op::Div),
+    ] {
+        if known == name {
+            return Some(found);
+        }
     }
+    None
 }
 
 fn func_of(name: &str) -> Option<Func> {
-    match name {
-        "SUM" => Some(Func::Sum),
-        "MIN" => Some(Func::Min),
-        "MAX" => Some(Func::Max),
-        "COUNT" => Some(Func::Count),
-        "CONCAT" => Some(Func::Concat),
-        "AND" => Some(Func::And),
-        "OR" => Some(Func::Or),
-        "NOT" => Some(Func::Not),
-        "LEN" => Some(Func::Len),
-        "UPPER" => Some(Func::Upper),
-        "LINES" => Some(Func::Lines),
-        "LINE" => Some(Func::Line),
-        "PICK" => Some(Func::Pick),
-        _ => None,
+    for (known, found) in [
+        ("SUM", Func::Sum),
+        ("MIN", Func::Min),
+        ("MAX", Func::Max),
+        ("COUNT", Func::Count),
+        ("CONCAT", Func::Concat),
+        ("AND", Func::And),
+        ("OR", Func::Or),
+        ("NOT", Func::Not),
+        ("LEN", Func::Len),
+        ("UPPER", Func::Upper),
+        ("LINES", Func::Lines),
+        ("LINE", Func::Line),
+        ("PICK", Func::Pick),
+    ] {
+        if known == name {
+            return Some(found);
+        }
     }
+    None
 }
 
-fn bad_of(text: &str) -> Option<Bad> {
-    match text {
-        "#DIV/0!" => Some(Bad::Div0),
-        "#VALUE!" => Some(Bad::Value),
-        "#REF!" => Some(Bad::Ref),
-        "#NUM!" => Some(Bad::Num),
-        "#LEN!" => Some(Bad::Len),
-        _ => None,
+fn bad_of(name: &str) -> Option<Bad> {
+    for (known, found) in [
+        ("#DIV/0!", Bad::Div0),
+        ("#VALUE!", Bad::Value),
+        ("#REF!", Bad::Ref),
+        ("#NUM!", Bad::Num),
+        ("#LEN!", Bad::Len),
+    ] {
+        if known == name {
+            return Some(found);
+        }
     }
+    None
 }
 
 fn value_of(alloc: Global, text: &str) -> Result<Value, Fail> {
