@@ -4,7 +4,6 @@ pub mod Order
 pub mod Texts
 pub mod Found
 pub mod Applied
-pub mod Cells
 pub mod Meaning
 pub mod Best
 pub mod Static
