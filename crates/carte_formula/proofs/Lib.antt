@@ -13,3 +13,4 @@ pub mod Bytes
 pub mod Lexing
 pub mod Lexed
 pub mod Round
+pub mod Depths

@@ -1,9 +1,19 @@
 //! The formula language: its grammar, and the reader and printer that are proved against it.
 #![tactic(auto)]
 
+mod building;
+mod cell;
+mod chains;
 mod copy;
 mod expr;
 mod fault;
+mod func;
+mod operand;
+mod reading;
+mod stack;
+mod start;
+mod state;
+mod step;
 mod tokens;
 
 pub use expr::{Arg, Args, Chain, Expr, Func, Level, Op, Rest};
