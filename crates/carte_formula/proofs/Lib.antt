@@ -12,5 +12,11 @@ pub mod Clear
 pub mod Bytes
 pub mod Lexing
 pub mod Lexed
+pub mod Texts
 pub mod Round
 pub mod Depths
+pub mod Running
+pub mod Unpaired
+pub mod Taking
+pub mod Formulas
+pub mod ReadWhole

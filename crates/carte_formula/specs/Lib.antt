@@ -8,3 +8,7 @@ pub mod Print
 pub mod Lexer
 pub mod Whole
 pub mod Parser
+pub mod Runs
+pub mod Takes
+pub mod Formula
+pub mod Printed
