@@ -1,0 +1,11 @@
+pub mod Coercions
+pub mod Numbers
+pub mod Order
+pub mod Texts
+pub mod Found
+pub mod Applied
+pub mod Meaning
+pub mod Best
+pub mod Static
+pub mod InTurn
+pub mod Laws
