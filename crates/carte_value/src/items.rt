@@ -1,4 +1,4 @@
-ghost use Rattle.std.specs.Prelude.{◌≡◌, ◌++◌, ◌∷◌, [], List, length, slice_get, option_copied, IfOk, ◌==◌, is_ok, if◌then◌else◌};
+ghost use Rattle.std.specs.Prelude.{◌≡◌, ◌++◌, ◌∷◌, [], List, length, slice_get, option_copied, IfOk, ◌==◌, is_ok, if◌then◌else◌, take};
 
 use crate::NoMemory;
 use std::alloc::Global;
@@ -80,6 +80,27 @@ impl<T: Drop> Items<T> {
             Ok(()) => Ok(()),
             Err(_) => Err(NoMemory),
         }
+    }
+
+    /// Puts all items of a later list behind these, in their order. Where there is no room for them, they are dropped and nothing has changed.
+    pub fn append(&mut self, later: Items<T>) -> Result<(), NoMemory>
+        ensures { self.new ≡ (if is_ok result then self.old ++ later else self.old) }
+    {
+        let mut later = later.items;
+        if later.len() > 4294967295 - self.items.len() {
+            return Err(NoMemory);
+        }
+        match self.items.append(&mut later) {
+            Ok(()) => Ok(()),
+            Err(_) => Err(NoMemory),
+        }
+    }
+
+    /// Drops the items behind the first `len`.
+    pub fn truncate(&mut self, len: usize)
+        ensures { self.new ≡ take len self.old }
+    {
+        self.items.truncate(len);
     }
 }
 
