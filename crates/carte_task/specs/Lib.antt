@@ -1,0 +1,5 @@
+pub mod Effects
+pub mod Lists
+pub mod Sights
+pub mod Ledger
+pub mod Pairs

@@ -1,0 +1,18 @@
+//! Tasks over every effect: a formula runs as a machine that asks for the values of names, one at a time, and whoever answers decides what a name without a value means.
+#![tactic(auto)]
+
+mod each;
+mod effect;
+mod list;
+mod look;
+mod refs_only;
+mod runs;
+mod tracked;
+
+pub use each::Each;
+pub use effect::{Effect, Halt};
+pub use list::{Answers, FetchList};
+pub use look::{Look, Seen, Snapshot, Stuck};
+pub use refs_only::{Never, RefsOnly};
+pub use runs::Runs;
+pub use tracked::Tracked;
