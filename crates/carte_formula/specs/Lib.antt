@@ -1,2 +1,5 @@
+pub mod Areas
 pub mod Tree
 pub mod Code
+pub mod Grammar
+pub mod Machine

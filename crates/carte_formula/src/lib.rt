@@ -3,5 +3,6 @@
 
 mod copy;
 mod expr;
+mod tokens;
 
 pub use expr::{Arg, Args, Chain, Expr, Func, Level, Op, Rest};

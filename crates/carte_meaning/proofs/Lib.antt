@@ -1,1 +1,3 @@
 mod Examples
+pub mod Bests
+pub mod Sums

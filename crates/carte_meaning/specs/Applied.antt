@@ -40,12 +40,12 @@ applied op.Sub vs = strict (two (numbers (λ m n. number_value (m -ℤ n)))) vs
 applied op.Mul vs = strict (two (numbers (λ m n. number_value (m *ℤ n)))) vs
 applied op.Div vs = strict (two (numbers divided)) vs
 applied op.Join vs = joined vs
-applied op.Eq vs = compared is_equal vs
-applied op.Ne vs = compared (λ o. not (is_equal o)) vs
-applied op.Lt vs = compared is_less vs
-applied op.Le vs = compared (λ o. not (is_greater o)) vs
-applied op.Gt vs = compared is_greater vs
-applied op.Ge vs = compared (λ o. not (is_less o)) vs
+applied op.Eq vs = compared op.Eq vs
+applied op.Ne vs = compared op.Ne vs
+applied op.Lt vs = compared op.Lt vs
+applied op.Le vs = compared op.Le vs
+applied op.Gt vs = compared op.Gt vs
+applied op.Ge vs = compared op.Ge vs
 
 -- IF, INDIRECT and GATHER do more than look at values, as `asks` says
 abbrev pub called : Func → List Value → Value

@@ -1,19 +1,16 @@
 -- The names that a text is, or that its lines are.
 use Rattle.std.specs.Prelude.{ℕ, List, Option, Some, None, Result, Ok, Err, if◌then◌else◌}
-use Rattle.std.specs.Str.{str_to_ascii_uppercase}
-use Rattle.carte_value.specs.Names.{is_rule_name, is_cell_name}
 use Rattle.carte_value.specs.declared.kind.Kind.{Kind}
-use Rattle.carte_value.specs.declared.kind.Kind.TheVariants.{Rules, Sheet}
+use Rattle.carte_value.specs.Kinds.{is_text_of, name_of}
 use Rattle.carte_value.specs.declared.value.Bad.TheVariants as bad
 use Rattle.carte_value.specs.declared.value.Value.{Value}
 use Rattle.carte_value.specs.declared.value.Value.TheVariants.{Text, Bad}
 use Rattle.carte_meaning.specs.Coercions.{text_of, each_as}
 use Rattle.carte_meaning.specs.Texts.{lines}
 
--- a rule's name as it stands; a cell's in either case, raised
+-- the name of this kind that the text is read as
 abbrev pub named : Kind → List ℕ → Option (List ℕ)
-named Rules t = if is_rule_name t then Some t else None
-named Sheet t = if is_cell_name (str_to_ascii_uppercase t) then Some (str_to_ascii_uppercase t) else None
+named kind t = if is_text_of kind t then Some (name_of kind t) else None
 
 abbrev pub or_no_name : {A : Type 0} → Option A → Result A Value
 or_no_name None = Err (Bad bad.Ref)

@@ -6,3 +6,4 @@ pub mod Found
 pub mod Applied
 pub mod Cells
 pub mod Meaning
+pub mod Best

@@ -1,11 +1,13 @@
 -- The order of values: numbers by size, texts by bytes, each number before each text.
-use Rattle.std.specs.Prelude.{pos, Bool, true, false, List, []}
+use Rattle.std.specs.Prelude.{pos, Bool, true, false, not, List, []}
 use Rattle.std.specs.Ordering.{nat_cmp, int_cmp}
 use Rattle.std.specs.declared.cmp.Ordering.{Ordering}
 use Rattle.std.specs.declared.cmp.Ordering.TheVariants.{Less, Equal, Greater}
 use Rattle.std.specs.Cmp.Lexicographic.{slice_cmp}
 use Rattle.carte_value.specs.declared.value.Value.{Value}
 use Rattle.carte_value.specs.declared.value.Value.TheVariants.{Empty, Number, Text}
+use Rattle.carte_formula.specs.declared.expr.Op.{Op}
+use Rattle.carte_formula.specs.declared.expr.Op.TheVariants as op
 use Rattle.carte_meaning.specs.Coercions.{strict, two, truth_value}
 
 -- Empty is 0 beside a number, and the text without bytes beside a text
@@ -32,5 +34,15 @@ abbrev pub is_greater : Ordering → Bool
 is_greater Greater = true
 is_greater o = false
 
-abbrev pub compared : (Ordering → Bool) → List Value → Value
-compared test vs = strict (two (λ v w. truth_value (test (value_cmp v w)))) vs
+-- whether a comparison holds for what is so ordered; the other operators are none
+abbrev pub passes : Op → Ordering → Bool
+passes op.Eq o = is_equal o
+passes op.Ne o = not (is_equal o)
+passes op.Lt o = is_less o
+passes op.Le o = not (is_greater o)
+passes op.Gt o = is_greater o
+passes op.Ge o = not (is_less o)
+passes op o = false
+
+abbrev pub compared : Op → List Value → Value
+compared op vs = strict (two (λ v w. truth_value (passes op (value_cmp v w)))) vs

@@ -1,2 +1,7 @@
 //! What formulas mean.
 #![tactic(auto)]
+
+mod coercions;
+mod numbers;
+mod order;
+mod truths;

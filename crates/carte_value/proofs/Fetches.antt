@@ -19,27 +19,27 @@ unknown a j = not (is_some (answer_in a j))
 filter_under : (p q : List ℕ → Bool) (ks : List (List ℕ)) → ((j : List ℕ) → q j ≡ false → p j ≡ false) → filter p (filter q ks) ≡ filter p ks
 filter_under p q [] under = refl
 filter_under p q (j ∷ js) under =
-  elim (q j) as (λ b. q j ≡ b → filter p (cond b (j ∷ filter q js) (filter q js)) ≡ cond (p j) (j ∷ filter p js) (filter p js)) [
-    | true ↦ λ is. rw (filter_under p q js under) refl
-    | false ↦ λ is. rw (under j is) (filter_under p q js under)
-  ] refl
+    elim (q j) as (λ b. q j ≡ b → filter p (cond b (j ∷ filter q js) (filter q js)) ≡ cond (p j) (j ∷ filter p js) (filter p js)) [
+      | true ↦ λ is. rw (filter_under p q js under) refl
+      | false ↦ λ is. rw (under j is) (filter_under p q js under)
+    ] refl
 
 -- two tests, one behind the other, are the test by both
 filter_both : (p q r : List ℕ → Bool) (ks : List (List ℕ)) → ((j : List ℕ) → r j ≡ (q j && p j)) → filter r ks ≡ filter p (filter q ks)
 filter_both p q r [] both = refl
 filter_both p q r (j ∷ js) both =
-  elim (q j) as (λ b. q j ≡ b → cond (r j) (j ∷ filter r js) (filter r js) ≡ filter p (cond b (j ∷ filter q js) (filter q js))) [
-    | true ↦ λ is. rw (both j, is, filter_both p q r js both) refl
-    | false ↦ λ is. rw (both j, is) (filter_both p q r js both)
-  ] refl
+    elim (q j) as (λ b. q j ≡ b → cond (r j) (j ∷ filter r js) (filter r js) ≡ filter p (cond b (j ∷ filter q js) (filter q js))) [
+      | true ↦ λ is. rw (both j, is, filter_both p q r js both) refl
+      | false ↦ λ is. rw (both j, is) (filter_both p q r js both)
+    ] refl
 
 -- a name that has an answer is another than one that has none
 known_apart : (a : Answers) (k : List ℕ) (v : Value) (j : List ℕ) → answer_in a k ≡ Some v → not (name_eq k j) ≡ false → unknown a j ≡ false
 known_apart a k v j is same =
-  elim (name_eq k j) as (λ b. name_eq k j ≡ b → not b ≡ false → unknown a j ≡ false) [
-    | true ↦ λ equal _. let e : k ≡ j = (bytes_decides k j).0 equal in rw (← e, is) refl
-    | false ↦ λ _ never. cc
-  ] refl same
+    elim (name_eq k j) as (λ b. name_eq k j ≡ b → not b ≡ false → unknown a j ≡ false) [
+      | true ↦ λ equal _. let e : k ≡ j = (bytes_decides k j).0 equal in rw (← e, is) refl
+      | false ↦ λ _ never. cc
+    ] refl same
 
 -- with one more answer one name more is known
 unknown_more : (a : Answers) (k : List ℕ) (v : Value) (j : List ℕ) → unknown (a ++ (k, v) ∷ []) j ≡ (not (name_eq k j) && unknown a j)
@@ -57,6 +57,7 @@ agrees_more a t k v agrees is j w = rw (answer_on a ((k, v) ∷ []) j) (cases (a
     last : (b : Bool) → name_eq j k ≡ b → cond b (Some v) None ≡ Some w → t j ≡ Some w
     last true same h = let e : j ≡ k = (bytes_decides j k).0 same in rw e (is ∙ h)
     last false other h = cc
+
     cases : (o : Option Value) → answer_in a j ≡ o → or_else o (cond (name_eq j k) (Some v) None) ≡ Some w → t j ≡ Some w
     cases None none h = last (name_eq j k) refl h
     cases (Some x) known h = agrees j w (known ∙ h)
@@ -65,13 +66,13 @@ agrees_more a t k v agrees is j w = rw (answer_on a ((k, v) ∷ []) j) (cases (a
 pub once_asks : {A : Type 0} (t : Truth) (m : Asks A) (a : Answers) → Agrees a t → asked t (once a m) ≡ filter (unknown a) (firsts (asked t m))
 once_asks t (done x) a agrees = refl
 once_asks {A = A} t (ask k go) a agrees =
-  elim (answer_in a k) as (λ o. answer_in a k ≡ o → asked t (once_on o a k (λ b v. once b (go v))) ≡ cond (not (is_some o)) (k ∷ filter (unknown a) (others (t k))) (filter (unknown a) (others (t k)))) [
-    | Some v ↦ λ is. rw (agrees k v is) (once_asks t (go v) a agrees ∙ sym (filter_under (unknown a) (λ j. not (name_eq k j)) (firsts (asked t (go v))) (λ j. known_apart a k v j is)))
-    | None ↦ λ is. ap (λ ks. k ∷ ks) (elim (t k) as (λ o. t k ≡ o → asked_on o (λ v. asked t (once (a ++ (k, v) ∷ []) (go v))) ≡ filter (unknown a) (others o)) [
+    elim (answer_in a k) as (λ o. answer_in a k ≡ o → asked t (once_on o a k (λ b v. once b (go v))) ≡ cond (not (is_some o)) (k ∷ filter (unknown a) (others (t k))) (filter (unknown a) (others (t k)))) [
+      | Some v ↦ λ is. rw (agrees k v is) (once_asks t (go v) a agrees ∙ sym (filter_under (unknown a) (λ j. not (name_eq k j)) (firsts (asked t (go v))) (λ j. known_apart a k v j is)))
+      | None ↦ λ is. ap (λ ks. k ∷ ks) (elim (t k) as (λ o. t k ≡ o → asked_on o (λ v. asked t (once (a ++ (k, v) ∷ []) (go v))) ≡ filter (unknown a) (others o)) [
         | None ↦ λ none. refl
         | Some v ↦ λ known. once_asks t (go v) (a ++ (k, v) ∷ []) (agrees_more a t k v agrees known) ∙ filter_both (unknown a) (λ j. not (name_eq k j)) (unknown (a ++ (k, v) ∷ [])) (firsts (asked t (go v))) (unknown_more a k v)
       ] refl)
-  ] refl
+    ] refl
   where
     others : Option Value → List (List ℕ)
     others o = filter (λ j. not (name_eq k j)) (firsts (asked_on o (λ v. asked t (go v))))

@@ -14,10 +14,10 @@ use Rattle.carte_value.proofs.Once.{went_asked}
 pub answer_on : (a b : Answers) (k : List ℕ) → answer_in (a ++ b) k ≡ or_else (answer_in a k) (answer_in b k)
 answer_on [] b k = refl
 answer_on ((j, v) ∷ a) b k =
-  elim (name_eq k j) as (λ s. cond s (Some v) (lookup (name_eq k) (a ++ b)) ≡ or_else (cond s (Some v) (lookup (name_eq k) a)) (lookup (name_eq k) b)) [
-    | true ↦ refl
-    | false ↦ answer_on a b k
-  ]
+    elim (name_eq k j) as (λ s. cond s (Some v) (lookup (name_eq k) (a ++ b)) ≡ or_else (cond s (Some v) (lookup (name_eq k) a)) (lookup (name_eq k) b)) [
+      | true ↦ refl
+      | false ↦ answer_on a b k
+    ]
 
 -- the answer that was put behind answers without that name
 pub answer_new : (a b : Answers) (k : List ℕ) (v : Value) → answer_in a k ≡ None → answer_in (a ++ ((k, v) ∷ b)) k ≡ Some v
@@ -29,9 +29,10 @@ and_known a t k v is = fun_ext (λ j. rw (answer_on a ((k, v) ∷ []) j) (one j 
   where
     last : (j : List ℕ) → or_else (cond (name_eq j k) (Some v) None) (t j) ≡ t j
     last j = elim (name_eq j k) as (λ b. name_eq j k ≡ b → or_else (cond b (Some v) None) (t j) ≡ t j) [
-        | true ↦ λ same. let e : j ≡ k = (bytes_decides j k).0 same in sym (ap t e ∙ is)
-        | false ↦ λ other. refl
-      ] refl
+      | true ↦ λ same. let e : j ≡ k = (bytes_decides j k).0 same in sym (ap t e ∙ is)
+      | false ↦ λ other. refl
+    ] refl
+
     one : (j : List ℕ) (o : Option Value) → or_else (or_else o (cond (name_eq j k) (Some v) None)) (t j) ≡ or_else o (t j)
     one j None = last j
     one j (Some w) = refl
@@ -42,24 +43,25 @@ anew {A = A} t k go r b [] none is on = rw (append-nil b, none, ← is) (stays (
   where
     next : (v : Value) → t k ≡ Some v → run (and_answers b t) (go v) ≡ run t (once (b ++ (k, v) ∷ []) (go v))
     next v known = ap (λ u. run u (go v)) (sym (and_known b t k v known)) ∙ (rw append-nil at (on (b ++ (k, v) ∷ []) v [] (once (b ++ (k, v) ∷ []) (go v)) refl))
+
     stays : (o : Option Value) → t k ≡ o → answered {A = A} o k (λ v. run (and_answers b t) (go v)) ≡ answered {A = A} o k (λ v. run t (once (b ++ (k, v) ∷ []) (go v)))
     stays None known = refl
     stays (Some v) known = next v known
 anew {A = A} t k go r b ((j, w) ∷ a) none (on_from, is, way) on =
-  let same : k ≡ j = cc in
-  let next : (λ v. once (b ++ (k, v) ∷ []) (go v)) ≡ on_from = cc in
-  let here : Went (once (b ++ (k, w) ∷ []) (go w)) a r = subst (λ f. Went (f w) a r) (sym next) way in
-  rw (← same, answer_new b a k w none) (rw append_assoc at (on (b ++ (k, w) ∷ []) w a r here))
+    let same : k ≡ j = cc in
+    let next : (λ v. once (b ++ (k, v) ∷ []) (go v)) ≡ on_from = cc in
+    let here : Went (once (b ++ (k, w) ∷ []) (go w)) a r = subst (λ f. Went (f w) a r) (sym next) way in
+    rw (← same, answer_new b a k w none) (rw append_assoc at (on (b ++ (k, w) ∷ []) w a r here))
 
 -- what is left, over a truth, is the whole over that truth with all answers, those from before and those on the way
 pub rest_runs : {A : Type 0} (t : Truth) (m r : Asks A) (b a : Answers) → Went (once b m) a r → run (and_answers (b ++ a) t) m ≡ run t r
 rest_runs t (done x) r b [] is = ap (run t) is
 rest_runs t (done x) r b ((k, v) ∷ a) (go, is, way) = cc
 rest_runs {A = A} t (ask k go) r b a way =
-  elim (answer_in b k) as (λ o. answer_in b k ≡ o → Went (once_on o b k (λ c v. once c (go v))) a r → answered {A = A} (and_answers (b ++ a) t k) k (λ v. run (and_answers (b ++ a) t) (go v)) ≡ run t r) [
-    | Some v ↦ λ is here. rw (answer_on b a k, is) (rest_runs t (go v) r b a here)
-    | None ↦ λ is here. anew t k go r b a is here (λ c v d s. rest_runs t (go v) s c d)
-  ] refl way
+    elim (answer_in b k) as (λ o. answer_in b k ≡ o → Went (once_on o b k (λ c v. once c (go v))) a r → answered {A = A} (and_answers (b ++ a) t k) k (λ v. run (and_answers (b ++ a) t) (go v)) ≡ run t r) [
+      | Some v ↦ λ is here. rw (answer_on b a k, is) (rest_runs t (go v) r b a here)
+      | None ↦ λ is here. anew t k go r b a is here (λ c v d s. rest_runs t (go v) s c d)
+    ] refl way
 
 -- a computation that asks each name once: what is left, over a truth, is the whole over that truth with the answers
 pub machine_runs : {A : Type 0} (t : Truth) (m r : Asks A) (a : Answers) → Went (once [] m) a r → run (and_answers a t) m ≡ run t r

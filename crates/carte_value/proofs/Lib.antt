@@ -3,3 +3,4 @@ pub mod Firsts
 pub mod Once
 pub mod Laws
 pub mod Fetches
+pub mod Fronts

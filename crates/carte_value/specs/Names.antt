@@ -3,6 +3,7 @@ use Rattle.std.specs.Prelude.{ℕ, Bool, List, length, slice_index, ◌==◌, �
 use Rattle.std.specs.Ordering.{nat_cmp}
 use Rattle.std.specs.declared.cmp.Ordering.{Ordering}
 use Rattle.std.specs.List.{list_all}
+use Rattle.std.specs.Str.{str_to_ascii_uppercase}
 use Rattle.std.specs.Cmp.Lexicographic.{slice_cmp}
 
 -- the order of names is that of their bytes
@@ -41,3 +42,7 @@ is_cell_name k = is_upper (slice_index k 0) && (if is_upper (slice_index k 1) th
 
 abbrev pub is_name : List ℕ → Bool
 is_name k = is_rule_name k || is_cell_name k
+
+-- the text of a cell's name, with letters in either case
+abbrev pub is_cell_text : List ℕ → Bool
+is_cell_text t = is_cell_name (str_to_ascii_uppercase t)

@@ -7,6 +7,8 @@ mod items;
 mod kind;
 mod link;
 mod name;
+mod name_fault;
+mod name_text;
 mod text;
 mod value;
 
@@ -16,6 +18,7 @@ pub use items::{Items, Same};
 pub use kind::Kind;
 pub use link::{Link, Links, Names, Values};
 pub use name::Name;
+pub use name_fault::NameFault;
 pub use text::Text;
 pub use value::{Bad, Value};
 

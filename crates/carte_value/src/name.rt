@@ -5,9 +5,13 @@ ghost use Rattle.std.specs.Hash as fed;
 ghost use Rattle.std.specs.Cmp.{on_equiv, on_total, on_po, on_per, partial_equiv_from_equiv};
 ghost use Rattle.std.specs.Cmp.Lexicographic.{nat_list_eq_equiv, nat_list_cmp_total, texts_ties, texts_po};
 ghost use Rattle.std.specs.Cmp.Rules.{comparing, hashing};
-ghost use Rattle.carte_value.specs.Names.{name_cmp, name_eq, is_name, is_rule_name};
+ghost use Rattle.carte_value.specs.Names.{name_cmp, name_eq, is_name, is_rule_name, is_cell_name, is_cell_text};
+ghost use Rattle.carte_value.specs.Kinds.{is_name_of, is_text_of, name_of};
+ghost use Rattle.carte_value.specs.Fronts.{IsNameRead};
+ghost use Rattle.std.specs.Str.{str_to_ascii_uppercase};
 
-use crate::NoMemory;
+use crate::name_text::{cell_front, first, is_cell, is_rule, rule_front};
+use crate::{Kind, NameFault, NoMemory};
 use std::alloc::Global;
 use std::cmp::Ordering;
 use std::hash::{Hash, Hasher};
@@ -31,6 +35,66 @@ impl Model for Name {
 }
 
 impl Name {
+    /// Reads a name of a rule file: a lower-case letter, and then at most 63 bytes more of lower-case letters, digits, `_`, `.` and `/`.
+    pub fn rule(alloc: Global, text: &str) -> Result<Name, NameFault>
+        ensures { IsNameRead is_rule_name text.now text.now result }
+    {
+        if !is_rule(text.as_bytes()) {
+            return Err(NameFault::BadName(rule_front(text.as_bytes())));
+        }
+        match String::from_str(alloc, text) {
+            Ok(text) => Ok(Name { text }),
+            Err(_) => Err(NameFault::NoMemory),
+        }
+    }
+
+    /// Reads a name of a cell, in either case: A to ZZ, and then a row from 1 to 9999 without leading zeros.
+    pub fn cell(alloc: Global, text: &str) -> Result<Name, NameFault>
+        ensures { IsNameRead is_cell_text text.now (str_to_ascii_uppercase text.now) result }
+    {
+        if !is_cell(text.as_bytes()) {
+            return Err(NameFault::BadName(cell_front(text.as_bytes())));
+        }
+        match text.to_ascii_uppercase(alloc) {
+            Ok(text) => Ok(Name { text }),
+            Err(_) => Err(NameFault::NoMemory),
+        }
+    }
+
+    /// Reads a name of this kind of book.
+    pub fn of(alloc: Global, kind: Kind, text: &str) -> Result<Name, NameFault>
+        ensures { IsNameRead (is_text_of kind) text.now (name_of kind text.now) result }
+    {
+        match kind {
+            Kind::Rules => Name::rule(alloc, text),
+            Kind::Sheet => Name::cell(alloc, text),
+        }
+    }
+
+    /// Whether it is a name of a rule file.
+    pub fn is_rule(&self) -> bool
+        ensures { result ≡ is_rule_name self.now }
+    {
+        first(self.text.as_bytes()).is_ascii_lowercase()
+    }
+
+    /// Whether it is a name of a cell.
+    pub fn is_cell(&self) -> bool
+        ensures { result ≡ is_cell_name self.now }
+    {
+        first(self.text.as_bytes()).is_ascii_uppercase()
+    }
+
+    /// Whether it is a name of this kind of book.
+    pub fn is_of(&self, kind: Kind) -> bool
+        ensures { result ≡ is_name_of kind self.now }
+    {
+        match kind {
+            Kind::Rules => self.is_rule(),
+            Kind::Sheet => self.is_cell(),
+        }
+    }
+
     /// The name as it is written; that of a cell is in upper case.
     pub fn text(&self) -> &str
         ensures text { result.now ≡ self.now }

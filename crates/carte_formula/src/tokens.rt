@@ -1,0 +1,17 @@
+use crate::{Func, Op};
+use carte_value::{Name, Text};
+
+/// What a formula text is made of. A `Word` names a rule or an input of a rule file, a `Cell` a cell of a sheet.
+#[derive(Debug, Drop)]
+pub enum Token {
+    Number(i64),
+    Text(Text),
+    Word(Name),
+    Cell(Name),
+    Func(Func),
+    Op(Op),
+    Open,
+    Close,
+    Comma,
+    Colon,
+}
