@@ -3,3 +3,5 @@ pub mod Lists
 pub mod Sights
 pub mod Ledger
 pub mod Pairs
+pub mod Code
+pub mod Turns

@@ -1,13 +1,16 @@
 //! Tasks over every effect: a formula runs as a machine that asks for the values of names, one at a time, and whoever answers decides what a name without a value means.
 #![tactic(auto)]
 
+mod code;
 mod each;
 mod effect;
 mod list;
 mod look;
+mod meaning;
 mod refs_only;
 mod runs;
 mod tracked;
+mod turns;
 
 pub use each::Each;
 pub use effect::{Effect, Halt};
