@@ -1,2 +1,4 @@
 pub mod Pairs
 pub mod Lists
+pub mod Answering
+pub mod Driving

@@ -5,3 +5,5 @@ pub mod Ledger
 pub mod Pairs
 pub mod Code
 pub mod Turns
+pub mod Answered
+pub mod State

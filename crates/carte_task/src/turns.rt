@@ -1,6 +1,7 @@
 //! What each instruction does to the stack. None of them fetches: they say which names are to be looked up.
 
 ghost use Rattle.std.specs.Prelude.{◌≡◌, ◌++◌, ◌∷◌, [], List, length, IfOk, OnErr, OnOk};
+ghost use Rattle.carte_meaning.specs.Texts.{joined};
 ghost use Rattle.carte_task.specs.Code.{newest, below, put, top};
 ghost use Rattle.carte_task.specs.Turns.{Applies};
 ghost use Rattle.carte_task.specs.declared.code.Instr.TheVariants as i;
@@ -260,6 +261,17 @@ fn gather(alloc: Global, kind: Kind, values: &mut Vec<Value>) -> Result<Pending,
             })
         }
         Ok(Err(value)) => put_behind(alloc, values, 1, value),
+        Err(refused) => Err(refused),
+    }
+}
+
+/// Joins the newest values as texts, in their place.
+pub(crate) fn join(alloc: Global, values: &mut Vec<Value>, count: usize) -> Result<(), NoMemory>
+    ensures ok { OnOk result (values.new.items ≡ put count values.old.items (joined (newest count values.old.items))) }
+    ensures err { OnErr result (values.new.items ≡ values.old.items) }
+{
+    match meaning::apply(alloc, Op::Join, newest(values, count)) {
+        Ok(value) => replace(values, count, value),
         Err(refused) => Err(refused),
     }
 }
