@@ -1,3 +1,5 @@
 pub mod Complete
 pub mod Sound
 pub mod Viable
+pub mod Faults
+pub mod Readings

@@ -198,7 +198,7 @@ room_first : (f : Func) → room_in (arity f) 0 ≡ true
 room_first functions.Sum = refl
 room_first _ = refl
 
-keeps : (s : State) (t : Token) (ts : List Token) → Stands s ts → Keeps (next_state s t) (ts ++ t ∷ [])
+pub keeps : (s : State) (t : Token) (ts : List Token) → Stands s ts → Keeps (next_state s t) (ts ++ t ∷ [])
 keeps (wants S) t ts s = keeps_begin t S ts s
 keeps (had v S) t ts s = keeps_had t v S ts s
 keeps (named f S) lpar ts s = (s.0, s.1, [], (λ zs xs h. h), room_first f, rw s.2 (simp append_assoc refl))

@@ -3,3 +3,4 @@ pub mod Tree
 pub mod Code
 pub mod Grammar
 pub mod Machine
+pub mod Reading

@@ -3,6 +3,8 @@
 
 mod copy;
 mod expr;
+mod fault;
 mod tokens;
 
 pub use expr::{Arg, Args, Chain, Expr, Func, Level, Op, Rest};
+pub use fault::FormulaFault;

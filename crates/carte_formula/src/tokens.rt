@@ -15,3 +15,10 @@ pub enum Token {
     Comma,
     Colon,
 }
+
+/// A token and the place of its first byte.
+#[derive(Debug, Drop)]
+pub struct Placed {
+    pub place: usize,
+    pub token: Token,
+}

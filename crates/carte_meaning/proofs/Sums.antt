@@ -1,5 +1,5 @@
 -- Sums of numbers that are added one by one.
-use Rattle.std.proofs.Common.{◌≡◌, ℕ, ◌+◌, ◌*◌, ◌<◌, ◌^◌, ℤ, pos, negsuc, ◌+ℤ◌, ◌≤ℤ◌, neg_ℤ, List, ◌∷◌, length, drop, slice_index_or, arith, ◌∙◌, ap, sym, drop-cons}
+use Rattle.std.proofs.Common.{◌≡◌, ℕ, ◌+◌, ◌*◌, ◌<◌, ◌^◌, ℤ, pos, ◌+ℤ◌, ◌≤ℤ◌, neg_ℤ, List, ◌∷◌, length, drop, slice_index_or, arith, drop-cons}
 use Rattle.std.proofs.lemmas.Int.{ints}
 use Rattle.carte_value.specs.declared.value.Value.{Value}
 use Rattle.carte_meaning.specs.Numbers.{numbers_in, total}

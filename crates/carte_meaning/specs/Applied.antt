@@ -11,7 +11,7 @@ use Rattle.carte_formula.specs.declared.expr.Func.{Func}
 use Rattle.carte_formula.specs.declared.expr.Func.TheVariants as f
 use Rattle.carte_meaning.specs.Coercions.{as_number, as_truth, text_of, is_nonzero, number_value, truth_value, strict, or_wrong, each_as, one, two, numbers}
 use Rattle.carte_meaning.specs.Numbers.{divided, total, numbers_in, least, greatest}
-use Rattle.carte_meaning.specs.Order.{compared, is_less, is_equal, is_greater}
+use Rattle.carte_meaning.specs.Order.{compared}
 use Rattle.carte_meaning.specs.Texts.{joined, lines, line_of}
 
 -- the truth of a condition, or what takes the place of both branches
@@ -46,6 +46,15 @@ applied op.Lt vs = compared op.Lt vs
 applied op.Le vs = compared op.Le vs
 applied op.Gt vs = compared op.Gt vs
 applied op.Ge vs = compared op.Ge vs
+
+-- a bad value among the arguments is the result
+abbrev pub is_strict : Func → Bool
+is_strict f.Count = false
+is_strict f.Pick = false
+is_strict f.If = false
+is_strict f.Indirect = false
+is_strict f.Gather = false
+is_strict func = true
 
 -- IF, INDIRECT and GATHER do more than look at values, as `asks` says
 abbrev pub called : Func → List Value → Value

@@ -7,3 +7,5 @@ pub mod Applied
 pub mod Cells
 pub mod Meaning
 pub mod Best
+pub mod Static
+pub mod InTurn

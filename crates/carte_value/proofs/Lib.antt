@@ -4,3 +4,7 @@ pub mod Once
 pub mod Laws
 pub mod Fetches
 pub mod Fronts
+pub mod Quotes
+pub mod Readings
+pub mod Bytes
+pub mod Escapes

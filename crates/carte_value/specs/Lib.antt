@@ -4,3 +4,7 @@ pub mod Kinds
 pub mod Truths
 pub mod Asks
 pub mod Once
+pub mod Printed
+pub mod Texts
+pub mod Spelling
+pub mod Reading

@@ -9,7 +9,13 @@ mod link;
 mod name;
 mod name_fault;
 mod name_text;
+mod printing;
+mod reading;
+mod reading_law;
+mod spelling;
+mod spelling_law;
 mod text;
+mod text_fault;
 mod value;
 
 pub use area::Area;
@@ -19,9 +25,21 @@ pub use kind::Kind;
 pub use link::{Link, Links, Names, Values};
 pub use name::Name;
 pub use name_fault::NameFault;
+pub use printing::quoted;
+pub use reading::read_number;
+pub use reading_law::{one_reading, printed_reads};
+pub use spelling_law::{every_value, one_spelling};
+use std::alloc::AllocError;
 pub use text::Text;
+pub use text_fault::TextFault;
 pub use value::{Bad, Value};
 
 /// There was no memory for what was asked. Nothing that was lent has changed.
 #[derive(Clone, Copy, Debug, PartialEq, Eq)]
 pub struct NoMemory;
+
+impl From<AllocError> for NoMemory {
+    fn from(_: AllocError) -> NoMemory {
+        NoMemory
+    }
+}

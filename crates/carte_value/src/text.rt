@@ -1,6 +1,7 @@
-ghost use Rattle.std.specs.Prelude.{◌≡◌, ◌≤◌, ℕ, length, IfOk};
+ghost use Rattle.std.specs.Prelude.{◌≡◌, IfOk, string_bytes};
+ghost use Rattle.carte_value.specs.Texts.{IsText, IsTextMade, IsTextKept};
 
-use crate::NoMemory;
+use crate::{NoMemory, TextFault};
 use std::alloc::Global;
 use std::marker::Model;
 
@@ -21,9 +22,32 @@ impl Model for Text {
 }
 
 impl Text {
+    /// The text as a value.
+    pub fn of(alloc: Global, text: &str) -> Result<Text, TextFault>
+        ensures { IsTextMade text.now result }
+    {
+        if text.len() > 65536 {
+            return Err(TextFault::TooLong(text.len()));
+        }
+        match String::from_str(alloc, text) {
+            Ok(text) => Ok(Text { text }),
+            Err(_) => Err(TextFault::NoMemory),
+        }
+    }
+
+    /// The text as a value, where it isn't too long. It takes no memory.
+    pub fn made(text: String) -> Option<Text>
+        ensures { IsTextKept (string_bytes text) result }
+    {
+        if text.len() > 65536 {
+            return None;
+        }
+        Some(Text { text })
+    }
+
     pub fn text(&self) -> &str
         ensures text { result.now ≡ self.now }
-        ensures bound { length self.now ≤ 65536 }
+        ensures is { IsText self.now }
     {
         self.text.as_str()
     }

@@ -1,7 +1,7 @@
 use Rattle.std.proofs.Common.{◌≡◌, ◌+ℤ◌, arith, to_z, of_z}
 use Rattle.std.proofs.lemmas.Int.{ints}
 use mir.Syntax.{w128}
-use Rattle.carte_meaning.proofs.Sums.{IsSumTo, sum_on}
+use Rattle.carte_meaning.proofs.Sums.{sum_on}
 use Rattle.carte_meaning.proofs.numbers.sum.Goals as goal
 
 pub loop-value-preserved : goal.loop-value-preserved

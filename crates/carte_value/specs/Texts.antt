@@ -1,0 +1,19 @@
+-- Texts that are values.
+use Rattle.std.specs.Prelude.{ℕ, List, ◌≡◌, ◌<◌, ◌≤◌, length, Option, Some, None, Result, Ok, Err, IsUtf8}
+use Rattle.carte_value.specs.declared.text_fault.TextFault.{TextFault}
+use Rattle.carte_value.specs.declared.text_fault.TextFault.TheVariants.{TooLong, NoMemory}
+
+-- UTF-8, and at most 65,536 bytes long
+abbrev pub IsText : List ℕ → Type 0
+IsText t = IsUtf8 t × (length t ≤ 65536)
+
+-- what bytes of a text become: the text, or their number where they are too many
+abbrev pub IsTextMade : List ℕ → Result (List ℕ) TextFault → Type 0
+IsTextMade bytes (Ok t) = (t ≡ bytes) × (length bytes ≤ 65536)
+IsTextMade bytes (Err (TooLong n)) = (n ≡ length bytes) × (65536 < n)
+IsTextMade bytes (Err NoMemory) = length bytes ≤ 65536
+
+-- the same without memory
+abbrev pub IsTextKept : List ℕ → Option (List ℕ) → Type 0
+IsTextKept bytes (Some t) = (t ≡ bytes) × (length bytes ≤ 65536)
+IsTextKept bytes None = 65536 < length bytes
