@@ -48,7 +48,7 @@ looking_halts {B = B} {S = S} t u own other log0 log1 log a0 a1 a r0 names at vs
     subst V (sym still) (subst R (sym e) (along_halts t own log0 log1 log a0 a1 a r0 k (λ w. pushed (drop (at + 1) names) (vs ++ w ∷ []) go) P h (subst Q e way) (own_again t own other log1 log a1 a k h stops (subst W same answer))))
 
 -- instructions that are passed over
-exec_skip : (kind : Kind) (n : ℕ) (code : List Instr) (vs : List Value) → exec kind n code vs ≡ exec kind 0 (drop n code) vs
+pub exec_skip : (kind : Kind) (n : ℕ) (code : List Instr) (vs : List Value) → exec kind n code vs ≡ exec kind 0 (drop n code) vs
 exec_skip kind n [] vs = ap (λ cs. exec kind 0 cs vs) (sym (drop-nil n))
 exec_skip kind zero (c ∷ code) vs = refl
 exec_skip kind (suc n) (c ∷ code) vs = exec_skip kind n code vs

@@ -4,6 +4,8 @@ pub mod Sights
 pub mod Ledger
 pub mod Pairs
 pub mod Code
+pub mod Coding
+pub mod Forms
 pub mod Turns
 pub mod Answered
 pub mod State

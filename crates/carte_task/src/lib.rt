@@ -7,6 +7,7 @@ mod effect;
 mod list;
 mod look;
 mod meaning;
+mod postfix;
 mod progress;
 mod refs_only;
 mod runs;
