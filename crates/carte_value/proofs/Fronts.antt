@@ -122,7 +122,7 @@ cell_two : (a b : ℕ) (x : List ℕ) → is_letter a ≡ true → is_letter b �
 cell_two a b x one two = rw (upper_raised a, one, upper_raised b, two) (row_raised x)
 
 -- a row begins with no letter
-row_first : (x : List ℕ) → is_row x ≡ true → is_letter (slice_index x 0) ≡ false
+pub row_first : (x : List ℕ) → is_row x ≡ true → is_letter (slice_index x 0) ≡ false
 row_first [] row = cc
 row_first (b ∷ y) row =
     let digits : list_all is_digit (b ∷ y) ≡ true = (and_parts _ _ (and_parts _ _ row).0).1 in

@@ -4,7 +4,10 @@ pub mod Once
 pub mod Laws
 pub mod Fetches
 pub mod Fronts
+pub mod Places
 pub mod Quotes
+pub mod Sides
+pub mod Rectangles
 pub mod Readings
 pub mod Bytes
 pub mod Escapes

@@ -4,6 +4,7 @@ pub mod Kinds
 pub mod Truths
 pub mod Asks
 pub mod Once
+pub mod Areas
 pub mod Printed
 pub mod Texts
 pub mod Spelling

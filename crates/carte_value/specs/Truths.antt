@@ -22,3 +22,8 @@ pub record IsListOf (P : List ℕ → Type 0) (ks : List (List ℕ)) : Type 0 wh
   pub rising : IsStrictlySortedBy name_cmp ks
   pub only : (k : List ℕ) → Among ks k → P k
   pub each : (k : List ℕ) → P k → Among ks k
+
+-- no name stands in the list twice
+abbrev pub NoneTwice : List (List ℕ) → Type 0
+NoneTwice [] = Unit {0}
+NoneTwice (k ∷ ks) = ¬ (Among ks k) × NoneTwice ks

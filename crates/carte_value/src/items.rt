@@ -1,4 +1,4 @@
-ghost use Rattle.std.specs.Prelude.{◌≡◌, ◌++◌, ◌∷◌, [], List, length, slice_get, option_copied, IfOk, ◌==◌, is_ok, if◌then◌else◌, take};
+ghost use Rattle.std.specs.Prelude.{◌≡◌, ◌<◌, ◌^◌, ◌++◌, ◌∷◌, [], List, length, slice_get, option_copied, IfOk, ◌==◌, is_ok, if◌then◌else◌, take};
 
 use crate::NoMemory;
 use std::alloc::Global;
@@ -42,7 +42,8 @@ impl<T> Items<T> {
 
     /// How many items there are.
     pub fn len(&self) -> usize
-        ensures { result ≡ length self.now }
+        ensures number { result ≡ length self.now }
+        ensures bound { result < 2 ^ 32 }
     {
         self.items.len()
     }

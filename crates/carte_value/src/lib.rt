@@ -2,6 +2,8 @@
 #![tactic(auto)]
 
 mod area;
+mod area_law;
+mod cell_name;
 mod digest;
 mod items;
 mod kind;
@@ -9,6 +11,7 @@ mod link;
 mod name;
 mod name_fault;
 mod name_text;
+mod place;
 mod printing;
 mod reading;
 mod reading_law;
@@ -19,6 +22,7 @@ mod text_fault;
 mod value;
 
 pub use area::Area;
+pub use area_law::{cells_by_place, cells_within, each_cell_once};
 pub use digest::Digest;
 pub use items::{Items, Same};
 pub use kind::Kind;

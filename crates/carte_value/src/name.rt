@@ -6,11 +6,14 @@ ghost use Rattle.std.specs.Cmp.{on_equiv, on_total, on_po, on_per, partial_equiv
 ghost use Rattle.std.specs.Cmp.Lexicographic.{nat_list_eq_equiv, nat_list_cmp_total, texts_ties, texts_po};
 ghost use Rattle.std.specs.Cmp.Rules.{comparing, hashing};
 ghost use Rattle.carte_value.specs.Names.{name_cmp, name_eq, is_name, is_rule_name, is_cell_name, is_cell_text};
+ghost use Rattle.carte_value.specs.Areas.{cell_at, IsPlace, IsPlaceOf};
 ghost use Rattle.carte_value.specs.Kinds.{is_name_of, is_text_of, name_of};
 ghost use Rattle.carte_value.specs.Fronts.{IsNameRead};
 ghost use Rattle.std.specs.Str.{str_to_ascii_uppercase};
 
+use crate::cell_name::cell_name;
 use crate::name_text::{cell_front, first, is_cell, is_rule, rule_front};
+use crate::place::{column, row};
 use crate::{Kind, NameFault, NoMemory};
 use std::alloc::Global;
 use std::cmp::Ordering;
@@ -69,6 +72,28 @@ impl Name {
             Kind::Rules => Name::rule(alloc, text),
             Kind::Sheet => Name::cell(alloc, text),
         }
+    }
+
+    /// The name of the cell in this column and this row, counted from 1.
+    pub fn cell_at(alloc: Global, column: u32, row: u32) -> Result<Name, NoMemory>
+        requires { IsPlace column row }
+        ensures { IfOk result (λ k. k ≡ cell_at column row) }
+    {
+        match cell_name(alloc, column, row) {
+            Ok(text) => Ok(Name { text }),
+            Err(refused) => Err(refused),
+        }
+    }
+
+    /// The column and the row of a cell, counted from 1.
+    pub fn place(&self) -> Option<(u32, u32)>
+        ensures { IsPlaceOf self.now result }
+    {
+        if !self.is_cell() {
+            return None;
+        }
+        let name = self.text.as_bytes();
+        Some((column(name), row(name)))
     }
 
     /// Whether it is a name of a rule file.
