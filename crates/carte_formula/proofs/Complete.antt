@@ -1,12 +1,11 @@
 -- The machine takes each text of the grammar.
-use Rattle.std.proofs.Common.{ℕ, zero, suc, Bool, true, false, List, [], ◌∷◌, ◌++◌, length, ◌≡◌, ◌≤◌, ◌<◌, Option, Some, None, if◌then◌else◌, refl, sym, ◌∙◌, ap, append_assoc, length-append, arith, subst, nat_le, nat_lt, ◌==◌}
+use Rattle.std.proofs.Common.{ℕ, zero, suc, Bool, true, false, List, [], ◌∷◌, ◌++◌, length, ◌≡◌, ◌≤◌, ◌<◌, Some, if◌then◌else◌, refl, sym, ◌∙◌, ap, append_assoc, length-append, arith, ◌==◌}
 use Rattle.std.proofs.lemmas.Bool.Decides.{nat_tests}
 use Rattle.std.proofs.lemmas.Bool.{lt-ltb, le-ltb, le-leb, ne_eqb}
-use Rattle.std.proofs.lemmas.List.{append-nil, length_push}
-use Rattle.carte_formula.specs.Areas.{area_of}
-use Rattle.carte_formula.specs.Tree.{Op, sub, add, Level, level_of, rank, Func, Tree, number, text, ref, neg, chain, call, Arg, one, cells, Term, steps_of, Arity, many, between, arity, enough_in, room_in, takes_ranges, called_tree, signed, Token, digits, quoted, word, cell, func, op, lpar, rpar, comma, colon}
+use Rattle.std.proofs.lemmas.List.{append-nil}
+use Rattle.carte_formula.specs.Tree.{Op, Level, level_of, rank, Func, Tree, ref, chain, Arg, Term, steps_of, Arity, many, between, arity, enough_in, room_in, takes_ranges, called_tree, Token, op, rpar, comma, colon}
 use Rattle.carte_formula.specs.Grammar.{Counts, Spells, unary, single, chained, Repeats, none, more, Unary, primary, negated, posited, Primary, a_number, a_text, a_word, a_cell, a_call, a_group, Argument, formula, range, Arguments, last, next}
-use Rattle.carte_formula.specs.Machine.{Frame, sign, chain_at, group, args, State, wants, had, named, corner, half, ranged, after, cell_at, joined, grown, end_args, next_args, parsed, with, end_of}
+use Rattle.carte_formula.specs.Machine.{Frame, sign, chain_at, group, args, wants, had, corner, after, cell_at, joined, grown, end_args, next_args, parsed, with}
 
 -- what follows is no part of what operators of ranks below n join
 abbrev pub Stops : ℕ → List Token → Type 0

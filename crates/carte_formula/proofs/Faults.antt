@@ -1,11 +1,10 @@
 -- What the machine reads is what the grammar says of the tokens, faults and places too.
-use Rattle.std.proofs.Common.{ℕ, ℤ, pos, zero, suc, Bool, true, false, List, [], ◌∷◌, ◌++◌, length, take, ◌≡◌, ◌≤◌, ◌<◌, ◌+◌, ◌⊎◌, inl, inr, Option, Some, None, Result, Ok, Err, if◌then◌else◌, refl, sym, ◌∙◌, ap, append_assoc, length-append, arith, nat_le, nat_lt, ◌==◌}
+use Rattle.std.proofs.Common.{ℕ, zero, suc, Bool, true, false, List, [], ◌∷◌, ◌++◌, length, take, ◌≡◌, ◌≤◌, ◌<◌, ◌⊎◌, inl, inr, Option, Some, None, Result, Err, if◌then◌else◌, refl, sym, ◌∙◌, ap, append_assoc, length-append, arith, nat_lt, ◌==◌}
 use Rattle.std.proofs.lemmas.Bool.{ltb-true, ltb-false}
 use Rattle.std.proofs.lemmas.List.{append-nil, take-append-le, take_all}
-use Rattle.carte_formula.specs.Tree.{Op, sub, add, Level, level_of, rank, Func, Area, Tree, number, text, ref, neg, chain, call, Arg, one, cells, Term, steps_of, arity, enough_in, room_in, takes_ranges, called_tree, signed, Token, digits, quoted, word, cell, func, op, lpar, rpar, comma, colon}
-use Rattle.carte_formula.specs.Grammar.{Spells, Viable}
-use Rattle.carte_formula.specs.Machine.{Frame, sign, chain_at, group, args, State, wants, had, named, corner, half, ranged, after, cell_at, sign_at, begin, joined, close, split, ended, grown, go_on, end_args, next_args, next_state, end_of, parsed, moved, with}
-use Rattle.carte_formula.specs.Reading.{FormulaFault, BadSyntax, TooDeep, Placed, tokens_of, dropped, closed, Round, signed_by, round_step, rounds, around, Shallow, SyntaxAt, DeepAt, ReadAs, depth_of, depth, or_syntax, deeper, tokens_read}
+use Rattle.carte_formula.specs.Tree.{Op, sub, add, Level, level_of, rank, Func, Tree, number, text, ref, chain, Arg, one, cells, Term, steps_of, arity, enough_in, room_in, takes_ranges, called_tree, signed, Token, digits, quoted, word, cell, func, op, lpar, rpar, comma, colon}
+use Rattle.carte_formula.specs.Machine.{Frame, sign, chain_at, group, args, State, wants, had, named, corner, half, ranged, after, cell_at, sign_at, begin, joined, close, split, grown, go_on, next_state, end_of, parsed, moved, with}
+use Rattle.carte_formula.specs.Reading.{FormulaFault, TooDeep, Placed, tokens_of, dropped, closed, Round, round_step, rounds, around, Shallow, ReadAs, depth_of, depth, or_syntax, deeper, tokens_read}
 use Rattle.carte_formula.proofs.Complete.{Fits, complete}
 use Rattle.carte_formula.proofs.Sound.{sound, Stood, Stands, Keeps, keeps}
 use Rattle.carte_formula.proofs.Viable.{viable, stuck}

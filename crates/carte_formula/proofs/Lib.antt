@@ -3,3 +3,13 @@ pub mod Sound
 pub mod Viable
 pub mod Faults
 pub mod Readings
+pub mod Corners
+pub mod Again
+pub mod ShownKind
+pub mod Heights
+pub mod Widths
+pub mod Clear
+pub mod Bytes
+pub mod Lexing
+pub mod Lexed
+pub mod Round

@@ -1,13 +1,12 @@
 -- And no other: what the tokens so far spell.
-use Rattle.std.proofs.Common.{ℕ, zero, suc, Bool, true, false, List, [], ◌∷◌, ◌++◌, length, ◌≡◌, ◌≤◌, ◌<◌, ◌⊎◌, Option, Some, None, if◌then◌else◌, refl, sym, ◌∙◌, ap, append_assoc, length-append, arith, ◌+◌, ◌-◌, suc-add, zero-add, subst, nat_le, nat_lt, ◌==◌}
-use Rattle.std.proofs.lemmas.Bool.{ltb-true, leb-true, eqb-true, eqb-false}
+use Rattle.std.proofs.Common.{ℕ, zero, suc, Bool, true, false, List, [], ◌∷◌, ◌++◌, length, ◌≡◌, ◌≤◌, ◌<◌, Option, Some, None, if◌then◌else◌, refl, sym, append_assoc, length-append, arith, ◌+◌, ◌-◌, suc-add, zero-add, subst, nat_lt, ◌==◌}
+use Rattle.std.proofs.lemmas.Bool.{ltb-true, leb-true, eqb-true}
 use Rattle.std.proofs.lemmas.Bool.Decides.{nat_tests}
 use Rattle.std.proofs.lemmas.List.{append-nil}
-use Rattle.carte_formula.specs.Areas.{area_of}
-use Rattle.carte_formula.specs.Tree.{Op, sub, add, Level, compare, concat, sum, product, level_of, rank, Func, Area, Tree, number, text, ref, neg, chain, call, Arg, one, cells, Term, steps_of, Arity, many, between, arity, enough_in, room_in, takes_ranges, called_tree, signed, Token, digits, quoted, word, cell, func, op, lpar, rpar, comma, colon}
+use Rattle.carte_formula.specs.Tree.{Op, sub, add, Level, compare, concat, sum, product, level_of, rank, Func, Tree, number, text, ref, chain, Arg, one, cells, Term, steps_of, Arity, many, between, arity, enough_in, room_in, takes_ranges, called_tree, signed, Token, digits, quoted, word, cell, func, op, lpar, rpar, comma, colon}
 use Rattle.carte_formula.specs.declared.expr.Func.TheVariants as functions
-use Rattle.carte_formula.specs.Grammar.{Counts, Spells, unary, single, chained, Repeats, none, more, Unary, primary, negated, posited, Primary, a_number, a_text, a_word, a_cell, a_call, a_group, Argument, formula, range, Arguments, last, next}
-use Rattle.carte_formula.specs.Machine.{Frame, sign, chain_at, group, args, State, wants, had, named, corner, half, ranged, after, cell_at, sign_at, begin, joined, close, split, ended, grown, go_on, end_args, next_args, next_state, end_of, parsed, with}
+use Rattle.carte_formula.specs.Grammar.{Counts, Spells, unary, single, chained, Repeats, none, more, Unary, primary, negated, posited, a_number, a_text, a_word, a_cell, a_call, a_group, Argument, formula, range, Arguments, last, next}
+use Rattle.carte_formula.specs.Machine.{Frame, sign, chain_at, group, args, State, wants, had, named, corner, half, ranged, after, cell_at, sign_at, begin, joined, close, split, ended, grown, go_on, next_state, end_of, parsed, with}
 use Rattle.carte_formula.proofs.Complete.{Fits}
 
 abbrev pub sign_op : Bool → Op
@@ -42,7 +41,7 @@ raise_by : (k : ℕ) {n : ℕ} {ts : List Token} {e : Tree} → Spells n ts e �
 raise_by zero {n} h = rw (zero-add n) h
 raise_by (suc k) {n} h = rw (suc-add k n) (single (raise_by k h))
 
-raise : (m n : ℕ) {ts : List Token} {e : Tree} → n ≤ m → Spells n ts e → Spells m ts e
+pub raise : (m n : ℕ) {ts : List Token} {e : Tree} → n ≤ m → Spells n ts e → Spells m ts e
 raise m n {ts} {e} le h = let k : (m - n) + n ≡ m = omega arith in subst (λ i. Spells i ts e) k (raise_by (m - n) h)
 
 repeats_snoc : {l : Level} {ys : List Token} {done : List Term} (p : Op) {v : Tree} {ws : List Token} → Repeats l ys done → level_of p ≡ l → Spells (rank l) ws v

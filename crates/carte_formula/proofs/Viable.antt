@@ -1,12 +1,12 @@
 -- Where the machine goes on a formula begins so, and where it stops none does.
-use Rattle.std.proofs.Common.{ℕ, ℤ, pos, zero, suc, Bool, true, false, List, [], ◌∷◌, ◌++◌, length, ◌≡◌, ◌≤◌, ◌<◌, ◌+◌, ◌⊎◌, inl, inr, Option, Some, None, if◌then◌else◌, refl, sym, ◌∙◌, ap, append_assoc, length-append, arith, nat_le, nat_lt}
-use Rattle.std.proofs.lemmas.Bool.{lt-ltb, le-leb}
+use Rattle.std.proofs.Common.{ℕ, pos, zero, suc, true, List, [], ◌∷◌, ◌++◌, length, ◌≡◌, ◌≤◌, ◌+◌, ◌⊎◌, inl, inr, Option, Some, None, refl, length-append, arith}
+use Rattle.std.proofs.lemmas.Bool.{le-leb}
 use Rattle.std.proofs.lemmas.Bool.Decides.{nat_tests}
-use Rattle.carte_formula.specs.Areas.{area_of}
-use Rattle.carte_formula.specs.Tree.{Op, Level, Func, Area, Tree, number, ref, neg, chain, call, Arg, one, cells, Term, steps_of, Arity, many, between, arity, enough_in, room_in, takes_ranges, called_tree, signed, Token, digits, quoted, word, cell, func, op, lpar, rpar, comma, colon}
+use Rattle.carte_value.specs.Areas.{area_of}
+use Rattle.carte_formula.specs.Tree.{Func, Area, Tree, number, ref, chain, Arg, one, cells, steps_of, Arity, many, between, arity, enough_in, room_in, called_tree, signed, Token, digits, cell, lpar, rpar, comma}
 use Rattle.carte_formula.specs.declared.expr.Func.TheVariants as functions
 use Rattle.carte_formula.specs.Grammar.{Spells, Viable}
-use Rattle.carte_formula.specs.Machine.{Frame, sign, chain_at, group, args, State, wants, had, named, corner, half, ranged, after, close, split, ended, grown, end_args, next_args, next_state, end_of, parsed, moved, with}
+use Rattle.carte_formula.specs.Machine.{Frame, sign, chain_at, group, args, State, wants, had, named, corner, half, ranged, after, close, split, ended, grown, end_args, next_args, next_state, parsed, moved, with}
 use Rattle.carte_formula.proofs.Complete.{complete}
 use Rattle.carte_formula.proofs.Sound.{sound}
 

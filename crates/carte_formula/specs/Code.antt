@@ -1,6 +1,6 @@
 -- The trees that the code's formulas stand for.
-use Rattle.std.specs.Prelude.{List, [], ◌∷◌, map}
-use Rattle.carte_formula.specs.Tree.{Op, Func, Tree, number, text, ref, neg, chain, call, Steps, Args, Arg, one, cells, Term, steps_of, args_of}
+use Rattle.std.specs.Prelude.{List, map}
+use Rattle.carte_formula.specs.Tree.{Op, Tree, number, text, ref, neg, chain, call, Steps, Args, Arg, one, cells, Term, steps_of, args_of}
 use Rattle.carte_formula.specs.declared.expr.Expr.{Expr, fold-Expr}
 use Rattle.carte_formula.specs.declared.expr.Arg.TheOpen.{Expr-F, Chain-F, Rest-F, Args-F, Arg-F}
 use Rattle.carte_formula.specs.declared.expr.Chain.{Chain, fold-Chain}

@@ -1,6 +1,7 @@
 -- Formulas as trees, without places in memory, and what their texts are made of.
 use Rattle.std.specs.Prelude.{ℕ, ℤ, pos, Bool, true, false, List, [], ◌∷◌, ◌++◌, length, nat_le, nat_lt, ◌==◌, ◌&&◌, if◌then◌else◌}
 pub use Rattle.carte_value.specs.declared.area.Area.{Area}
+use Rattle.carte_value.specs.Areas.{cell_at}
 pub use Rattle.carte_formula.specs.declared.expr.Level.{Level}
 pub use Rattle.carte_formula.specs.declared.expr.Level.TheVariants.{Compare as compare, Concat as concat, Sum as sum, Product as product}
 pub use Rattle.carte_formula.specs.declared.expr.Op.{Op}
@@ -118,3 +119,9 @@ called_tree f xs = call f (args_of (filled f xs))
 abbrev pub signed : Bool → Tree → Tree
 signed true e = neg e
 signed false e = e
+
+abbrev pub first_corner : Area → List ℕ
+first_corner a = cell_at a.left a.top
+
+abbrev pub last_corner : Area → List ℕ
+last_corner a = cell_at a.right a.bottom

@@ -1,5 +1,5 @@
 -- Meanings that compute, each with the value that Excel or the language's own rule gives.
-use Rattle.std.specs.Prelude.{◌≡◌, pos, negsuc, [], ◌∷◌, ◌^◌, ◌-◌, Some, None, Ok, Err, refl, if◌then◌else◌}
+use Rattle.std.specs.Prelude.{◌≡◌, ℕ, List, pos, negsuc, [], ◌∷◌, ◌^◌, ◌-◌, Some, None, Ok, Err, refl, if◌then◌else◌}
 use Rattle.carte_value.specs.declared.kind.Kind.TheVariants.{Rules, Sheet}
 use Rattle.carte_value.specs.declared.value.Bad.TheVariants as bad
 use Rattle.carte_value.specs.declared.value.Value.{Value}
@@ -9,7 +9,7 @@ use Rattle.carte_value.specs.Names.{name_eq}
 use Rattle.carte_formula.specs.declared.expr.Op.TheVariants as op
 use Rattle.carte_formula.specs.declared.expr.Func.TheVariants as f
 use Rattle.carte_formula.specs.declared.expr.Level.TheVariants as level
-use Rattle.carte_formula.specs.Tree.{Tree, number, text, ref, chain, call, step, no_step, arg, no_arg, one}
+use Rattle.carte_formula.specs.Tree.{Tree, number, ref, neg, chain, call, step, no_step, Args, arg, no_arg, one}
 use Rattle.carte_meaning.specs.Applied.{applied, called, negated}
 use Rattle.carte_meaning.specs.Meaning.{eval, fetched}
 use Rattle.carte_meaning.specs.Found.{name_in, names_in}
@@ -156,46 +156,144 @@ one_no_name = refl
 
 -- 4. whole formulas
 
--- only `a` has a value
+abbrev a : List ℕ
+a = 97 ∷ []
+
+abbrev b : List ℕ
+b = 98 ∷ []
+
+abbrev c : List ℕ
+c = 99 ∷ []
+
+-- `a` and `b` have these values, and nothing else has one
+abbrev with_a_b : Value → Value → Truth
+with_a_b v w k = if name_eq k a then Some v else (if name_eq k b then Some w else None)
+
 abbrev only_a : Value → Truth
-only_a v k = if name_eq k (97 ∷ []) then Some v else None
+only_a v k = if name_eq k a then Some v else None
 
--- IF(a, 7, b)
+abbrev args_1 : Tree → Args
+args_1 x = arg (one x) no_arg
+
+abbrev args_2 : Tree → Tree → Args
+args_2 x y = arg (one x) (args_1 y)
+
+abbrev args_3 : Tree → Tree → Tree → Args
+args_3 x y z = arg (one x) (args_2 y z)
+
 abbrev if_a : Tree
-if_a = call f.If (arg (one (ref (97 ∷ []))) (arg (one (number (pos 7))) (arg (one (ref (98 ∷ []))) no_arg)))
+if_a = call f.If (args_3 (ref a) (number (pos 7)) (ref b))
 
--- PICK(a, 7, b)
-abbrev pick_a : Tree
-pick_a = call f.Pick (arg (one (ref (97 ∷ []))) (arg (one (number (pos 7))) (arg (one (ref (98 ∷ []))) no_arg)))
-
--- 7 - 2 - 1
-abbrev chained : Tree
-chained = chain level.Sum (number (pos 7)) (step op.Sub (number (pos 2)) (step op.Sub (number (pos 1)) no_step))
-
--- GATHER of the lines a and b
-abbrev gather_ab : Tree
-gather_ab = call f.Gather (arg (one (text (97 ∷ 10 ∷ 98 ∷ []))) no_arg)
-
+-- a condition that holds: b, which has no value, isn't looked up
 if_true : eval Rules (only_a (Number (pos 1))) if_a ≡ Ok (Number (pos 7))
 if_true = refl
 
-if_false : eval Rules (only_a Empty) if_a ≡ Err (98 ∷ [])
+if_true_names : fetched Rules (only_a (Number (pos 1))) if_a ≡ a ∷ []
+if_true_names = refl
+
+if_false : eval Rules (only_a Empty) if_a ≡ Err b
 if_false = refl
+
+if_false_names : fetched Rules (only_a Empty) if_a ≡ a ∷ b ∷ []
+if_false_names = refl
 
 if_text : eval Rules (only_a (Text [])) if_a ≡ Ok (Bad bad.Value)
 if_text = refl
 
-if_names : fetched Rules (only_a (Text [])) if_a ≡ (97 ∷ []) ∷ []
-if_names = refl
+if_bad : eval Rules (only_a (Bad bad.Num)) if_a ≡ Ok (Bad bad.Num)
+if_bad = refl
 
-pick_names : fetched Rules (only_a (Number (pos 1))) pick_a ≡ (97 ∷ []) ∷ (98 ∷ []) ∷ []
+if_bad_names : fetched Rules (only_a (Bad bad.Num)) if_a ≡ a ∷ []
+if_bad_names = refl
+
+-- the branch that is taken may be bad
+if_bad_branch : eval Rules (with_a_b Empty (Bad bad.Ref)) if_a ≡ Ok (Bad bad.Ref)
+if_bad_branch = refl
+
+abbrev pick_a : Tree
+pick_a = call f.Pick (args_3 (ref a) (number (pos 7)) (ref b))
+
+pick_names : fetched Rules (only_a (Number (pos 1))) pick_a ≡ a ∷ b ∷ []
 pick_names = refl
 
-chain_left : eval Rules (only_a Empty) chained ≡ Ok (Number (pos 4))
+pick_stuck : eval Rules (only_a (Number (pos 1))) pick_a ≡ Err b
+pick_stuck = refl
+
+pick_first : eval Rules (with_a_b (Number (pos 1)) (Bad bad.Div0)) pick_a ≡ Ok (Number (pos 7))
+pick_first = refl
+
+-- 7 - 2 - 1 from the left, and 8 / 2 / 2
+chain_left : eval Rules (only_a Empty) (chain level.Sum (number (pos 7)) (step op.Sub (number (pos 2)) (step op.Sub (number (pos 1)) no_step))) ≡ Ok (Number (pos 4))
 chain_left = refl
 
-gather_names : fetched Rules (only_a (Text [])) gather_ab ≡ (97 ∷ []) ∷ (98 ∷ []) ∷ []
+quotients_left : eval Rules (only_a Empty) (chain level.Product (number (pos 8)) (step op.Div (number (pos 2)) (step op.Div (number (pos 2)) no_step))) ≡ Ok (Number (pos 2))
+quotients_left = refl
+
+-- 5 > 4 > 3 compares 1 with 3
+compared_left : eval Rules (only_a Empty) (chain level.Compare (number (pos 5)) (step op.Gt (number (pos 4)) (step op.Gt (number (pos 3)) no_step))) ≡ Ok (Number (pos 0))
+compared_left = refl
+
+negative_ref : eval Rules (only_a (Number (pos 3))) (neg (ref a)) ≡ Ok (Number (negsuc 2))
+negative_ref = refl
+
+-- operands in the order of the text, each name once
+operand_names : fetched Rules (with_a_b Empty Empty) (chain level.Sum (ref b) (step op.Add (ref a) (step op.Add (ref b) no_step))) ≡ b ∷ a ∷ []
+operand_names = refl
+
+-- nothing is looked up behind a name without a value
+stuck_names : fetched Rules (only_a Empty) (chain level.Sum (ref a) (step op.Add (ref b) (step op.Add (ref c) no_step))) ≡ a ∷ b ∷ []
+stuck_names = refl
+
+-- a bad operand doesn't keep the others from being looked up
+bad_names : fetched Rules (with_a_b (Bad bad.Num) Empty) (chain level.Sum (ref a) (step op.Add (ref b) no_step)) ≡ a ∷ b ∷ []
+bad_names = refl
+
+arguments_joined : eval Rules (with_a_b (Text (120 ∷ [])) (Text (121 ∷ []))) (call f.Concat (args_3 (ref b) (ref a) (ref b))) ≡ Ok (Text (121 ∷ 120 ∷ 121 ∷ []))
+arguments_joined = refl
+
+sum_twice : eval Rules (only_a (Number (pos 2))) (call f.Sum (args_2 (ref a) (ref a))) ≡ Ok (Number (pos 4))
+sum_twice = refl
+
+sum_twice_names : fetched Rules (only_a (Number (pos 2))) (call f.Sum (args_2 (ref a) (ref a))) ≡ a ∷ []
+sum_twice_names = refl
+
+-- SUM(a, IF(b, 1, c))
+nested_names : fetched Rules (with_a_b (Number (pos 2)) Empty) (call f.Sum (args_2 (ref a) (call f.If (args_3 (ref b) (number (pos 1)) (ref c))))) ≡ a ∷ b ∷ c ∷ []
+nested_names = refl
+
+indirect : eval Rules (with_a_b (Text b) (Number (pos 5))) (call f.Indirect (args_1 (ref a))) ≡ Ok (Number (pos 5))
+indirect = refl
+
+indirect_names : fetched Rules (with_a_b (Text b) (Number (pos 5))) (call f.Indirect (args_1 (ref a))) ≡ a ∷ b ∷ []
+indirect_names = refl
+
+-- a name of the other kind
+indirect_other : eval Sheet (with_a_b (Text b) (Number (pos 5))) (call f.Indirect (args_1 (ref a))) ≡ Ok (Bad bad.Ref)
+indirect_other = refl
+
+indirect_number : eval Rules (only_a (Number (pos 5))) (call f.Indirect (args_1 (ref a))) ≡ Ok (Bad bad.Ref)
+indirect_number = refl
+
+indirect_bad : eval Rules (only_a (Bad bad.Len)) (call f.Indirect (args_1 (ref a))) ≡ Ok (Bad bad.Len)
+indirect_bad = refl
+
+-- the lines b, a, b
+gather : eval Rules (with_a_b (Text (98 ∷ 10 ∷ 97 ∷ 10 ∷ 98 ∷ [])) (Text (120 ∷ []))) (call f.Gather (args_1 (ref a))) ≡ Ok (Text (120 ∷ 98 ∷ 10 ∷ 97 ∷ 10 ∷ 98 ∷ 120 ∷ []))
+gather = refl
+
+gather_names : fetched Rules (with_a_b (Text (98 ∷ 10 ∷ 97 ∷ 10 ∷ 98 ∷ [])) (Text (120 ∷ []))) (call f.Gather (args_1 (ref a))) ≡ a ∷ b ∷ []
 gather_names = refl
 
-sum_twice : fetched Rules (only_a (Number (pos 2))) (call f.Sum (arg (one (ref (97 ∷ []))) (arg (one (ref (97 ∷ []))) no_arg))) ≡ (97 ∷ []) ∷ []
-sum_twice = refl
+-- a line that is no name: nothing is looked up
+gather_wrong : eval Rules (only_a (Text (98 ∷ 10 ∷ 10 ∷ 99 ∷ []))) (call f.Gather (args_1 (ref a))) ≡ Ok (Bad bad.Ref)
+gather_wrong = refl
+
+gather_wrong_names : fetched Rules (only_a (Text (98 ∷ 10 ∷ 10 ∷ 99 ∷ []))) (call f.Gather (args_1 (ref a))) ≡ a ∷ []
+gather_wrong_names = refl
+
+gather_nothing : eval Rules (only_a Empty) (call f.Gather (args_1 (ref a))) ≡ Ok (Text [])
+gather_nothing = refl
+
+-- of what is gathered the first bad value is the result, after all look-ups
+gather_bad : eval Rules (with_a_b (Text (98 ∷ 10 ∷ 97 ∷ [])) (Bad bad.Num)) (call f.Gather (args_1 (ref a))) ≡ Ok (Bad bad.Num)
+gather_bad = refl

@@ -1,5 +1,5 @@
 -- Runs of what asks in turn, and so of static formulas.
-use Rattle.std.proofs.Common.{◌≡◌, ℕ, Bool, true, false, not, cond, List, [], ◌∷◌, Some, None, Ok, refl, ap, filter}
+use Rattle.std.proofs.Common.{◌∙◌, ◌≡◌, ℕ, Bool, true, false, not, cond, List, [], ◌∷◌, Some, None, Ok, refl, ap, filter}
 use Rattle.std.specs.Cmp.Lexicographic.{bytes_decides}
 use Rattle.carte_value.specs.declared.kind.Kind.{Kind}
 use Rattle.carte_value.specs.declared.value.Value.{Value}
@@ -8,7 +8,7 @@ use Rattle.carte_value.specs.Truths.{Truth}
 use Rattle.carte_value.specs.Asks.{Asks, done, ask, run, asked, asked_on, firsts}
 use Rattle.carte_value.specs.Once.{Answers, answer_in, once}
 use Rattle.carte_formula.specs.Tree.{Tree}
-use Rattle.carte_meaning.specs.Meaning.{asks, fetched}
+use Rattle.carte_meaning.specs.Meaning.{asks, eval, fetched}
 use Rattle.carte_meaning.specs.InTurn.{AsksInTurn, HasAll, KnowsAll, until, go_on}
 use Rattle.carte_meaning.specs.Static.{mentions, refs_of, is_static_tree}
 use Rattle.carte_meaning.proofs.Turns.{static_in_turn}
@@ -86,3 +86,24 @@ firsts-until t (k ∷ ks) =
 -- a static formula looks up what it mentions, up to and with the first name without a value
 pub static_fetched : (kind : Kind) (t : Truth) (e : Tree) → is_static_tree e ≡ true → fetched kind t e ≡ until t (refs_of e)
 static_fetched kind t e h = rw (turn_asked t (mentions e) (asks kind e) (static_in_turn kind e h)) (firsts-until t (mentions e))
+
+-- what is left out has values, and so has what is kept
+has-filter : (t : Truth) (p : List ℕ → Bool) (ks : List (List ℕ)) → ((k : List ℕ) → p k ≡ false → (v : Value) × (t k ≡ Some v)) → HasAll t (filter p ks) → HasAll t ks
+has-filter t p [] out kept = tt
+has-filter t p (k ∷ ks) out kept =
+    elim (p k) as (λ b. p k ≡ b → HasAll t (cond b (k ∷ filter p ks) (filter p ks)) → HasAll t (k ∷ ks)) [
+      | true ↦ λ is has. (has.0, has-filter t p ks out has.1)
+      | false ↦ λ is has. (out k is, has-filter t p ks out has)
+    ] refl kept
+
+-- where each name has a value, so has each place at which it stands
+pub has-firsts : (t : Truth) (ks : List (List ℕ)) → HasAll t (firsts ks) → HasAll t ks
+has-firsts t [] has = tt
+has-firsts t (k ∷ ks) has =
+    (has.0, has-firsts t ks (has-filter t (λ j. not (name_eq k j)) (firsts ks) (λ j same. (has.0.0, rw (← (bytes_decides k j).0 (holds (name_eq k j) same)) has.0.1)) has.1))
+
+pub static_looks : (kind : Kind) (t : Truth) (e : Tree) → is_static_tree e ≡ true → HasAll t (refs_of e) → fetched kind t e ≡ refs_of e
+static_looks kind t e h has = static_fetched kind t e h ∙ until-all t (refs_of e) has
+
+pub static_ends : (kind : Kind) (t : Truth) (e : Tree) → is_static_tree e ≡ true → HasAll t (refs_of e) → (v : Value) × (eval kind t e ≡ Ok v)
+static_ends kind t e h has = turn_ends t (mentions e) (asks kind e) (static_in_turn kind e h) (has-firsts t (mentions e) has)

@@ -6,7 +6,7 @@ use Rattle.carte_value.specs.Asks.{Asks, done, ask, and_then}
 use Rattle.carte_formula.specs.Tree.{Tree, number, text, ref, neg, chain, call, Steps, no_step, step, Args, no_arg, arg, Arg, one, cells}
 use Rattle.carte_formula.specs.declared.expr.Func.TheVariants as f
 use Rattle.carte_meaning.specs.Applied.{condition, negated, applied, called}
-use Rattle.carte_meaning.specs.Cells.{cells_of}
+use Rattle.carte_value.specs.Areas.{cells_of}
 use Rattle.carte_meaning.specs.Meaning.{asks, asks_steps, asks_args, asks_arg, asks_all, branched}
 use Rattle.carte_meaning.specs.InTurn.{AsksInTurn}
 use Rattle.carte_meaning.specs.Static.{mentions, mentions_steps, mentions_args, mentions_arg, is_static_tree, is_static_steps, is_static_args, is_static_arg, is_none}

@@ -4,8 +4,8 @@ pub mod Order
 pub mod Texts
 pub mod Found
 pub mod Applied
-pub mod Cells
 pub mod Meaning
 pub mod Best
 pub mod Static
 pub mod InTurn
+pub mod Laws

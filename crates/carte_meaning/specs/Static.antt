@@ -3,7 +3,7 @@ use Rattle.std.specs.Prelude.{ℕ, Bool, true, false, ◌&&◌, List, [], ◌∷
 use Rattle.carte_value.specs.Asks.{firsts}
 use Rattle.carte_formula.specs.Tree.{Tree, number, text, ref, neg, chain, call, Steps, no_step, step, Args, no_arg, arg, Arg, one, cells}
 use Rattle.carte_formula.specs.declared.expr.Func.TheVariants as f
-use Rattle.carte_meaning.specs.Cells.{cells_of}
+use Rattle.carte_value.specs.Areas.{cells_of}
 
 -- the names of references and ranges, in the order of the text
 abbrev mutual

@@ -4,8 +4,9 @@ ghost use Rattle.std.specs.Prelude.{◌≡◌, ◌<◌, ◌^◌, true, length, N
 ghost use Rattle.carte_meaning.specs.Coercions.{first_bad};
 ghost use Rattle.carte_meaning.specs.Applied.{applied, called, condition, is_strict, negated, pick};
 
+use crate::arithmetic::{add, divide, multiply, negative, subtract};
 use crate::coercions::first_bad;
-use crate::numbers::{add, count, divide, max, min, multiply, negative, subtract, sum};
+use crate::numbers::{count, max, min, sum};
 use crate::order::compare;
 use crate::texts::{join, len, line, lines, upper};
 use crate::truths::{and, not, or};

@@ -10,7 +10,7 @@ ghost use Rattle.carte_meaning.specs.Texts.{lines, line_of};
 
 use crate::coercions::as_number;
 use crate::lines::{count_lines, line_at};
-use carte_value::{Bad, NoMemory, Text, TextFault, Value};
+use carte_value::{Bad, NoMemory, Text, Value};
 use std::alloc::Global;
 use std::borrow::CowStr;
 use std::fmt::Write;
@@ -59,13 +59,12 @@ fn append(text: &mut String, value: &Value) -> Result<(), NoMemory>
 }
 
 /// A text as a value, or `#LEN!` where it is too long for one.
-fn fitting(alloc: Global, text: &str) -> Result<Value, NoMemory>
-    ensures { IfOk result (λ v. v ≡ text_value text.now) }
+fn made(text: String) -> Value
+    ensures { result ≡ text_value (string_bytes text) }
 {
-    match Text::of(alloc, text) {
-        Ok(text) => Ok(Value::Text(text)),
-        Err(TextFault::TooLong(_)) => Ok(Value::Bad(Bad::Len)),
-        Err(TextFault::NoMemory) => Err(NoMemory),
+    match Text::made(text) {
+        Some(text) => Value::Text(text),
+        None => Value::Bad(Bad::Len),
     }
 }
 
@@ -82,7 +81,7 @@ pub(crate) fn join(alloc: Global, values: &[Value]) -> Result<Value, NoMemory>
             return Ok(Value::Bad(Bad::Len));
         }
     }
-    fitting(alloc, text.as_str())
+    Ok(made(text))
 }
 
 /// LEN: the number of bytes of a text.
@@ -110,7 +109,7 @@ pub(crate) fn upper(alloc: Global, values: &[Value]) -> Result<Value, NoMemory>
         Err(refused) => return Err(refused),
     };
     match text.as_str().to_ascii_uppercase(alloc) {
-        Ok(raised) => fitting(alloc, raised.as_str()),
+        Ok(raised) => Ok(made(raised)),
         Err(_) => Err(NoMemory),
     }
 }
@@ -146,7 +145,10 @@ pub(crate) fn line(alloc: Global, values: &[Value]) -> Result<Value, NoMemory>
         Err(refused) => return Err(refused),
     };
     match line_at(text.as_str(), (place - 1) as usize) {
-        Some(line) => fitting(alloc, line),
+        Some(line) => match String::from_str(alloc, line) {
+            Ok(line) => Ok(made(line)),
+            Err(_) => Err(NoMemory),
+        },
         None => Ok(Value::Bad(Bad::Value)),
     }
 }

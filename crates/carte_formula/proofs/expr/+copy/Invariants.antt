@@ -1,4 +1,4 @@
-use Rattle.std.proofs.Common.{◌≡◌, ℕ, take, map}
+use Rattle.std.proofs.Common.{◌≡◌, take, map}
 use Rattle.carte_formula.specs.Code.{pairs_of, arg_tree}
 use Rattle.carte_formula.proofs.expr.+copy.Given as goal
 

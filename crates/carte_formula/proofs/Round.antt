@@ -1,0 +1,72 @@
+-- A text is read in one way, and what is printed is read again as it was.
+use Rattle.std.proofs.Common.{ℕ, List, [], length, ◌≡◌, ◌≤◌, ◌+◌, Option, Some, None, Result, Ok, Err, if◌then◌else◌, refl, sym, ◌∙◌, ap, arith, nat_lt}
+use Rattle.std.proofs.lemmas.Bool.{le-ltb, lt-ltb}
+use Rattle.carte_value.specs.declared.kind.Kind.{Kind}
+use Rattle.carte_formula.specs.Tree.{Tree}
+use Rattle.carte_formula.specs.Grammar.{Spells}
+use Rattle.carte_formula.specs.Machine.{wants}
+use Rattle.carte_formula.specs.Reading.{FormulaFault, BadToken, BadSyntax, TooDeep, TooLong, TooWide, NoMemory, Placed, tokens_of, tokens_read}
+use Rattle.carte_formula.specs.Print.{shown, AllOfKind}
+use Rattle.carte_formula.specs.Lexer.{idle, lexed, printed}
+use Rattle.carte_formula.specs.Whole.{width, wide_from, Tokens, SpelledBy, Reads}
+use Rattle.carte_formula.proofs.Complete.{complete}
+use Rattle.carte_formula.proofs.Viable.{one_tree}
+use Rattle.carte_formula.proofs.Readings.{read_so}
+use Rattle.carte_formula.proofs.Again.{again, bare}
+use Rattle.carte_formula.proofs.ShownKind.{shown_kind}
+use Rattle.carte_formula.proofs.Heights.{shown_shallow}
+use Rattle.carte_formula.proofs.Widths.{same_width, narrow, not_wide}
+use Rattle.carte_formula.proofs.Clear.{all_clear}
+use Rattle.carte_formula.proofs.Lexing.{lexes}
+use Rattle.carte_formula.proofs.Lexed.{lexed_kind}
+
+-- what a text is read as, as a function
+abbrev with_width : Result Tree FormulaFault → Option ℕ → Result Tree FormulaFault
+with_width (Ok e) None = Ok e
+with_width (Ok e) (Some place) = Err (TooWide place)
+with_width (Err f) o = Err f
+
+abbrev with_tokens : Result (List Placed) ℕ → ℕ → Result Tree FormulaFault
+with_tokens (Err place) size = Err (BadToken place)
+with_tokens (Ok ps) size = with_width (tokens_read (wants []) ps size) (wide_from 0 ps)
+
+abbrev text_read : Kind → List ℕ → Result Tree FormulaFault
+text_read q bytes = if nat_lt 4096 (length bytes) then Err (TooLong (length bytes)) else with_tokens (lexed q idle 0 bytes) (length bytes)
+
+short_read : (q : Kind) (bytes : List ℕ) → length bytes ≤ 4096 → text_read q bytes ≡ with_tokens (lexed q idle 0 bytes) (length bytes)
+short_read q bytes h = rw (le-ltb 4096 (length bytes) h) refl
+
+-- not for want of memory
+abbrev pub IsTold : Result Tree FormulaFault → Type 0
+IsTold (Err NoMemory) = ⊥
+IsTold _ = Unit {0}
+
+told : (q : Kind) (bytes : List ℕ) (r : Result Tree FormulaFault) → Reads q bytes r → IsTold r → text_read q bytes ≡ r
+told q bytes (Ok e) (low, ps, is, r, w) t = short_read q bytes low ∙ ap (λ x. with_tokens x (length bytes)) is ∙ ap (λ x. with_width x (wide_from 0 ps)) (read_so ps (length bytes) (Ok e) r) ∙ ap (λ x. with_width (Ok e) x) w
+told q bytes (Err (TooLong n)) (more, is) t = rw (lt-ltb 4096 (length bytes) more, is) refl
+told q bytes (Err (BadToken place)) (low, is) t = short_read q bytes low ∙ ap (λ x. with_tokens x (length bytes)) is
+told q bytes (Err (BadSyntax place)) (low, ps, is, r) t = short_read q bytes low ∙ ap (λ x. with_tokens x (length bytes)) is ∙ ap (λ x. with_width x (wide_from 0 ps)) (read_so ps (length bytes) (Err (BadSyntax place)) r)
+told q bytes (Err (TooDeep place)) (low, ps, is, r) t = short_read q bytes low ∙ ap (λ x. with_tokens x (length bytes)) is ∙ ap (λ x. with_width x (wide_from 0 ps)) (read_so ps (length bytes) (Err (TooDeep place)) r)
+told q bytes (Err (TooWide place)) (low, ps, is, e, r, w) t = short_read q bytes low ∙ ap (λ x. with_tokens x (length bytes)) is ∙ ap (λ x. with_width x (wide_from 0 ps)) (read_so ps (length bytes) (Ok e) r) ∙ ap (λ x. with_width (Ok e) x) w
+told q bytes (Err NoMemory) h t = absurd t
+
+-- a text is read in one way at most
+pub one_reading : (q : Kind) (bytes : List ℕ) (r s : Result Tree FormulaFault) → Reads q bytes r → Reads q bytes s → IsTold r → IsTold s → r ≡ s
+one_reading q bytes r s h k t u = sym (told q bytes r h t) ∙ told q bytes s k u
+
+same_tokens : (q : Kind) (bytes : List ℕ) (ps qs : List Placed) → Tokens q bytes ps → Tokens q bytes qs → ps ≡ qs
+same_tokens q bytes ps qs h k = let e : ◌≡◌ {A = Result (List Placed) ℕ} (Ok ps) (Ok qs) = sym h ∙ k in cc
+
+-- and spells one formula at most
+pub one_spelt : (q : Kind) (bytes : List ℕ) (d e : Tree) → SpelledBy q bytes d → SpelledBy q bytes e → d ≡ e
+one_spelt q bytes d e (ps, is, h) (qs, js, k) = let t : ps ≡ qs = same_tokens q bytes ps qs is js in one_tree h (rw (← t) at k)
+
+-- what is printed of a formula that was read is read as this formula
+pub read_again : (q : Kind) (bytes : List ℕ) (e : Tree) → Reads q bytes (Ok e) → length (printed e) ≤ 4096 → Reads q (printed e) (Ok e)
+read_again q bytes e (low, ps, is, (spells, shallow), narrow0) short =
+    let kind : AllOfKind q (tokens_of ps) = lexed_kind q bytes ps is in
+    let s : Spells 4 (shown e) e = rw (bare e) at (again q spells kind 4) in
+    let g = lexes q (shown e) (shown_kind q spells kind) (all_clear (wants []) (shown e) e (complete s)) 0 in
+    let w : 0 + width (tokens_of ps) ≤ 65536 = narrow 0 ps narrow0 (omega arith) in
+    let v : width (tokens_of ps) ≡ width (shown e) = same_width spells s in
+    (short, g.0, g.1, (rw g.2 s, rw g.2 (shown_shallow spells shallow)), not_wide 0 g.0 (rw g.2 (omega arith)))

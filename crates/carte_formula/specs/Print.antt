@@ -1,0 +1,67 @@
+-- The printed form of a formula, as tokens.
+use Rattle.std.specs.Prelude.{ℕ, pos, negsuc, Bool, true, false, List, [], ◌∷◌, ◌++◌, nat_lt, ◌≡◌, ◌≤◌, ◌<◌, ◌^◌, length, slice_index}
+use Rattle.carte_value.specs.Names.{is_upper, is_rule_name, is_cell_name}
+use Rattle.carte_value.specs.declared.kind.Kind.{Kind}
+use Rattle.carte_value.specs.declared.kind.Kind.TheVariants.{Rules, Sheet}
+use Rattle.carte_formula.specs.Tree.{first_corner, last_corner}
+use Rattle.carte_formula.specs.Tree.{sub, Level, rank, Tree, number, text, ref, neg, chain, call, Steps, no_step, step, Args, no_arg, arg, Arg, one, cells, Token, digits, quoted, word, cell, func, op, lpar, rpar, comma, colon}
+
+-- a cell's name begins with an upper-case letter, a rule's with a lower-case one
+abbrev pub name_by : Bool → List ℕ → Token
+name_by true k = cell k
+name_by false k = word k
+
+abbrev pub name_token : List ℕ → Token
+name_token k = name_by (is_upper (slice_index k 0)) k
+
+-- whether a formula may stand without a bracket where operators of ranks below n may stand
+abbrev pub tight : ℕ → Tree → Bool
+tight n (chain l e ss) = nat_lt (rank l) n
+tight n _ = true
+
+abbrev pub bracketed : Bool → List Token → List Token
+bracketed true ts = ts
+bracketed false ts = lpar ∷ (ts ++ rpar ∷ [])
+
+abbrev mutual
+  pub shown : Tree → List Token
+  shown (number n) = digits n ∷ []
+  shown (text k) = quoted k ∷ []
+  shown (ref k) = name_token k ∷ []
+  shown (neg e) = op sub ∷ bracketed (tight 0 e) (shown e)
+  shown (chain l e ss) = bracketed (tight (rank l) e) (shown e) ++ steps_shown l ss
+  shown (call f xs) = func f ∷ lpar ∷ (args_shown xs ++ rpar ∷ [])
+
+  pub steps_shown : Level → Steps → List Token
+  steps_shown l no_step = []
+  steps_shown l (step o e ss) = op o ∷ (bracketed (tight (rank l) e) (shown e) ++ steps_shown l ss)
+
+  pub args_shown : Args → List Token
+  args_shown no_arg = []
+  args_shown (arg x xs) = arg_shown x ++ later_shown xs
+
+  pub later_shown : Args → List Token
+  later_shown no_arg = []
+  later_shown (arg x xs) = comma ∷ (arg_shown x ++ later_shown xs)
+
+  pub arg_shown : Arg → List Token
+  arg_shown (one e) = shown e
+  arg_shown (cells a) = cell (first_corner a) ∷ colon ∷ cell (last_corner a) ∷ []
+
+abbrev pub held : ℕ → Tree → List Token
+held n e = bracketed (tight n e) (shown e)
+
+-- tokens that a text of the kind can have
+abbrev pub OfKind : Kind → Token → Type 0
+OfKind q (digits (pos n)) = n < 2 ^ 63
+OfKind q (digits (negsuc n)) = ⊥
+OfKind q (quoted k) = length k ≤ 65536
+OfKind Rules (word k) = is_rule_name k ≡ true
+OfKind Sheet (word k) = ⊥
+OfKind Rules (cell k) = ⊥
+OfKind Sheet (cell k) = is_cell_name k ≡ true
+OfKind q _ = Unit {0}
+
+abbrev pub AllOfKind : Kind → List Token → Type 0
+AllOfKind q [] = Unit {0}
+AllOfKind q (t ∷ ts) = OfKind q t × AllOfKind q ts

@@ -1,0 +1,41 @@
+-- What a whole text is read as.
+use Rattle.std.specs.Prelude.{ℕ, List, [], ◌∷◌, length, ◌≡◌, ◌≤◌, ◌<◌, ◌+◌, Option, Some, None, Result, Ok, Err, nat_lt, if◌then◌else◌}
+use Rattle.carte_value.specs.declared.kind.Kind.{Kind}
+use Rattle.carte_value.specs.Areas.{area_of, size_of}
+use Rattle.carte_formula.specs.Tree.{Tree, Token, cell, colon}
+use Rattle.carte_formula.specs.Grammar.{Spells}
+use Rattle.carte_formula.specs.Reading.{FormulaFault, BadToken, BadSyntax, TooDeep, TooLong, TooWide, NoMemory, Placed, tokens_of, ReadAs}
+use Rattle.carte_formula.specs.Lexer.{idle, lexed}
+
+-- how many cells a range has that begins with this token
+abbrev pub front_size : Token → List Token → ℕ
+front_size (cell a) (colon ∷ cell b ∷ ts) = size_of (area_of a b)
+front_size _ _ = 0
+
+-- how many cells all ranges have
+abbrev pub width : List Token → ℕ
+width [] = 0
+width (t ∷ ts) = front_size t ts + width ts
+
+-- the place of the first cell of the range with which there are more than 65,536 cells
+abbrev pub wide_from : ℕ → List Placed → Option ℕ
+wide_from sum [] = None
+wide_from sum (p ∷ ps) = if nat_lt 65536 (sum + front_size p.token (tokens_of ps)) then Some p.place else wide_from (sum + front_size p.token (tokens_of ps)) ps
+
+-- the text's tokens
+abbrev pub Tokens : Kind → List ℕ → List Placed → Type 0
+Tokens q bytes ps = lexed q idle 0 bytes ≡ Ok ps
+
+-- the text spells the formula
+abbrev pub SpelledBy : Kind → List ℕ → Tree → Type 0
+SpelledBy q bytes e = (ps : List Placed) × Tokens q bytes ps × Spells 4 (tokens_of ps) e
+
+-- what a text is read as
+abbrev pub Reads : Kind → List ℕ → Result Tree FormulaFault → Type 0
+Reads q bytes (Ok e) = (length bytes ≤ 4096) × (ps : List Placed) × Tokens q bytes ps × ReadAs ps (length bytes) (Ok e) × (wide_from 0 ps ≡ None)
+Reads q bytes (Err (TooLong n)) = (4096 < length bytes) × (n ≡ length bytes)
+Reads q bytes (Err (BadToken place)) = (length bytes ≤ 4096) × (lexed q idle 0 bytes ≡ Err place)
+Reads q bytes (Err (BadSyntax place)) = (length bytes ≤ 4096) × (ps : List Placed) × Tokens q bytes ps × ReadAs ps (length bytes) (Err (BadSyntax place))
+Reads q bytes (Err (TooDeep place)) = (length bytes ≤ 4096) × (ps : List Placed) × Tokens q bytes ps × ReadAs ps (length bytes) (Err (TooDeep place))
+Reads q bytes (Err (TooWide place)) = (length bytes ≤ 4096) × (ps : List Placed) × Tokens q bytes ps × (e : Tree) × ReadAs ps (length bytes) (Ok e) × (wide_from 0 ps ≡ Some place)
+Reads q bytes (Err NoMemory) = Unit {0}

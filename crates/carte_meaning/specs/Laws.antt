@@ -1,0 +1,25 @@
+-- What holds of formulas that are static.
+use Rattle.std.specs.Prelude.{true, ◌≡◌, Ok}
+use Rattle.carte_value.specs.declared.kind.Kind.{Kind}
+use Rattle.carte_value.specs.declared.value.Value.{Value}
+use Rattle.carte_value.specs.Truths.{Truth}
+use Rattle.carte_formula.specs.Tree.{Tree}
+use Rattle.carte_meaning.specs.InTurn.{AsksInTurn, HasAll, until}
+use Rattle.carte_meaning.specs.Meaning.{asks, eval, fetched}
+use Rattle.carte_meaning.specs.Static.{mentions, refs_of, is_static_tree}
+
+-- whatever is answered, a static formula asks for the names that it mentions, in the order of the text
+abbrev pub StaticAsks : Type 0
+StaticAsks = (kind : Kind) (e : Tree) → is_static_tree e ≡ true → AsksInTurn (mentions e) (asks kind e)
+
+-- it looks up its references, each once, up to and with the first that has no value
+abbrev pub StaticNeeds : Type 0
+StaticNeeds = (kind : Kind) (t : Truth) (e : Tree) → is_static_tree e ≡ true → fetched kind t e ≡ until t (refs_of e)
+
+-- where each reference has a value, it looks up them all
+abbrev pub StaticLooks : Type 0
+StaticLooks = (kind : Kind) (t : Truth) (e : Tree) → is_static_tree e ≡ true → HasAll t (refs_of e) → fetched kind t e ≡ refs_of e
+
+-- and has a value
+abbrev pub StaticEnds : Type 0
+StaticEnds = (kind : Kind) (t : Truth) (e : Tree) → is_static_tree e ≡ true → HasAll t (refs_of e) → (v : Value) × (eval kind t e ≡ Ok v)
