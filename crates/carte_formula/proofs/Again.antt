@@ -58,9 +58,10 @@ filled_twice f xs = twice (is_if f) (length xs == 2) xs refl
   where
     third : (xs : List Arg) (x : Arg) → (length xs == 2) ≡ true → (length (xs ++ x ∷ []) == 2) ≡ false
     third xs x h = simp length-append (grind (arith, nat_tests))
+
     twice : (a b : Bool) (xs : List Arg) → (length xs == 2) ≡ b
         → (if a && (length (if a && b then xs ++ one (number (pos 0)) ∷ [] else xs) == 2) then (if a && b then xs ++ one (number (pos 0)) ∷ [] else xs) ++ one (number (pos 0)) ∷ [] else (if a && b then xs ++ one (number (pos 0)) ∷ [] else xs))
-          ≡ (if a && b then xs ++ one (number (pos 0)) ∷ [] else xs)
+        ≡ (if a && b then xs ++ one (number (pos 0)) ∷ [] else xs)
     twice true true xs is = rw (third xs (one (number (pos 0))) is) refl
     twice true false xs is = rw is refl
     twice false b xs is = refl
@@ -118,7 +119,7 @@ mutual
       let k = kind_both q ts (op o ∷ (us ++ vs)) h in
       let j = kind_both q us vs k.1.1 in
       held_chain (nat_lt (rank l) m) l e (steps_of (record { op = o; operand = d } ∷ ss)) m refl
-        (chained (again q x k.0 (rank l)) o is (again q y j.0 (rank l)) (again_repeats q r j.1))
+      (chained (again q x k.0 (rank l)) o is (again q y j.0 (rank l)) (again_repeats q r j.1))
 
   again_repeats : {l : Level} {vs : List Token} {ss : List Term} (q : Kind) → Repeats l vs ss → AllOfKind q vs → Repeats l (steps_shown l (steps_of ss)) ss
   again_repeats q none h = none

@@ -47,7 +47,7 @@ pub digits_test : IsDigitsTest (λ ds. list_all is_digit ds ≡ true)
 digits_test = record {
   empty = refl;
   parts = λ c cs h. (within 48 57 c (and_left (is_digit c) (list_all is_digit cs) h), and_right (is_digit c) (list_all is_digit cs) h);
-  more = λ c cs r h. and_both (is_digit c) (list_all is_digit cs) (between 48 57 c r.0 r.1) h
+  more = λ c cs r h. and_both (is_digit c) (list_all is_digit cs) (between 48 57 c r.0 r.1) h;
 }
 
 pub numerals : IsNumeralModel (λ ds. list_all is_digit ds ≡ true) (digits_value 10)
@@ -104,7 +104,10 @@ cell_raised a xs h k = raised_all (a ∷ xs) (and_both (is_cell_byte a) (list_al
 -- it begins with a small letter, and goes on with bytes of names
 pub rule_parts : (k : List ℕ) → is_rule_name k ≡ true → (a : ℕ) × (xs : List ℕ) × (k ≡ a ∷ xs) × (is_lower a ≡ true) × (list_all is_name_byte xs ≡ true)
 rule_parts [] h = absurd (let z : ⊥ = cc in z)
-rule_parts (a ∷ xs) h =
-    (a, xs, refl,
-     and_right (nat_le 1 (length (a ∷ xs)) && nat_le (length (a ∷ xs)) 64) (is_lower a) (and_left ((nat_le 1 (length (a ∷ xs)) && nat_le (length (a ∷ xs)) 64) && is_lower a) (list_all is_name_byte (a ∷ xs)) h),
-     and_right (is_name_byte a) (list_all is_name_byte xs) (and_right ((nat_le 1 (length (a ∷ xs)) && nat_le (length (a ∷ xs)) 64) && is_lower a) (list_all is_name_byte (a ∷ xs)) h))
+rule_parts (a ∷ xs) h = (
+  a,
+  xs,
+  refl,
+  and_right (nat_le 1 (length (a ∷ xs)) && nat_le (length (a ∷ xs)) 64) (is_lower a) (and_left ((nat_le 1 (length (a ∷ xs)) && nat_le (length (a ∷ xs)) 64) && is_lower a) (list_all is_name_byte (a ∷ xs)) h),
+  and_right (is_name_byte a) (list_all is_name_byte xs) (and_right ((nat_le 1 (length (a ∷ xs)) && nat_le (length (a ∷ xs)) 64) && is_lower a) (list_all is_name_byte (a ∷ xs)) h),
+)

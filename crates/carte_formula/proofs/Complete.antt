@@ -120,10 +120,10 @@ mutual
   spelt (chained {l} {ts} {us} {vs} {e} {d} {ss} x o is y r) S rest fits stops =
       let k : rank (level_of o) ≡ rank l = ap rank is in
       rw (append_assoc ts (op o ∷ (us ++ vs)) rest, append_assoc us vs rest)
-        (spelt x S (op o ∷ (us ++ (vs ++ rest))) (fits_less (rank l) S fits) (omega arith)
-         ∙ ap (λ s. parsed (wants s) (us ++ (vs ++ rest))) (joined_is o l e S is fits)
-         ∙ spelt y (chain_at l e [] o ∷ S) (vs ++ rest) (omega arith) (repeats_stop r rest stops)
-         ∙ repeated r e [] o d S rest fits stops)
+      (spelt x S (op o ∷ (us ++ (vs ++ rest))) (fits_less (rank l) S fits) (omega arith)
+      ∙ ap (λ s. parsed (wants s) (us ++ (vs ++ rest))) (joined_is o l e S is fits)
+      ∙ spelt y (chain_at l e [] o ∷ S) (vs ++ rest) (omega arith) (repeats_stop r rest stops)
+      ∙ repeated r e [] o d S rest fits stops)
 
   pub repeated : {l : Level} {vs : List Token} {ss : List Term} → Repeats l vs ss → (e : Tree) (done : List Term) (p : Op) (v : Tree) (S : List Frame) (rest : List Token)
       → Fits (suc (rank l)) S → Stops (suc (rank l)) rest
@@ -131,10 +131,10 @@ mutual
   repeated {l} none e done p v S rest fits stops = chain_ends l e done p v S rest stops
   repeated {l} (more {us = us} {vs = vs} {d = d} {ss = ss} o is y r) e done p v S rest fits stops =
       rw (append_assoc us vs rest)
-        (ap (λ s. parsed (wants s) (us ++ (vs ++ rest))) (joined_same o v l e done p S is)
-         ∙ spelt y (chain_at l e (grown done p v) o ∷ S) (vs ++ rest) (omega arith) (repeats_stop r rest stops)
-         ∙ repeated r e (grown done p v) o d S rest fits stops
-         ∙ ap (λ q. parsed (had (chain l e (steps_of q)) S) rest) (append_assoc done (record { op = p; operand = v } ∷ []) (record { op = o; operand = d } ∷ ss)))
+      (ap (λ s. parsed (wants s) (us ++ (vs ++ rest))) (joined_same o v l e done p S is)
+      ∙ spelt y (chain_at l e (grown done p v) o ∷ S) (vs ++ rest) (omega arith) (repeats_stop r rest stops)
+      ∙ repeated r e (grown done p v) o d S rest fits stops
+      ∙ ap (λ q. parsed (had (chain l e (steps_of q)) S) rest) (append_assoc done (record { op = p; operand = v } ∷ []) (record { op = o; operand = d } ∷ ss)))
 
   pub unary_spelt : {ts : List Token} {e : Tree} → Unary ts e → (S : List Frame) (rest : List Token) → Stops zero rest
       → parsed (wants S) (ts ++ rest) ≡ parsed (after e S) rest
@@ -167,10 +167,10 @@ mutual
   arguments_spelt {f = f} (last {x = x} h) done S rest c = argument_ends h done S rest ∙ ends_here f (done ++ x ∷ []) S rest (enough_of (arity f) (length (done ++ x ∷ [])) c)
   arguments_spelt {f = f} (next {ts = ts} {us = us} {x = x} {xs = xs} h others) done S rest c =
       rw (append_assoc ts (comma ∷ us) (rpar ∷ rest))
-        (argument_goes h done S (us ++ rpar ∷ rest)
-         ∙ goes_here f (done ++ x ∷ []) S (us ++ rpar ∷ rest) (room_of (arity f) (length (done ++ x ∷ [])) (length (done ++ (x ∷ xs))) (fewer done x xs (some_arguments others)) c)
-         ∙ arguments_spelt others (done ++ x ∷ []) S rest (rw (append_assoc done (x ∷ []) xs) c)
-         ∙ ap (λ ys. parsed (after (called_tree f ys) S) rest) (append_assoc done (x ∷ []) xs))
+      (argument_goes h done S (us ++ rpar ∷ rest)
+      ∙ goes_here f (done ++ x ∷ []) S (us ++ rpar ∷ rest) (room_of (arity f) (length (done ++ x ∷ [])) (length (done ++ (x ∷ xs))) (fewer done x xs (some_arguments others)) c)
+      ∙ arguments_spelt others (done ++ x ∷ []) S rest (rw (append_assoc done (x ∷ []) xs) c)
+      ∙ ap (λ ys. parsed (after (called_tree f ys) S) rest) (append_assoc done (x ∷ []) xs))
 
 -- the machine gives the formula that all tokens spell
 pub complete : {ts : List Token} {e : Tree} → Spells 4 ts e → parsed (wants []) ts ≡ Some e

@@ -169,10 +169,11 @@ kept None u ts is h = absurd (let z : ⊥ = cc in z)
 kept (Some w) u ts is h = let k : w ≡ u = cc in rw (← k) h
 
 pub reached_on : (s u : State) (ts : List Token) (t : Token) → Reached s ts → next_state s t ≡ Some u → Reached u (ts ++ t ∷ [])
-reached_on s u ts t (m, k, r) n =
-    (moved_on s u ts t (wants []) m n,
-     kept (next_state s t) u (ts ++ t ∷ []) n (keeps s t ts k),
-     rounds_on (record { wanted = true; by = [] }) ts t ∙ ap (λ x. round_step x t) r ∙ sym (turned (next_state s t) u (round_step (round_of s) t) n (turns s t ts k)))
+reached_on s u ts t (m, k, r) n = (
+  moved_on s u ts t (wants []) m n,
+  kept (next_state s t) u (ts ++ t ∷ []) n (keeps s t ts k),
+  rounds_on (record { wanted = true; by = [] }) ts t ∙ ap (λ x. round_step x t) r ∙ sym (turned (next_state s t) u (round_step (round_of s) t) n (turns s t ts k)),
+)
 
 pub around_is : (s : State) (ts : List Token) → Reached s ts → around ts ≡ depth s
 around_is s ts (m, k, r) = ap (λ x. length x.by) r ∙ depth_is s
@@ -192,6 +193,7 @@ rest_none s ts m = rest_of (wants []) s ts m
     with_rest : (o : Option State) (s : State) (ts : List Token) → ((x : State) → moved x ts ≡ Some s → parsed x ts ≡ end_of s) → with o (λ x. moved x ts) ≡ Some s → with o (λ x. parsed x ts) ≡ end_of s
     with_rest None s ts go h = absurd (let z : ⊥ = cc in z)
     with_rest (Some x) s ts go h = go x h
+
     rest_of : (w s : State) (ts : List Token) → moved w ts ≡ Some s → parsed w ts ≡ end_of s
     rest_of w s [] m = let h : w ≡ s = cc in ap end_of h
     rest_of w s (t ∷ ts) m = with_rest (next_state w t) s ts (λ x k. rest_of x s ts k) m
@@ -208,9 +210,9 @@ take_whole k ts t h = take_all k (ts ++ t ∷ []) (simp length-append (omega ari
 
 shallow_on : (ts : List Token) (t : Token) → Shallow ts → around (ts ++ t ∷ []) ≤ 64 → Shallow (ts ++ t ∷ [])
 shallow_on ts t h low k = elim (lt_or k (length ts)) [
-    inl less ↦ rw (take-append-le k ts (t ∷ []) less) (h k)
+  | inl less ↦ rw (take-append-le k ts (t ∷ []) less) (h k)
   | inr more ↦ rw (take_whole k ts t more) low
-  ]
+]
 
 -- what a state and the tokens behind it are read as
 reads_end : (o : Option Tree) (s : State) (front : List Placed) (size : ℕ) → end_of s ≡ o → Reached s (tokens_of front) → Shallow (tokens_of front) → ReadAs front size (or_syntax o size)
@@ -243,7 +245,7 @@ reads_on : (s : State) (front ps : List Placed) (size : ℕ) → Reached s (toke
 reads_on s front [] size r low = rw append-nil (reads_end (end_of s) s front size refl r low)
 reads_on s front (p ∷ ps) size r low =
     reads_deeper (next_state s p.token) s front ps p size refl r low
-      (λ u q l. rw (← append_assoc front (p ∷ []) ps) (reads_on u (front ++ p ∷ []) ps size (rw (tokens_append front (p ∷ [])) q) (rw (tokens_append front (p ∷ [])) l)))
+    (λ u q l. rw (← append_assoc front (p ∷ []) ps) (reads_on u (front ++ p ∷ []) ps size (rw (tokens_append front (p ∷ [])) q) (rw (tokens_append front (p ∷ [])) l)))
 
 pub reads : (ps : List Placed) (size : ℕ) → ReadAs ps size (tokens_read (wants []) ps size)
 reads ps size = reads_on (wants []) [] ps size (refl, refl, refl) (λ k. take_none k)

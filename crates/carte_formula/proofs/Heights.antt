@@ -132,17 +132,19 @@ mutual
       ((omega arith), low_held (tight 0 e) e (true ∷ R) rest (low_shown e) (open_signed e (true ∷ R)) h low)
   low_shown (chain l e ss) R rest o h low =
       rw (append_assoc (bracketed (tight (rank l) e) (shown e)) (steps_shown l ss) rest)
-        (low_held (tight (rank l) e) e R (steps_shown l ss ++ rest) (low_shown e) (open_tight (rank l) e R o) h.0
-          (rw o (low_steps ss l R rest o h.1 (lifted_low (tight (rank l) e) (length R) (at_most (lifted (tight (rank l) e) (length R)) e h.0)) (rw o at low))))
+      (low_held (tight (rank l) e) e R (steps_shown l ss ++ rest) (low_shown e) (open_tight (rank l) e R o) h.0
+      (rw o (low_steps ss l R rest o h.1 (lifted_low (tight (rank l) e) (length R) (at_most (lifted (tight (rank l) e) (length R)) e h.0)) (rw o at low))))
   low_shown (call f xs) R rest o h low =
       let k : suc (length R) ≤ 64 = h.0 in
       rw (append_assoc (args_shown xs) (rpar ∷ []) rest) ((omega arith), ((omega arith), low_args xs R rest h.1 h.0 low))
 
   low_steps : (ss : Steps) (l : Level) (R : List Bool) (rest : List Token) → dropped R ≡ R → StepsAt (length R) l ss → length R ≤ 64 → Low (out_round R) rest → Low (out_round R) (steps_shown l ss ++ rest)
   low_steps no_step l R rest o h k low = low
-  low_steps (step x e ss) l R rest o h k low =
-      (k, rw (append_assoc (bracketed (tight (rank l) e) (shown e)) (steps_shown l ss) rest)
-        (low_held (tight (rank l) e) e R (steps_shown l ss ++ rest) (low_shown e) (open_tight (rank l) e R o) h.0 (rw o (low_steps ss l R rest o h.1 k low))))
+  low_steps (step x e ss) l R rest o h k low = (
+    k,
+    rw (append_assoc (bracketed (tight (rank l) e) (shown e)) (steps_shown l ss) rest)
+        (low_held (tight (rank l) e) e R (steps_shown l ss ++ rest) (low_shown e) (open_tight (rank l) e R o) h.0 (rw o (low_steps ss l R rest o h.1 k low))),
+  )
 
   low_args : (xs : Args) (R : List Bool) (rest : List Token) → ArgsAt (suc (length R)) xs → suc (length R) ≤ 64 → Low (out_round (dropped R)) rest → Low (in_round (false ∷ R)) (args_shown xs ++ rpar ∷ rest)
   low_args no_arg R rest h k low = (k, low)
@@ -202,9 +204,9 @@ mutual
   tall (single {n} x) m R rest le o low = tall x m R rest (omega arith) (no_sign_less n R o) low
   tall (chained {l} {ts} {us} {vs} {e} {d} {ss} x o is y r) m R rest le quiet low =
       let a : AtDepth (lifted (tight (rank l) e) (length R)) e × Low (out_round (dropped R)) (op o ∷ ((us ++ vs) ++ rest)) =
-        tall x (rank l) R (op o ∷ ((us ++ vs) ++ rest)) (omega arith) (no_sign_less (rank l) R quiet) (rw (append_assoc ts (op o ∷ (us ++ vs)) rest) at low) in
+      tall x (rank l) R (op o ∷ ((us ++ vs) ++ rest)) (omega arith) (no_sign_less (rank l) R quiet) (rw (append_assoc ts (op o ∷ (us ++ vs)) rest) at low) in
       let b : AtDepth (lifted (tight (rank l) d) (length R)) d × Low (out_round (dropped R)) (vs ++ rest) =
-        tall y (rank l) R (vs ++ rest) (omega arith) (no_sign_less (rank l) R quiet) (rw (quiet, append_assoc us vs rest) at a.1.1) in
+      tall y (rank l) R (vs ++ rest) (omega arith) (no_sign_less (rank l) R quiet) (rw (quiet, append_assoc us vs rest) at a.1.1) in
       let c : StepsAt (length R) l (steps_of ss) × Low (out_round R) rest = tall_repeats r R rest quiet (rw quiet at b.1) in
       (chain_tight l m e (step o d (steps_of ss)) (length R) le (a.0, (b.0, c.0)), rw quiet c.1)
 
@@ -212,7 +214,7 @@ mutual
   tall_repeats none R rest quiet low = (tt, low)
   tall_repeats {l} (more {us = us} {vs = vs} {d = d} {ss = ss} o is y r) R rest quiet low =
       let b : AtDepth (lifted (tight (rank l) d) (length R)) d × Low (out_round (dropped R)) (vs ++ rest) =
-        tall y (rank l) R (vs ++ rest) (omega arith) (quiet_any (rank l) R quiet) (rw (append_assoc us vs rest) at low.1) in
+      tall y (rank l) R (vs ++ rest) (omega arith) (quiet_any (rank l) R quiet) (rw (append_assoc us vs rest) at low.1) in
       let c : StepsAt (length R) l (steps_of ss) × Low (out_round R) rest = tall_repeats r R rest quiet (rw quiet at b.1) in
       ((b.0, c.0), c.1)
 

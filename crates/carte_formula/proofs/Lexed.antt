@@ -47,10 +47,10 @@ sign_kind q b = pick q (b == 43) (single (op add)) (if b == 45 then single (op s
 start_kind : (q : Kind) (b : ℕ) → StartOf q (start_of q b)
 start_kind q b =
     pick q (is_digit b) (begins numeral) (if is_lower b then begins (low_class q) else if is_upper b then begins (high_class q) else if is_blank b then blank else if b == 34 then begins inside else sign_of b) tt
-      (pick q (is_lower b) (begins (low_class q)) (if is_upper b then begins (high_class q) else if is_blank b then blank else if b == 34 then begins inside else sign_of b) (low_kind q)
-        (pick q (is_upper b) (begins (high_class q)) (if is_blank b then blank else if b == 34 then begins inside else sign_of b) (high_kind q)
-          (pick q (is_blank b) blank (if b == 34 then begins inside else sign_of b) tt
-            (pick q (b == 34) (begins inside) (sign_of b) tt (sign_kind q b)))))
+    (pick q (is_lower b) (begins (low_class q)) (if is_upper b then begins (high_class q) else if is_blank b then blank else if b == 34 then begins inside else sign_of b) (low_kind q)
+    (pick q (is_upper b) (begins (high_class q)) (if is_blank b then blank else if b == 34 then begins inside else sign_of b) (high_kind q)
+    (pick q (is_blank b) blank (if b == 34 then begins inside else sign_of b) tt
+    (pick q (b == 34) (begins inside) (sign_of b) tt (sign_kind q b)))))
 
 abbrev TokenOf : Kind → Option Token → Type 0
 TokenOf q None = Unit {0}

@@ -118,7 +118,6 @@ bracket_stops : (p : ℕ → Bool) (ts : List Token) → p 40 ≡ false → Brac
 bracket_stops p (lpar ∷ ts) h c = h
 bracket_stops p _ h c = absurd c
 
-
 start_digit : (q : Kind) (b : ℕ) → is_digit b ≡ true → start_of q b ≡ begins numeral
 start_digit q b h = rw h refl
 
@@ -144,7 +143,7 @@ number_by : (q : Kind) (n : ℕ) (ts : List Token) (at b : ℕ) (xs : List ℕ) 
 number_by q n ts at b xs is low c =
     let all : (is_digit b && list_all is_digit xs) ≡ true = rw is at (decimal_all n low) in
     run_token q numeral is_digit (decimal n) (digits (pos n)) (text_of ts) at b xs is (start_digit q b (and_left (is_digit b) (list_all is_digit xs) all)) numeral_steady (and_right (is_digit b) (list_all is_digit xs) all)
-      (closing_stops is_digit ts (refl, refl, refl, refl, refl, refl, refl, refl, refl, refl, refl) c) (number_token n low)
+    (closing_stops is_digit ts (refl, refl, refl, refl, refl, refl, refl, refl, refl, refl, refl) c) (number_token n low)
 
 -- each token, before what may follow it
 number_lexed : (q : Kind) (n : ℕ) (ts : List Token) → n < 2 ^ 63 → Closing ts → Lexes q (digits (pos n)) (text_of ts)
@@ -157,7 +156,7 @@ word_lexed : (k : List ℕ) (ts : List Token) → is_rule_name k ≡ true → Cl
 word_lexed k ts h c at =
     let f = rule_parts k h in
     run_token Rules small is_name_byte k (word k) (text_of ts) at f.0 f.1 f.2 (start_low Rules f.0 f.3) small_steady f.4
-      (closing_stops is_name_byte ts (refl, refl, refl, refl, refl, refl, refl, refl, refl, refl, refl) c) (word_token k h)
+    (closing_stops is_name_byte ts (refl, refl, refl, refl, refl, refl, refl, refl, refl, refl, refl) c) (word_token k h)
 
 cell_token : (k : List ℕ) → str_to_ascii_uppercase k ≡ k → is_cell_name k ≡ true → token_of letters k ≡ Some (cell k)
 cell_token k up h = ap sheet_token up ∙ (rw h refl)
@@ -177,7 +176,7 @@ cell_lexed : (k : List ℕ) (ts : List Token) → is_cell_name k ≡ true → Cl
 cell_lexed k ts h c at =
     let f = cell_parts k h in
     run_token Sheet letters is_word_byte k (cell k) (text_of ts) at f.0 f.1 f.2 (start_high Sheet f.0 f.3) letters_steady (cell_word f.1 f.4)
-      (closing_stops is_word_byte ts (refl, refl, refl, refl, refl, refl, refl, refl, refl, refl, refl) c) (cell_token k (raised_name k f.0 f.1 f.2 f.3 f.4) h)
+    (closing_stops is_word_byte ts (refl, refl, refl, refl, refl, refl, refl, refl, refl, refl, refl) c) (cell_token k (raised_name k f.0 f.1 f.2 f.3 f.4) h)
 
 func_rules : (f : Func) → token_of capitals (func_name f) ≡ Some (func f)
 func_rules functions.Sum = refl
@@ -248,11 +247,13 @@ text_token k h =
 
 text_lexed : (q : Kind) (k : List ℕ) (ts : List Token) → length k ≤ 65536 → Closing ts → Lexes q (quoted k) (text_of ts)
 text_lexed q k ts low c at =
-    let d = doubled_on q at k (34 ∷ text_of ts) (34 ∷ []) (at + 1) in
-    (at, d.0 + 1,
-     (ap (λ ys. lexed q (run inside at (34 ∷ [])) (at + 1) ys) (append_assoc (doubled k) (34 ∷ []) (text_of ts))
-        ∙ d.1 ∙ run_ends q closing at (34 ∷ (doubled k ++ 34 ∷ [])) (d.0 + 1) (text_of ts) (stops_going_text (34 ∷ (doubled k ++ 34 ∷ [])) (text_of ts) (closing_stops (λ b. b == 34) ts (refl, refl, refl, refl, refl, refl, refl, refl, refl, refl, refl) c))
-        ∙ ap (λ o. emit o at (lexed q idle (d.0 + 1) (text_of ts))) (text_token k low)))
+    let d = doubled_on q at k (34 ∷ text_of ts) (34 ∷ []) (at + 1) in (
+      at,
+      d.0 + 1,
+      (ap (λ ys. lexed q (run inside at (34 ∷ [])) (at + 1) ys) (append_assoc (doubled k) (34 ∷ []) (text_of ts))
+          ∙ d.1 ∙ run_ends q closing at (34 ∷ (doubled k ++ 34 ∷ [])) (d.0 + 1) (text_of ts) (stops_going_text (34 ∷ (doubled k ++ 34 ∷ [])) (text_of ts) (closing_stops (λ b. b == 34) ts (refl, refl, refl, refl, refl, refl, refl, refl, refl, refl, refl) c))
+          ∙ ap (λ o. emit o at (lexed q idle (d.0 + 1) (text_of ts))) (text_token k low)),
+    )
   where
     stops_going_text : (bs rest : List ℕ) → Stopped (λ b. b == 34) rest → Stopped (λ b. is_going (grown_run closing (length bs) b)) rest
     stops_going_text bs [] h = tt

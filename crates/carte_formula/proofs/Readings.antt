@@ -23,7 +23,7 @@ around_next : (done ts : List Token) (t : Token) → Shallow (done ++ (t ∷ ts)
 around_next done ts t low =
     let long : length (done ++ t ∷ []) ≤ length done + 1 = simp length-append (omega arith) in
     let h : take (length done + 1) (done ++ (t ∷ ts)) ≡ done ++ t ∷ [] =
-      rw (← append_assoc done (t ∷ []) ts, take-append-le (length done + 1) (done ++ t ∷ []) ts (simp length-append (omega arith))) (take_all (length done + 1) (done ++ t ∷ []) long) in
+    rw (← append_assoc done (t ∷ []) ts, take-append-le (length done + 1) (done ++ t ∷ []) ts (simp length-append (omega arith))) (take_all (length done + 1) (done ++ t ∷ []) long) in
     rw h at (low (length done + 1))
 
 abbrev Walks : State → State → List Token → List Placed → List Placed → ℕ → Type 0

@@ -70,8 +70,8 @@ mutual
       let k = kind_both q ts (op o ∷ (us ++ vs)) h in
       let j = kind_both q us vs k.1.1 in
       kind_join q (bracketed (tight (rank l) e) (shown e)) (op o ∷ (bracketed (tight (rank l) d) (shown d) ++ steps_shown l (steps_of ss)))
-        (bracketed_kind (tight (rank l) e) q (shown e) (shown_kind q x k.0))
-        (tt, kind_join q (bracketed (tight (rank l) d) (shown d)) (steps_shown l (steps_of ss)) (bracketed_kind (tight (rank l) d) q (shown d) (shown_kind q y j.0)) (steps_kind q r j.1))
+      (bracketed_kind (tight (rank l) e) q (shown e) (shown_kind q x k.0))
+      (tt, kind_join q (bracketed (tight (rank l) d) (shown d)) (steps_shown l (steps_of ss)) (bracketed_kind (tight (rank l) d) q (shown d) (shown_kind q y j.0)) (steps_kind q r j.1))
 
   steps_kind : {l : Level} {vs : List Token} {ss : List Term} (q : Kind) → Repeats l vs ss → AllOfKind q vs → AllOfKind q (steps_shown l (steps_of ss))
   steps_kind q none h = tt

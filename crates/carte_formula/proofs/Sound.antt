@@ -80,8 +80,8 @@ ends_args : (f : Func) (xs : List Arg) (x : Arg) (S : List Frame) (us ys ws ts :
 ends_args f xs x S us ys ws ts false enough s g room h is = tt
 ends_args f xs x S us ys ws ts true enough s g room h is =
     after_stands S (called_tree f (xs ++ x ∷ [])) us (func f ∷ lpar ∷ ((ys ++ ws) ++ rpar ∷ [])) (ts ++ rpar ∷ []) s
-      (primary (a_call (given_last f ys ws xs x g h) (counts_of (arity f) (length (xs ++ x ∷ [])) (length xs) enough room (simp length-append (omega arith)))))
-      (rw is (simp append_assoc refl))
+    (primary (a_call (given_last f ys ws xs x g h) (counts_of (arity f) (length (xs ++ x ∷ [])) (length xs) enough room (simp length-append (omega arith)))))
+    (rw is (simp append_assoc refl))
 
 nexts_args : (f : Func) (xs : List Arg) (x : Arg) (S : List Frame) (us ys ws ts : List Token) (b : Bool) → room_in (arity f) (length (xs ++ x ∷ [])) ≡ b → Stood S us → Given f ys xs → Argument f ws x
     → ts ≡ (us ++ (func f ∷ lpar ∷ ys)) ++ ws → Keeps (if b then Some (wants (args f (xs ++ x ∷ []) ∷ S)) else None) (ts ++ comma ∷ [])
@@ -102,7 +102,7 @@ close_stands [] v n us ws ts s h fits low is = tt
 close_stands (sign b ∷ S) v n us ws ts s h fits low is = absurd fits
 close_stands (chain_at l e done p ∷ S) v n us ws ts s h fits low is =
     close_stands S (chain l e (steps_of (grown done p v))) (suc (rank l)) s.0 (s.3 ++ (s.4 ++ op p ∷ ws)) ts s.1 (chain_whole p s.5 s.6 s.7 (raise (rank l) n fits h)) s.2 (rank_low l)
-      (rw (is, s.8) (simp append_assoc refl))
+    (rw (is, s.8) (simp append_assoc refl))
 close_stands (group ∷ S) v n us ws ts s h fits low is =
     after_stands S v s.0 (lpar ∷ (ws ++ rpar ∷ [])) (ts ++ rpar ∷ []) s.1 (primary (a_group (raise 4 n low h))) (rw (is, s.2) (simp append_assoc refl))
 close_stands (args f xs ∷ S) v n us ws ts s h fits low is =
@@ -113,7 +113,7 @@ split_stands [] v n us ws ts s h fits low is = tt
 split_stands (sign b ∷ S) v n us ws ts s h fits low is = absurd fits
 split_stands (chain_at l e done p ∷ S) v n us ws ts s h fits low is =
     split_stands S (chain l e (steps_of (grown done p v))) (suc (rank l)) s.0 (s.3 ++ (s.4 ++ op p ∷ ws)) ts s.1 (chain_whole p s.5 s.6 s.7 (raise (rank l) n fits h)) s.2 (rank_low l)
-      (rw (is, s.8) (simp append_assoc refl))
+    (rw (is, s.8) (simp append_assoc refl))
 split_stands (group ∷ S) v n us ws ts s h fits low is = tt
 split_stands (args f xs ∷ S) v n us ws ts s h fits low is =
     nexts_args f xs (one v) S s.0 s.2 ws ts (room_in (arity f) (length (xs ++ one v ∷ []))) refl s.1 s.3 (formula (raise 4 n low h)) (rw (is, s.5) refl)
@@ -127,7 +127,7 @@ ended_stands [] v n us ws ts s h fits low is = rw (is, s) (raise 4 n low h)
 ended_stands (sign b ∷ S) v n us ws ts s h fits low is = absurd fits
 ended_stands (chain_at l e done p ∷ S) v n us ws ts s h fits low is =
     ended_stands S (chain l e (steps_of (grown done p v))) (suc (rank l)) s.0 (s.3 ++ (s.4 ++ op p ∷ ws)) ts s.1 (chain_whole p s.5 s.6 s.7 (raise (rank l) n fits h)) s.2 (rank_low l)
-      (rw (is, s.8) (simp append_assoc refl))
+    (rw (is, s.8) (simp append_assoc refl))
 ended_stands (group ∷ S) v n us ws ts s h fits low is = tt
 ended_stands (args f xs ∷ S) v n us ws ts s h fits low is = tt
 
@@ -155,8 +155,8 @@ joined_stands o [] v n us ws ts s h fits low is = (us, s, tt, ws, [], raise (ran
 joined_stands o (sign b ∷ S) v n us ws ts s h fits low is = absurd fits
 joined_stands o (chain_at l e done p ∷ S) v n us ws ts s h fits low is =
     joins o l e done p S v n us ws ts s h fits low is (nat_lt (rank l) (rank (level_of o))) (rank l == rank (level_of o)) refl refl
-      (λ less. joined_stands o S (chain l e (steps_of (grown done p v))) (suc (rank l)) s.0 (s.3 ++ (s.4 ++ op p ∷ ws)) ts s.1 (chain_whole p s.5 s.6 s.7 (raise (rank l) n fits h)) s.2 (ltb-true (rank l) (rank (level_of o)) less)
-        (rw (is, s.8) (simp append_assoc refl)))
+    (λ less. joined_stands o S (chain l e (steps_of (grown done p v))) (suc (rank l)) s.0 (s.3 ++ (s.4 ++ op p ∷ ws)) ts s.1 (chain_whole p s.5 s.6 s.7 (raise (rank l) n fits h)) s.2 (ltb-true (rank l) (rank (level_of o)) less)
+    (rw (is, s.8) (simp append_assoc refl)))
 joined_stands o (group ∷ S) v n us ws ts s h fits low is = (us, s, tt, ws, [], raise (rank (level_of o)) n low h, none, refl, rw is (simp append_assoc refl))
 joined_stands o (args f xs ∷ S) v n us ws ts s h fits low is = (us, s, tt, ws, [], raise (rank (level_of o)) n low h, none, refl, rw is (simp append_assoc refl))
 

@@ -75,8 +75,8 @@ given : (k : ℕ) (f : Func) (xs : List Arg) (S : List Frame) → least (arity f
 given zero f xs S h go = closes f xs S (enough_at_least (arity f) (length xs) (omega arith)) go
 given (suc k) f xs S h go =
     elim (enough_or_room (arity f) (length xs) (ordered f)) [
-      inl e ↦ closes f xs S e go
-    | inr r ↦ splits f xs S r (given k f (xs ++ one (number (pos 0)) ∷ []) S (simp length-append (omega arith)) go)
+      | inl e ↦ closes f xs S e go
+      | inr r ↦ splits f xs S r (given k f (xs ++ one (number (pos 0)) ∷ []) S (simp length-append (omega arith)) go)
     ]
 
 ways : (S : List Frame) (v : Tree) → Ways v S × Ends (after v S)

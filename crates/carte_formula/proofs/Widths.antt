@@ -58,7 +58,7 @@ mutual
   widths (single x) rest c = widths x rest c
   widths (chained {l} {ts} {us} {vs} {e} {d} {ss} x o is y r) rest c =
       rw (append_assoc ts (op o ∷ (us ++ vs)) rest, append_assoc us vs rest)
-        (let a = widths x (op o ∷ (us ++ (vs ++ rest))) tt in let b = widths y (vs ++ rest) (repeats_colon r rest c) in let d' = repeats_widths r rest c in omega arith)
+      (let a = widths x (op o ∷ (us ++ (vs ++ rest))) tt in let b = widths y (vs ++ rest) (repeats_colon r rest c) in let d' = repeats_widths r rest c in omega arith)
 
   repeats_widths : {l : Level} {vs : List Token} {ss : List Term} → Repeats l vs ss → (rest : List Token) → NoColon rest → width (vs ++ rest) ≡ steps_width (steps_of ss) + width rest
   repeats_widths none rest c = omega arith

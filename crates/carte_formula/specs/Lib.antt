@@ -1,4 +1,5 @@
 pub mod Tree
+pub mod Frames
 pub mod Code
 pub mod Grammar
 pub mod Machine
@@ -6,3 +7,4 @@ pub mod Reading
 pub mod Print
 pub mod Lexer
 pub mod Whole
+pub mod Parser

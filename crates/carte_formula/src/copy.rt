@@ -1,7 +1,7 @@
 ghost use Rattle.std.specs.Prelude.{◌≡◌, ◌++◌, ◌∷◌, [], IfOk, OnOk};
-ghost use Rattle.carte_formula.specs.Tree.{neg};
 ghost use Rattle.carte_formula.specs.Code.{tree_of, chain_tree, args_tree, rest_steps, arg_tree};
 
+use crate::building::{chain_of, neg_of};
 use crate::{Arg, Args, Chain, Expr, Op, Rest};
 use carte_value::NoMemory;
 use std::alloc::Global;
@@ -106,24 +106,6 @@ impl Arg {
             },
             Arg::Cells(area) => Ok(Arg::Cells(*area)),
         }
-    }
-}
-
-fn neg_of(alloc: Global, operand: Expr) -> Result<Expr, NoMemory>
-    ensures { IfOk result (λ e. tree_of e ≡ neg (tree_of operand)) }
-{
-    match Box::new(alloc, operand) {
-        Ok(operand) => Ok(Expr::Neg(operand)),
-        Err(_) => Err(NoMemory),
-    }
-}
-
-fn chain_of(alloc: Global, chain: Chain) -> Result<Expr, NoMemory>
-    ensures { IfOk result (λ e. tree_of e ≡ chain_tree chain) }
-{
-    match Box::new(alloc, chain) {
-        Ok(chain) => Ok(Expr::Chain(chain)),
-        Err(_) => Err(NoMemory),
     }
 }
 

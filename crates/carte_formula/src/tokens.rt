@@ -1,13 +1,14 @@
+use crate::cell::Cell;
 use crate::{Func, Op};
 use carte_value::{Name, Text};
 
-/// What a formula text is made of. A `Word` names a rule or an input of a rule file, a `Cell` a cell of a sheet.
+/// What a formula text is made of. A `Word` names a rule or an input of a rule file.
 #[derive(Debug, Drop)]
 pub enum Token {
     Number(i64),
     Text(Text),
     Word(Name),
-    Cell(Name),
+    Cell(Cell),
     Func(Func),
     Op(Op),
     Open,

@@ -1,0 +1,120 @@
+ghost use Rattle.std.specs.Prelude.{◌≡◌, ◌++◌, ◌∷◌, [], ◌==◌, ◌&&◌, IfOk};
+ghost use Rattle.carte_formula.specs.Tree.{neg, chain, steps_of, signed, call, args_of, filled, is_if, called_tree};
+ghost use Rattle.carte_formula.specs.Machine.{grown};
+ghost use Rattle.carte_formula.specs.Code.{tree_of, chain_tree};
+ghost use Rattle.carte_formula.specs.Parser.{terms_of, args_trees};
+
+use crate::{Arg, Args, Chain, Expr, Func, Level, Op, Rest};
+use carte_value::NoMemory;
+use std::alloc::Global;
+
+pub fn neg_of(alloc: Global, operand: Expr) -> Result<Expr, NoMemory>
+    ensures { IfOk result (λ e. tree_of e ≡ neg (tree_of operand)) }
+{
+    match Box::new(alloc, operand) {
+        Ok(operand) => Ok(Expr::Neg(operand)),
+        Err(_) => Err(NoMemory),
+    }
+}
+
+pub fn chain_of(alloc: Global, chain: Chain) -> Result<Expr, NoMemory>
+    ensures { IfOk result (λ e. tree_of e ≡ chain_tree chain) }
+{
+    match Box::new(alloc, chain) {
+        Ok(chain) => Ok(Expr::Chain(chain)),
+        Err(_) => Err(NoMemory),
+    }
+}
+
+/// The operand under a sign: a plus leaves no trace.
+pub fn signed(alloc: Global, minus: bool, operand: Expr) -> Result<Expr, NoMemory>
+    ensures { IfOk result (λ e. tree_of e ≡ signed minus (tree_of operand)) }
+{
+    if minus {
+        neg_of(alloc, operand)
+    } else {
+        Ok(operand)
+    }
+}
+
+/// The operators and operands of a chain, with one more.
+pub fn grow(mut steps: Vec<(Op, Expr)>, op: Op, operand: Expr) -> Result<Vec<(Op, Expr)>, NoMemory>
+    ensures { IfOk result (λ v. terms_of v.items ≡ grown (terms_of steps.items) op (tree_of operand)) }
+{
+    match steps.push((op, operand)) {
+        Ok(()) => Ok(steps),
+        Err(_) => Err(NoMemory),
+    }
+}
+
+/// A chain that ends with this operand.
+pub fn whole_chain(
+    alloc: Global,
+    level: Level,
+    first: Expr,
+    steps: Vec<(Op, Expr)>,
+    op: Op,
+    operand: Expr,
+) -> Result<Expr, NoMemory>
+    ensures { IfOk result (λ e. tree_of e ≡ chain level (tree_of first) (steps_of (grown (terms_of steps.items) op (tree_of operand)))) }
+{
+    match grow(steps, op, operand) {
+        Ok(items) => chain_of(alloc, chain_with(level, first, items)),
+        Err(refused) => Err(refused),
+    }
+}
+
+fn chain_with(level: Level, first: Expr, items: Vec<(Op, Expr)>) -> Chain
+    ensures { chain_tree result ≡ chain level (tree_of first) (steps_of (terms_of items.items)) }
+{
+    Chain {
+        level,
+        first,
+        rest: Rest { items },
+    }
+}
+
+/// The arguments so far, with one more.
+pub fn with_arg(mut args: Vec<Arg>, arg: Arg) -> Result<Vec<Arg>, NoMemory>
+    ensures { IfOk result (λ v. v.items ≡ args.items ++ arg ∷ []) }
+{
+    match args.push(arg) {
+        Ok(()) => Ok(args),
+        Err(_) => Err(NoMemory),
+    }
+}
+
+/// A call with all its arguments, where the third one of `IF` may be left out and is 0.
+pub fn call_of(func: Func, args: Vec<Arg>) -> Result<Expr, NoMemory>
+    ensures { IfOk result (λ e. tree_of e ≡ called_tree func (args_trees args.items)) }
+{
+    match filled(func, args) {
+        Ok(items) => Ok(call_with(func, items)),
+        Err(refused) => Err(refused),
+    }
+}
+
+fn call_with(func: Func, items: Vec<Arg>) -> Expr
+    ensures { tree_of result ≡ call func (args_of (args_trees items.items)) }
+{
+    Expr::Call(func, Args { items })
+}
+
+fn filled(func: Func, args: Vec<Arg>) -> Result<Vec<Arg>, NoMemory>
+    ensures { IfOk result (λ v. args_trees v.items ≡ filled func (args_trees args.items)) }
+{
+    if wants_third(func, args.len()) {
+        with_arg(args, Arg::One(Expr::Number(0)))
+    } else {
+        Ok(args)
+    }
+}
+
+fn wants_third(func: Func, count: usize) -> bool
+    ensures { result ≡ (is_if func && count == 2) }
+{
+    match func {
+        Func::If => count == 2,
+        _ => false,
+    }
+}

@@ -1,0 +1,110 @@
+ghost use Rattle.std.specs.Prelude.{◌≡◌, ◌∷◌, IfOk};
+ghost use Rattle.carte_formula.specs.Machine.{after, cell_at, begin, sign_at, wants, args};
+ghost use Rattle.carte_formula.specs.Code.{tree_of};
+ghost use Rattle.carte_formula.specs.Parser.{frame_of, frames_of, state_of, args_trees, GoesTo};
+
+use crate::building::signed;
+use crate::cell::Cell;
+use crate::stack::{Frame, Stack};
+use crate::state::State;
+use crate::tokens::Token;
+use crate::{Arg, Expr, Func, Op};
+use carte_value::NoMemory;
+use std::alloc::Global;
+
+/// An operand is whole, and so are the signs before it.
+pub fn after(alloc: Global, operand: Expr, stack: &mut Stack) -> Result<State, NoMemory>
+    ensures { IfOk result (λ s. state_of s stack.new.frames.items ≡ after (tree_of operand) (frames_of stack.old.frames.items)) }
+{
+    match stack.pop() {
+        Some(Frame::Sign(minus)) => match signed(alloc, minus, operand) {
+            Ok(operand) => after(alloc, operand, stack),
+            Err(refused) => Err(refused),
+        },
+        Some(frame) => match stack.push(frame) {
+            Ok(()) => Ok(State::Had(operand)),
+            Err(refused) => Err(refused),
+        },
+        None => Ok(State::Had(operand)),
+    }
+}
+
+/// A cell is an operand, but for the first token of an argument that may be a range.
+fn cell_at(alloc: Global, cell: Cell, stack: &mut Stack) -> Result<State, NoMemory>
+    ensures { IfOk result (λ s. state_of s stack.new.frames.items ≡ cell_at cell (frames_of stack.old.frames.items)) }
+{
+    match stack.pop() {
+        Some(frame) => cell_behind(alloc, cell, frame, stack),
+        None => Ok(State::Had(Expr::Ref(cell.into_name()))),
+    }
+}
+
+fn cell_behind(
+    alloc: Global,
+    cell: Cell,
+    frame: Frame,
+    stack: &mut Stack,
+) -> Result<State, NoMemory>
+    ensures { IfOk result (λ s. state_of s stack.new.frames.items ≡ cell_at cell (frame_of frame ∷ frames_of stack.old.frames.items)) }
+{
+    match frame {
+        Frame::Call(func, done) => argument_at(cell, func, done, stack),
+        frame => match stack.push(frame) {
+            Ok(()) => after(alloc, Expr::Ref(cell.into_name()), stack),
+            Err(refused) => Err(refused),
+        },
+    }
+}
+
+fn argument_at(cell: Cell, func: Func, done: Vec<Arg>, stack: &mut Stack) -> Result<State, NoMemory>
+    ensures { IfOk result (λ s. state_of s stack.new.frames.items ≡ cell_at cell (args func (args_trees done.items) ∷ frames_of stack.old.frames.items)) }
+{
+    if func.takes_ranges() {
+        return Ok(State::Corner(cell, func, done));
+    }
+    match stack.push(Frame::Call(func, done)) {
+        Ok(()) => Ok(State::Had(Expr::Ref(cell.into_name()))),
+        Err(refused) => Err(refused),
+    }
+}
+
+/// A sign before an operand.
+fn sign_at(op: Op, stack: &mut Stack) -> Result<Option<State>, NoMemory>
+    ensures { GoesTo result stack.new.frames.items (sign_at op (frames_of stack.old.frames.items)) }
+{
+    match op {
+        Op::Sub => put(Frame::Sign(true), stack),
+        Op::Add => put(Frame::Sign(false), stack),
+        _ => Ok(None),
+    }
+}
+
+/// A frame is begun, and an operand comes.
+pub fn put(frame: Frame, stack: &mut Stack) -> Result<Option<State>, NoMemory>
+    ensures { GoesTo result stack.new.frames.items (Some (wants (frame_of frame ∷ frames_of stack.old.frames.items))) }
+{
+    match stack.push(frame) {
+        Ok(()) => Ok(Some(State::Wants)),
+        Err(refused) => Err(refused),
+    }
+}
+
+/// A token where an operand comes.
+pub fn begin(alloc: Global, token: Token, stack: &mut Stack) -> Result<Option<State>, NoMemory>
+    ensures { GoesTo result stack.new.frames.items (begin token (frames_of stack.old.frames.items)) }
+{
+    let state = match token {
+        Token::Number(number) => after(alloc, Expr::Number(number), stack),
+        Token::Text(text) => after(alloc, Expr::Text(text), stack),
+        Token::Word(name) => after(alloc, Expr::Ref(name), stack),
+        Token::Cell(cell) => cell_at(alloc, cell, stack),
+        Token::Func(func) => Ok(State::Named(func)),
+        Token::Op(op) => return sign_at(op, stack),
+        Token::Open => return put(Frame::Group, stack),
+        _ => return Ok(None),
+    };
+    match state {
+        Ok(state) => Ok(Some(state)),
+        Err(refused) => Err(refused),
+    }
+}
