@@ -9,7 +9,7 @@ use Rattle.carte_formula.specs.Tree.{Tree, number, text, ref, neg, chain, call, 
 use Rattle.carte_formula.specs.declared.expr.Func.{Func}
 use Rattle.carte_formula.specs.declared.expr.Func.TheVariants as f
 use Rattle.carte_meaning.specs.Applied.{condition, negated, applied, called}
-use Rattle.carte_meaning.specs.Cells.{cells_of}
+use Rattle.carte_value.specs.Areas.{cells_of}
 use Rattle.carte_meaning.specs.Found.{name_in, names_in}
 use Rattle.carte_meaning.specs.Texts.{joined}
 use Rattle.carte_meaning.specs.Meaning.{asks, asks_steps, asks_args, asks_arg, asks_all, branched, looked_up, gathered}

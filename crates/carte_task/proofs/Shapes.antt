@@ -1,5 +1,5 @@
 -- Calls and their instructions.
-use Rattle.std.proofs.Common.{◌≡◌, ℕ, zero, suc, ◌+◌, ◌<◌, ◌≤◌, Bool, true, false, ◌&&◌, nat_eq, Result, Ok, Err, List, [], ◌∷◌, ◌++◌, length, map, take, get_or, refl, ap, sym, ◌∙◌, append_assoc, append-nil, subst, rules}
+use Rattle.std.proofs.Common.{◌≡◌, ℕ, zero, suc, ◌+◌, ◌<◌, ◌≤◌, Bool, true, false, ◌&&◌, nat_eq, Result, Ok, Err, List, [], ◌∷◌, ◌++◌, length, map, take, get_or, refl, ap, sym, ◌∙◌, append_assoc, append-nil, subst, rules, arith}
 use Rattle.std.specs.Prelude.{OnOk, if◌then◌else◌}
 use Rattle.std.proofs.Math.Dec.{eqb-suc-zero, eqb-zero-suc, eqb-suc-suc}
 use Rattle.std.proofs.lemmas.List.{take_more, map-append, take-append-drop}
@@ -18,7 +18,7 @@ use Rattle.carte_task.specs.declared.code.Instr.{Instr}
 use Rattle.carte_task.specs.declared.code.Instr.TheVariants as i
 use Rattle.carte_task.specs.declared.postfix.Form.{Form}
 use Rattle.carte_task.specs.declared.postfix.Form.TheVariants.{Choice, Indirect, Gather, Plain}
-use Rattle.carte_task.specs.Coding.{count, choice, code_of, code_of_steps, code_of_args, code_of_arg}
+use Rattle.carte_task.specs.Coding.{count, count_arg, choice, code_of, code_of_steps, code_of_args, code_of_arg}
 use Rattle.carte_task.specs.Forms.{form_of, are_ones, is_one}
 
 -- arguments and operands, item by item
@@ -122,3 +122,16 @@ choice_on result f.If (arg (one c) (arg (one a) (arg (one b) no_arg))) old new i
 choice_on result f.Indirect xs old new is = absurd (no_choice (are_ones 1 xs) Indirect (λ e. cc) is)
 choice_on result f.Gather xs old new is = absurd (no_choice (are_ones 1 xs) Gather (λ e. cc) is)
 choice_on result func xs old new is = cc
+
+count_end : (ys : List Arg) (y : Arg) → count (args_of (ys ++ y ∷ [])) ≡ count (args_of ys) + count_arg y
+count_end [] y = omega arith
+count_end (z ∷ ys) y = omega (arith, count_end ys y)
+
+pub count_more : (xs : List CodeArg) (at : ℕ) (x : CodeArg) (n m : ℕ) → at < length xs → x ≡ get_or xs at x → n ≡ count (args_of (map arg_tree (take at xs))) → m ≡ n + count_arg (arg_tree x) → m ≡ count (args_of (map arg_tree (take (at + 1) xs)))
+count_more xs at x n m within is before after =
+    let taken : take (at + 1) xs ≡ take at xs ++ x ∷ [] = take_more xs at x within ∙ ap (λ y. take at xs ++ y ∷ []) (sym is) in
+    let mapped : map arg_tree (take at xs ++ x ∷ []) ≡ map arg_tree (take at xs) ++ arg_tree x ∷ [] = map-append arg_tree (take at xs) (x ∷ []) in
+    after ∙ ap (λ k. k + count_arg (arg_tree x)) before ∙ sym (count_end (map arg_tree (take at xs)) (arg_tree x)) ∙ ap (λ ys. count (args_of ys)) (sym mapped) ∙ ap (λ ys. count (args_of (map arg_tree ys))) (sym taken)
+
+pub count_all : (xs : List CodeArg) (at n : ℕ) → length xs ≤ at → n ≡ count (args_of (map arg_tree (take at xs))) → n ≡ count (args_of (map arg_tree xs))
+count_all xs at n all is = is ∙ ap (λ ys. count (args_of (map arg_tree ys))) (take_all xs at all)

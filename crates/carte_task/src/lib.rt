@@ -1,12 +1,12 @@
 //! Tasks over every effect: a formula runs as a machine that asks for the values of names, one at a time, and whoever answers decides what a name without a value means.
 #![tactic(auto)]
 
+mod areas;
 mod code;
 mod each;
 mod effect;
 mod list;
 mod look;
-mod meaning;
 mod postfix;
 mod progress;
 mod refs_only;

@@ -5,12 +5,13 @@ ghost use Rattle.std.specs.List.{list_all};
 ghost use Rattle.carte_formula.specs.Code.{tree_of, chain_tree, rest_steps, args_tree, arg_tree};
 ghost use Rattle.carte_formula.specs.Tree.{Tree, call as calls, arg, one, no_arg};
 ghost use Rattle.carte_task.specs.Forms.{form_of, are_ones, is_one};
-ghost use Rattle.carte_meaning.specs.Cells.{cells_of};
+ghost use Rattle.carte_value.specs.Areas.{cells_of};
 ghost use Rattle.carte_task.specs.Coding.{code_of, code_of_steps, code_of_args, code_of_arg, choice, count, count_arg};
 
+use crate::areas;
 use crate::code::Instr;
 use carte_formula::{Arg, Args, Chain, Expr, Func, Rest};
-use carte_value::{Area, NoMemory, Value};
+use carte_value::{NoMemory, Value};
 use std::alloc::Global;
 
 fn put(code: &mut Vec<Instr>, instr: Instr) -> Result<(), NoMemory>
@@ -196,7 +197,22 @@ fn join(
 ) -> Result<(), NoMemory>
     ensures { OnOk result (code.new.items ≡ code.old.items ++ choice condition.items first.items other.items) }
 {
-    Err(NoMemory)
+    let taken = first.len();
+    let passed = other.len();
+    append(code, condition)?;
+    put(code, Instr::Test(taken + 1, taken + (1 + passed)))?;
+    append(code, first)?;
+    put(code, Instr::Jump(passed))?;
+    append(code, other)
+}
+
+fn append(code: &mut Vec<Instr>, mut more: Vec<Instr>) -> Result<(), NoMemory>
+    ensures { OnOk result (code.new.items ≡ code.old.items ++ more.items) }
+{
+    match code.append(&mut more) {
+        Ok(()) => Ok(()),
+        Err(_) => Err(NoMemory),
+    }
 }
 
 #[cycle(write)]
@@ -244,5 +260,21 @@ fn write_arg(alloc: Global, arg: &Arg, code: &mut Vec<Instr>) -> Result<(), NoMe
 fn counted(args: &Args) -> Result<usize, NoMemory>
     ensures { IfOk result (λ n. n ≡ count (args_tree args.now)) }
 {
-    Err(NoMemory)
+    let mut count: usize = 0;
+    for arg in args.items.iter() {
+        count = match count.checked_add(width(arg)?) {
+            Some(count) => count,
+            None => return Err(NoMemory),
+        };
+    }
+    Ok(count)
+}
+
+fn width(arg: &Arg) -> Result<usize, NoMemory>
+    ensures { IfOk result (λ n. n ≡ count_arg (arg_tree arg.now)) }
+{
+    match arg {
+        Arg::One(_) => Ok(1),
+        Arg::Cells(area) => areas::size(*area),
+    }
 }

@@ -6,9 +6,10 @@ ghost use Rattle.carte_task.specs.Code.{newest, below, put, top};
 ghost use Rattle.carte_task.specs.Turns.{Applies};
 ghost use Rattle.carte_task.specs.declared.code.Instr.TheVariants as i;
 
+use crate::areas;
 use crate::code::{Instr, Next, Pending};
-use crate::meaning;
 use carte_formula::{Func, Op};
+use carte_meaning::{condition, name_in, names_in};
 use carte_value::{Area, Kind, Name, Names, NoMemory, Value};
 use std::alloc::Global;
 
@@ -131,7 +132,7 @@ fn look(alloc: Global, kind: Kind, name: &Name, values: &Vec<Value>) -> Result<P
 fn cells(alloc: Global, kind: Kind, area: Area, values: &Vec<Value>) -> Result<Pending, NoMemory>
     ensures { Applies kind (i.Cells area) values.now.items values.now.items result }
 {
-    match meaning::cells(alloc, area) {
+    match areas::cells(alloc, area) {
         Ok(names) => Ok(Pending {
             names,
             next: Next::Behind(0),
@@ -143,16 +144,14 @@ fn cells(alloc: Global, kind: Kind, area: Area, values: &Vec<Value>) -> Result<P
 fn negate(alloc: Global, kind: Kind, values: &mut Vec<Value>) -> Result<Pending, NoMemory>
     ensures { Applies kind i.Negate values.old.items values.new.items result }
 {
-    match meaning::negate(alloc, newest(values, 1)) {
-        Ok(value) => put_behind(alloc, values, 1, value),
-        Err(refused) => Err(refused),
-    }
+    let value = carte_meaning::negate(newest(values, 1));
+    put_behind(alloc, values, 1, value)
 }
 
 fn operate(alloc: Global, kind: Kind, op: Op, values: &mut Vec<Value>) -> Result<Pending, NoMemory>
     ensures { Applies kind (i.Apply op) values.old.items values.new.items result }
 {
-    match meaning::apply(alloc, op, newest(values, 2)) {
+    match carte_meaning::apply(alloc, op, newest(values, 2)) {
         Ok(value) => put_behind(alloc, values, 2, value),
         Err(refused) => Err(refused),
     }
@@ -171,7 +170,7 @@ fn call(
     if args.len() > 4294967295 {
         return Err(NoMemory);
     }
-    match meaning::call(alloc, func, args) {
+    match carte_meaning::call(alloc, func, args) {
         Ok(value) => put_behind(alloc, values, count, value),
         Err(refused) => Err(refused),
     }
@@ -190,7 +189,7 @@ fn test(
         Ok(value) => value,
         Err(refused) => return Err(refused),
     };
-    match meaning::test(&value) {
+    match condition(&value) {
         Ok(true) => Ok(drop_top(alloc, values, 0)),
         Ok(false) => Ok(drop_top(alloc, values, other)),
         Err(value) => match replace(values, 1, value) {
@@ -217,7 +216,7 @@ fn indirect(alloc: Global, kind: Kind, values: &mut Vec<Value>) -> Result<Pendin
         Ok(value) => value,
         Err(refused) => return Err(refused),
     };
-    match meaning::name_of(alloc, kind, &value) {
+    match name_in(alloc, kind, &value) {
         Ok(Ok(name)) => one(alloc, name, values),
         Ok(Err(value)) => put_behind(alloc, values, 1, value),
         Err(refused) => Err(refused),
@@ -250,7 +249,7 @@ fn gather(alloc: Global, kind: Kind, values: &mut Vec<Value>) -> Result<Pending,
         Ok(value) => value,
         Err(refused) => return Err(refused),
     };
-    match meaning::names_of(alloc, kind, &value) {
+    match names_in(alloc, kind, &value) {
         Ok(Ok(names)) => {
             let len = values.len().saturating_sub(1);
             values.truncate(len);
@@ -270,7 +269,7 @@ pub(crate) fn join(alloc: Global, values: &mut Vec<Value>, count: usize) -> Resu
     ensures ok { OnOk result (values.new.items ≡ put count values.old.items (joined (newest count values.old.items))) }
     ensures err { OnErr result (values.new.items ≡ values.old.items) }
 {
-    match meaning::apply(alloc, Op::Join, newest(values, count)) {
+    match carte_meaning::apply(alloc, Op::Join, newest(values, count)) {
         Ok(value) => replace(values, count, value),
         Err(refused) => Err(refused),
     }
