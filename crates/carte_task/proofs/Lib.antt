@@ -6,3 +6,5 @@ pub mod Binding
 pub mod Stack
 pub mod Coding
 pub mod Shapes
+pub mod Links
+pub mod Mentioning

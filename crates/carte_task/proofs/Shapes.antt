@@ -57,7 +57,7 @@ not_ones (suc n) (x ∷ xs) all =
       | cells a ↦ λ never. refl
     ] all
 
-take_all : {X : Type 0} (xs : List X) (at : ℕ) → length xs ≤ at → take at xs ≡ xs
+pub take_all : {X : Type 0} (xs : List X) (at : ℕ) → length xs ≤ at → take at xs ≡ xs
 take_all xs at all = sym (append-nil (take at xs)) ∙ ap (λ ys. take at xs ++ ys) (sym (drop_of_length-le xs all)) ∙ take-append-drop at xs
 
 -- one more argument at the end

@@ -9,3 +9,6 @@ pub mod Forms
 pub mod Turns
 pub mod Answered
 pub mod State
+pub mod Outcomes
+pub mod Tasks
+pub mod Machines

@@ -6,7 +6,7 @@ ghost use Rattle.carte_task.specs.Answered.{Answered};
 
 use crate::code::{Instr, Next};
 use crate::{Effect, Halt, turns};
-use carte_value::{Kind, Name, Names, NoMemory, Value};
+use carte_value::{Kind, Link, Links, Name, Names, NoMemory, Value};
 use indexmap::IndexMap;
 use std::alloc::Global;
 
@@ -61,7 +61,8 @@ fn answer<E: Effect>(
 impl Progress {
     ghost use Rattle.carte_task.specs.State.{answers_in, pending, rest_in, Looked, Proceeds, Stepped};
     ghost use Rattle.carte_value.specs.Once.{once};
-    ghost use Rattle.carte_task.specs.Code.{exec};
+    ghost use Rattle.carte_task.specs.Code.{exec, top};
+    ghost use Rattle.carte_task.specs.Outcomes.{links_of};
 
     /// At the start of its code.
     pub(crate) fn new(alloc: Global) -> Progress
@@ -76,6 +77,31 @@ impl Progress {
             next: Next::Behind(0),
             answers: IndexMap::new(alloc),
         }
+    }
+
+    /// The newest value.
+    pub(crate) fn top(&self, alloc: Global) -> Result<Value, NoMemory>
+        ensures { IfOk result (λ v. v ≡ top self.now.values.items) }
+    {
+        turns::top(alloc, &self.values)
+    }
+
+    /// The names that were asked, in order, with the digests of their values.
+    pub(crate) fn links(&self, alloc: Global) -> Result<Links, NoMemory>
+        ensures { IfOk result (λ links. links ≡ links_of (answers_in self.now)) }
+    {
+        let mut links = Links::new(alloc);
+        for at in 0..self.answers.len() {
+            let Some((name, value)) = self.answers.get_index(at) else {
+                return Err(NoMemory);
+            };
+            let name = name.copy(alloc)?;
+            links.push(Link {
+                name,
+                digest: value.digest(),
+            })?;
+        }
+        Ok(links)
     }
 
     /// Looks up the names that are to be looked up first, each onto the stack.

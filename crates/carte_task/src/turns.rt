@@ -70,7 +70,7 @@ fn newest(values: &Vec<Value>, count: usize) -> &[Value]
 }
 
 // The newest value, or Empty where there is none.
-fn top(alloc: Global, values: &Vec<Value>) -> Result<Value, NoMemory>
+pub(crate) fn top(alloc: Global, values: &Vec<Value>) -> Result<Value, NoMemory>
     ensures { IfOk result (λ v. v ≡ top values.now.items) }
 {
     match newest(values, 1).first() {
