@@ -8,3 +8,4 @@ pub mod Coding
 pub mod Shapes
 pub mod Links
 pub mod Mentioning
+pub mod Stepping

@@ -12,3 +12,4 @@ pub mod State
 pub mod Outcomes
 pub mod Tasks
 pub mod Machines
+pub mod Laws

@@ -17,11 +17,14 @@ pub struct Machine {
 
 impl Machine {
     ghost use Rattle.carte_task.specs.Machines.{state_of, started, Drove, Kept, EndsWith};
+    ghost use Rattle.carte_task.specs.Laws.{IsSound, Steps};
+    ghost use Rattle.carte_task.specs.Laws.{IsSound, Steps};
     ghost use Rattle.carte_task.specs.Tasks.{key_of, asks_of};
 
     /// A machine at the start of a task, which is counted.
     pub fn start(alloc: Global, task: Task, runs: &mut Runs) -> Result<Machine, NoMemory>
         ensures machine { IfOk result (λ m. state_of m ≡ started (key_of task) (asks_of task)) }
+        ensures sound { IfOk result (λ m. IsSound (state_of m)) }
         ensures runs { runs.new ≡ (if is_ok result then with_start runs.old (key_of task) else runs.old) }
     {
         match runs.start(alloc, &task.key) {
@@ -43,6 +46,24 @@ impl Machine {
 
     /// Goes on to the end, which is counted, or to a name without an answer. After a halt it stands before the fetch that halted, and keeps what was answered.
     pub fn drive<E: Effect>(
+        &mut self,
+        alloc: Global,
+        effect: &mut E,
+        runs: &mut Runs,
+    ) -> Result<Ended, Halt<E::Stop>>
+        ensures truth { E.truth effect.new ≡ E.truth effect.old }
+        ensures own { SameOwn (E.own effect.old) (E.own effect.new) }
+        ensures drove { Drove (E.truth effect.old) (E.own effect.old) (E.log effect.old) (E.log effect.new) (state_of self.old) (state_of self.new) result }
+        ensures runs { runs.new ≡ (if is_ok result then with_end runs.old (state_of self.old).key else runs.old) }
+
+        // What that is for the formula of a machine that was started and driven.
+        ensures sound { IsSound (state_of self.old) → IsSound (state_of self.new) }
+        ensures steps { IsSound (state_of self.old) → Steps (E.truth effect.old) (E.own effect.old) (state_of self.old) (state_of self.new) result }
+    {
+        self.go_on(alloc, effect, runs)
+    }
+
+    fn go_on<E: Effect>(
         &mut self,
         alloc: Global,
         effect: &mut E,
