@@ -13,3 +13,5 @@ pub mod Outcomes
 pub mod Tasks
 pub mod Machines
 pub mod Laws
+pub mod Jobs
+pub mod Fitting

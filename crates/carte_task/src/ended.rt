@@ -1,6 +1,7 @@
-ghost use Rattle.std.specs.Prelude.{◌≡◌};
+ghost use Rattle.std.specs.Prelude.{◌≡◌, IfOk};
 
-use carte_value::{Links, Name, Value};
+use carte_value::{Links, Name, NoMemory, Value};
+use std::alloc::Global;
 use std::marker::Model;
 
 /// The end of a task: its key, its value, and the names that it looked up, in order, with the digests of their values.
@@ -44,5 +45,14 @@ impl Ended {
         ensures { result.now ≡ self.now.links }
     {
         &self.links
+    }
+
+    pub(crate) fn copy(&self, alloc: Global) -> Result<Ended, NoMemory>
+        ensures { IfOk result (λ e. e ≡ self.now) }
+    {
+        let key = self.key.copy(alloc)?;
+        let value = self.value.copy(alloc)?;
+        let links = self.links.copy(alloc)?;
+        Ok(Ended { key, value, links })
     }
 }

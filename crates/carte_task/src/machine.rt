@@ -4,7 +4,7 @@ ghost use Rattle.carte_task.specs.Ledger.{with_start, with_end};
 
 use crate::progress::Progress;
 use crate::{Effect, Ended, Halt, Runs, Task};
-use carte_value::NoMemory;
+use carte_value::{Name, NoMemory};
 use std::alloc::Global;
 
 /// A task that runs, halts at a name without a value, and goes on from there. It asks each name at most once, and remembers the answers.
@@ -35,6 +35,12 @@ impl Machine {
             }),
             Err(refused) => Err(refused),
         }
+    }
+
+    pub(crate) fn task_key(&self) -> &Name
+        ensures { result.now ≡ (state_of self.now).key }
+    {
+        &self.task.key
     }
 
     /// Whether it has come to its end.
