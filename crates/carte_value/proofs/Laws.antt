@@ -70,3 +70,26 @@ machine_runs t m r a way = rest_runs t m r [] a way
 -- over a truth that gave the answers it asks for their names, and then for those of what is left
 pub machine_fetches : {A : Type 0} (t : Truth) (m r : Asks A) (a : Answers) → Went (once [] m) a r → AnswersOf t a → asked t (once [] m) ≡ names_of a ++ asked t r
 machine_fetches t m r a way of = went_asked t (once [] m) r a way of
+
+-- the answers on the way are those of the truth that knows them besides: no name is asked for twice
+pub rest_own : {A : Type 0} (t : Truth) (m r : Asks A) (b a : Answers) → Went (once b m) a r → AnswersOf (and_answers (b ++ a) t) a
+rest_own t (done x) r b [] is = tt
+rest_own t (done x) r b ((k, v) ∷ a) (go, is, way) = cc
+rest_own {A = A} t (ask k go) r b a way =
+    elim (answer_in b k) as (λ o. answer_in b k ≡ o → Went (once_on o b k (λ c v. once c (go v))) a r → AnswersOf (and_answers (b ++ a) t) a) [
+      | Some v ↦ λ is here. rest_own t (go v) r b a here
+      | None ↦ λ is here. own_anew t k go r b a is here (λ c v d s. rest_own t (go v) s c d)
+    ] refl way
+  where
+    own_anew : (t : Truth) (k : List ℕ) (go : Value → Asks A) (r : Asks A) (b a : Answers) → answer_in b k ≡ None → Went (ask k (λ v. once (b ++ (k, v) ∷ []) (go v))) a r → ((c : Answers) (v : Value) (d : Answers) (s : Asks A) → Went (once c (go v)) d s → AnswersOf (and_answers (c ++ d) t) d) → AnswersOf (and_answers (b ++ a) t) a
+    own_anew t k go r b [] none is on = tt
+    own_anew t k go r b ((j, w) ∷ a) none (on_from, is, way) on =
+        let same : k ≡ j = cc in
+        let next : (λ v. once (b ++ (k, v) ∷ []) (go v)) ≡ on_from = cc in
+        let here : Went (once (b ++ (k, w) ∷ []) (go w)) a r = subst (λ f. Went (f w) a r) (sym next) way in
+        let list : (b ++ (k, w) ∷ []) ++ a ≡ b ++ (j, w) ∷ a = append_assoc b ((k, w) ∷ []) a ∙ ap (λ i. b ++ (i, w) ∷ a) same in
+        let known : answer_in (b ++ (j, w) ∷ a) j ≡ Some w = subst (λ i. answer_in (b ++ (i, w) ∷ a) i ≡ Some w) same (answer_new b a k w none) in
+        (ap (λ o. or_else o (t j)) known, subst (λ c. AnswersOf (and_answers c t) a) list (on (b ++ (k, w) ∷ []) w a r here))
+
+pub machine_own : {A : Type 0} (t : Truth) (m r : Asks A) (a : Answers) → Went (once [] m) a r → AnswersOf (and_answers a t) a
+machine_own t m r a way = rest_own t m r [] a way

@@ -1,4 +1,23 @@
-//! Names, values and lists: what every other crate of `carte` speaks of.
+//! Names, values, areas and lists: what every other crate of `carte` speaks of.
+//!
+//! Names, texts and lists keep their fields to themselves, and contracts see them as bytes and as lists of items.
+//! A value is a plain enum, so that contracts go by its cases. A name is one type for both kinds of books, with its
+//! kind to be seen from its first byte: two types, or a kind beside the text, would have doubled every list and map.
+//! One generic list serves all items, in place of a type for each. It is a type of its own and no bare `Vec`, so that
+//! contracts speak of items and not of capacities. An area is plain too, with the condition on its sides in the
+//! contracts: it stands in trees of formulas, where an invariant in the type would stand in the way.
+//!
+//! What is promised of a format is a relation between bytes and values in `specs/`, never the reader's loop again:
+//! bytes begin with a spelling, a text is the printed form of a text, a prefix begins some name. Laws over all values
+//! (no spelling begins another, what was printed is read again, cells and places of the sheet are the same) are
+//! contracts of functions that do nothing.
+//!
+//! Texts are read byte by byte into new memory and only then tried as UTF-8, rather than character by character: the
+//! bytes that are no text are then refused by what a text is, and not by a proof about characters. Tests of names take
+//! no memory, so a text that is no name is refused whether or not there is memory.
+//!
+//! `specs/` also has what the crates above share: truths (what names have as values), computations that ask for the
+//! values of names, and lists of names. Their laws stand in `proofs/`.
 #![tactic(auto)]
 
 mod area;
@@ -10,6 +29,8 @@ mod kind;
 mod link;
 mod name;
 mod name_fault;
+#[cfg(test)]
+mod name_tests;
 mod name_text;
 mod place;
 mod printing;
@@ -17,6 +38,8 @@ mod reading;
 mod reading_law;
 mod spelling;
 mod spelling_law;
+#[cfg(test)]
+mod tests;
 mod text;
 mod text_fault;
 mod value;
@@ -33,7 +56,7 @@ pub use printing::quoted;
 pub use reading::read_number;
 pub use reading_law::{one_reading, printed_reads};
 pub use spelling_law::{every_value, one_spelling};
-use std::alloc::AllocError;
+use std::alloc::{AllocError, AllocFailed};
 pub use text::Text;
 pub use text_fault::TextFault;
 pub use value::{Bad, Value};
@@ -44,6 +67,12 @@ pub struct NoMemory;
 
 impl From<AllocError> for NoMemory {
     fn from(_: AllocError) -> NoMemory {
+        NoMemory
+    }
+}
+
+impl<T: Drop> From<AllocFailed<T>> for NoMemory {
+    fn from(_: AllocFailed<T>) -> NoMemory {
         NoMemory
     }
 }
