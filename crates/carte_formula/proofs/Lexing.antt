@@ -18,7 +18,7 @@ use Rattle.carte_formula.proofs.Bytes.{and_both, and_left, and_right, or_true, w
 use Rattle.carte_formula.proofs.Clear.{Closing, Opening, Bracket, Clear, AllClear}
 
 -- the bytes end, or begin with one that fails the test
-abbrev Stopped : (ℕ → Bool) → List ℕ → Type 0
+abbrev pub Stopped : (ℕ → Bool) → List ℕ → Type 0
 Stopped p [] = Unit {0}
 Stopped p (b ∷ rest) = p b ≡ false
 
@@ -26,12 +26,12 @@ Stopped p (b ∷ rest) = p b ≡ false
 abbrev Steady : Class → (ℕ → Bool) → Type 0
 Steady c p = (n b : ℕ) → grown_run c n b ≡ going_on (p b) c
 
-abbrev is_going : Option Class → Bool
+abbrev pub is_going : Option Class → Bool
 is_going None = false
 is_going (Some c) = true
 
 -- a run that doesn't go on is a token
-run_ends : (q : Kind) (c : Class) (place : ℕ) (bs : List ℕ) (at : ℕ) (rest : List ℕ) → Stopped (λ b. is_going (grown_run c (length bs) b)) rest
+pub run_ends : (q : Kind) (c : Class) (place : ℕ) (bs : List ℕ) (at : ℕ) (rest : List ℕ) → Stopped (λ b. is_going (grown_run c (length bs) b)) rest
     → lexed q (run c place bs) at rest ≡ emit (token_of c bs) place (lexed q idle at rest)
 run_ends q c place bs at [] h = refl
 run_ends q c place bs at (b ∷ rest) h = ends_with (grown_run c (length bs) b) c place bs (start_of q b) at b (λ p. lexed q p (at + 1) rest) h
@@ -45,7 +45,7 @@ stops_going : (c : Class) (p : ℕ → Bool) (bs rest : List ℕ) → Steady c p
 stops_going c p bs [] steady h = tt
 stops_going c p bs (b ∷ rest) steady h = rw (steady (length bs) b, h) refl
 
-run_step : (q : Kind) (c d : Class) (place : ℕ) (bs : List ℕ) (at b : ℕ) (rest : List ℕ) → grown_run c (length bs) b ≡ Some d
+pub run_step : (q : Kind) (c d : Class) (place : ℕ) (bs : List ℕ) (at b : ℕ) (rest : List ℕ) → grown_run c (length bs) b ≡ Some d
     → lexed q (run c place bs) at (b ∷ rest) ≡ lexed q (run d place (bs ++ b ∷ [])) (at + 1) rest
 run_step q c d place bs at b rest h = ap (λ o. from_run o c place bs (start_of q b) at b (λ p. lexed q p (at + 1) rest)) h
 

@@ -13,3 +13,6 @@ pub mod Bytes
 pub mod Lexing
 pub mod Lexed
 pub mod Round
+pub mod Depths
+pub mod Running
+pub mod Unpaired

@@ -5,7 +5,7 @@ use Rattle.carte_formula.specs.declared.stack.Frame.TheVariants as code
 
 abbrev pub weight_of : Frame → ℕ
 weight_of (code.Sign b) = 1
-weight_of (code.Chain l e done p) = 0
+weight_of (code.Chain c) = 0
 weight_of code.Group = 1
 weight_of (code.Call f xs) = 1
 

@@ -97,11 +97,10 @@ grown_run greater n b = going_on (n == 1 && b == 61) greater
 grown_run inside n b = Some (if b == 34 then closing else inside)
 grown_run closing n b = going_on (b == 34) inside
 
--- the text between quotes, where `""` stands for one quote. paired: whether a quote was before it
+-- the text between quotes, where a quote behind a quote is left out. paired: whether one stands before it
 abbrev pub unpaired : Bool → List ℕ → List ℕ
 unpaired paired [] = []
-unpaired true (b ∷ bs) = unpaired false bs
-unpaired false (b ∷ bs) = b ∷ unpaired (b == 34) bs
+unpaired paired (b ∷ bs) = if b == 34 then (if paired then unpaired false bs else b ∷ unpaired true bs) else b ∷ unpaired false bs
 
 abbrev pub quoted_text : List ℕ → List ℕ
 quoted_text bs = unpaired false (slice_range bs 1 (length bs - 1))

@@ -8,3 +8,4 @@ pub mod Print
 pub mod Lexer
 pub mod Whole
 pub mod Parser
+pub mod Runs

@@ -4,6 +4,7 @@ ghost use Rattle.carte_formula.specs.Machine.{grown};
 ghost use Rattle.carte_formula.specs.Code.{tree_of, chain_tree};
 ghost use Rattle.carte_formula.specs.Parser.{terms_of, args_trees};
 
+use crate::stack::OpenChain;
 use crate::{Arg, Args, Chain, Expr, Func, Level, Op, Rest};
 use carte_value::NoMemory;
 use std::alloc::Global;
@@ -48,18 +49,11 @@ pub fn grow(mut steps: Vec<(Op, Expr)>, op: Op, operand: Expr) -> Result<Vec<(Op
 }
 
 /// A chain that ends with this operand.
-pub fn whole_chain(
-    alloc: Global,
-    level: Level,
-    first: Expr,
-    steps: Vec<(Op, Expr)>,
-    op: Op,
-    operand: Expr,
-) -> Result<Expr, NoMemory>
-    ensures { IfOk result (λ e. tree_of e ≡ chain level (tree_of first) (steps_of (grown (terms_of steps.items) op (tree_of operand)))) }
+pub fn whole_chain(alloc: Global, begun: OpenChain, operand: Expr) -> Result<Expr, NoMemory>
+    ensures { IfOk result (λ e. tree_of e ≡ chain begun.level (tree_of begun.first) (steps_of (grown (terms_of begun.steps.items) begun.last (tree_of operand)))) }
 {
-    match grow(steps, op, operand) {
-        Ok(items) => chain_of(alloc, chain_with(level, first, items)),
+    match grow(begun.steps, begun.last, operand) {
+        Ok(items) => chain_of(alloc, chain_with(begun.level, begun.first, items)),
         Err(refused) => Err(refused),
     }
 }

@@ -3,13 +3,19 @@
 
 mod building;
 mod cell;
+mod chains;
 mod copy;
 mod expr;
 mod fault;
 mod func;
+mod making;
 mod operand;
+mod reading;
+mod runs;
 mod stack;
+mod start;
 mod state;
+mod step;
 mod tokens;
 
 pub use expr::{Arg, Args, Chain, Expr, Func, Level, Op, Rest};

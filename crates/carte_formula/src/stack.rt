@@ -12,11 +12,20 @@ pub enum Frame {
     /// A unary sign; true for minus.
     Sign(bool),
     /// A chain whose last operator wants its operand.
-    Chain(Level, Expr, Vec<(Op, Expr)>, Op),
+    Chain(OpenChain),
     /// A bracket.
     Group,
     /// A call with the arguments so far.
     Call(Func, Vec<Arg>),
+}
+
+/// A chain whose last operator wants its operand.
+#[derive(Debug, Drop)]
+pub struct OpenChain {
+    pub level: Level,
+    pub first: Expr,
+    pub steps: Vec<(Op, Expr)>,
+    pub last: Op,
 }
 
 /// The frames round the present place, newest first, and how many brackets, calls and signs are among them.
@@ -78,7 +87,7 @@ fn weight(frame: &Frame) -> usize
     ensures { result ≡ weight_of frame.now }
 {
     match frame {
-        Frame::Chain(_, _, _, _) => 0,
+        Frame::Chain(_) => 0,
         _ => 1,
     }
 }

@@ -1,0 +1,57 @@
+-- A text without its quotes' doubles is UTF-8 where the text is.
+use Rattle.std.proofs.Common.{suc-add, zero, suc, ℕ, Bool, true, false, List, [], ◌∷◌, ◌++◌, length, take, drop, ◌≡◌, ◌≤◌, ◌<◌, ◌==◌, ◌+◌, if◌then◌else◌, refl, sym, ap, append_assoc, length-append, add-zero, ◌∙◌, subst, arith, get_or}
+use Rattle.std.proofs.Math.Nat.{le_refl}
+use Rattle.std.specs.Str.{IsUtf8, IsCharBoundary}
+use Rattle.std.proofs.lemmas.Bool.{eqb-true}
+use Rattle.std.proofs.lemmas.List.{append-nil, take-append-le, drop-append-le, take_all, drop_all, get_or-append-add}
+use Rattle.std.proofs.lemmas.Str.{IsUtf8-append, IsUtf8-take, IsUtf8-drop, IsUtf8-from_ascii, IsUtf8-nil, IsCharBoundary-before_ascii, IsCharBoundary-after_ascii}
+use Rattle.carte_formula.specs.Lexer.{unpaired}
+
+at_seam : (xs ys : List ℕ) → get_or (xs ++ 34 ∷ ys) (length xs) 0 ≡ 34
+at_seam xs ys = rw (← add-zero (length xs)) (get_or-append-add xs (34 ∷ ys) 0 0)
+
+long : (xs ys : List ℕ) → length xs < length (xs ++ 34 ∷ ys)
+long xs ys = simp length-append (omega arith)
+
+drop_past : (xs ys : List ℕ) → drop (length xs + 1) (xs ++ 34 ∷ ys) ≡ ys
+drop_past [] ys = refl
+drop_past (x ∷ xs) ys = rw (suc-add (length xs) 1) (drop_past xs ys)
+
+before : (xs ys : List ℕ) → IsUtf8 (xs ++ 34 ∷ ys) → IsUtf8 xs
+before xs ys h =
+    let e : take (length xs) (xs ++ 34 ∷ ys) ≡ xs = take-append-le (length xs) xs (34 ∷ ys) (le_refl (length xs)) ∙ take_all (length xs) xs (le_refl (length xs)) in
+    let b : get_or (xs ++ 34 ∷ ys) (length xs) 0 < 128 = rw (at_seam xs ys) (omega arith) in
+    subst IsUtf8 e (IsUtf8-take (xs ++ 34 ∷ ys) (length xs) h (IsCharBoundary-before_ascii (xs ++ 34 ∷ ys) (length xs) (long xs ys) b))
+
+behind : (xs ys : List ℕ) → IsUtf8 (xs ++ 34 ∷ ys) → IsUtf8 ys
+behind xs ys h =
+    let e : drop (length xs + 1) (xs ++ 34 ∷ ys) ≡ ys = drop_past xs ys in
+    let b : get_or (xs ++ 34 ∷ ys) (length xs) 0 < 128 = rw (at_seam xs ys) (omega arith) in
+    subst IsUtf8 e (IsUtf8-drop (xs ++ 34 ∷ ys) (length xs + 1) h (IsCharBoundary-after_ascii (xs ++ 34 ∷ ys) (length xs) h (long xs ys) b))
+
+ascii_quote : (i : ℕ) → get_or (34 ∷ []) i 0 < 128
+ascii_quote zero = omega arith
+ascii_quote (suc i) = omega arith
+
+quote : IsUtf8 (34 ∷ [])
+quote = IsUtf8-from_ascii (34 ∷ []) ascii_quote
+
+utf8_by : (d p : Bool) (b : ℕ) (xs bs : List ℕ) → (b == 34) ≡ d → IsUtf8 (xs ++ b ∷ bs)
+    → ((ys : List ℕ) (q : Bool) → IsUtf8 (ys ++ bs) → IsUtf8 (ys ++ unpaired q bs))
+    → IsUtf8 (xs ++ (if d then (if p then unpaired false bs else b ∷ unpaired true bs) else b ∷ unpaired false bs))
+utf8_by false p b xs bs is h go = rw (append_assoc xs (b ∷ []) (unpaired false bs)) at (go (xs ++ b ∷ []) false (rw (append_assoc xs (b ∷ []) bs) h))
+utf8_by true true b xs bs is h go =
+    let e : b ≡ 34 = eqb-true b 34 is in
+    let h' : IsUtf8 (xs ++ 34 ∷ bs) = rw e at h in
+    IsUtf8-append xs (unpaired false bs) (before xs bs h') (go [] false (behind xs bs h'))
+utf8_by true false b xs bs is h go =
+    let e : b ≡ 34 = eqb-true b 34 is in
+    let h' : IsUtf8 (xs ++ 34 ∷ bs) = rw e at h in
+    rw e (IsUtf8-append xs (34 ∷ unpaired true bs) (before xs bs h') (IsUtf8-append (34 ∷ []) (unpaired true bs) quote (go [] true (behind xs bs h'))))
+
+unpaired_on : (bs : List ℕ) (xs : List ℕ) (p : Bool) → IsUtf8 (xs ++ bs) → IsUtf8 (xs ++ unpaired p bs)
+unpaired_on [] xs p h = h
+unpaired_on (b ∷ bs) xs p h = utf8_by (b == 34) p b xs bs refl h (λ ys q k. unpaired_on bs ys q k)
+
+pub unpaired_utf8 : (bs : List ℕ) → IsUtf8 bs → IsUtf8 (unpaired false bs)
+unpaired_utf8 bs h = unpaired_on bs [] false h
