@@ -1,5 +1,5 @@
 -- Runs of what asks in turn, and so of static formulas.
-use Rattle.std.proofs.Common.{◌∙◌, ◌≡◌, ℕ, Bool, true, false, not, cond, List, [], ◌∷◌, Some, None, Ok, refl, ap, filter}
+use Rattle.std.proofs.Common.{◌∙◌, ◌≡◌, ℕ, Bool, true, false, not, cond, List, [], ◌∷◌, Some, None, Ok, refl, ap, subst, filter}
 use Rattle.std.specs.Cmp.Lexicographic.{bytes_decides}
 use Rattle.carte_value.specs.declared.kind.Kind.{Kind}
 use Rattle.carte_value.specs.declared.value.Value.{Value}
@@ -9,7 +9,7 @@ use Rattle.carte_value.specs.Asks.{Asks, done, ask, run, asked, asked_on, firsts
 use Rattle.carte_value.specs.Once.{Answers, answer_in, once}
 use Rattle.carte_formula.specs.Tree.{Tree}
 use Rattle.carte_meaning.specs.Meaning.{asks, eval, fetched}
-use Rattle.carte_meaning.specs.InTurn.{AsksInTurn, HasAll, KnowsAll, until, go_on}
+use Rattle.carte_meaning.specs.InTurn.{AsksInTurn, Each, HasAll, KnowsAll, until, go_on}
 use Rattle.carte_meaning.specs.Static.{mentions, refs_of, is_static_tree}
 use Rattle.carte_meaning.proofs.Turns.{static_in_turn}
 
@@ -87,23 +87,32 @@ firsts-until t (k ∷ ks) =
 pub static_fetched : (kind : Kind) (t : Truth) (e : Tree) → is_static_tree e ≡ true → fetched kind t e ≡ until t (refs_of e)
 static_fetched kind t e h = rw (turn_asked t (mentions e) (asks kind e) (static_in_turn kind e h)) (firsts-until t (mentions e))
 
--- what is left out has values, and so has what is kept
-has-filter : (t : Truth) (p : List ℕ → Bool) (ks : List (List ℕ)) → ((k : List ℕ) → p k ≡ false → (v : Value) × (t k ≡ Some v)) → HasAll t (filter p ks) → HasAll t ks
-has-filter t p [] out kept = tt
-has-filter t p (k ∷ ks) out kept =
-    elim (p k) as (λ b. p k ≡ b → HasAll t (cond b (k ∷ filter p ks) (filter p ks)) → HasAll t (k ∷ ks)) [
-      | true ↦ λ is has. (has.0, has-filter t p ks out has.1)
-      | false ↦ λ is has. (out k is, has-filter t p ks out has)
+-- what holds of each name that is kept, and of each that is left out
+each-filter : (P : List ℕ → Type 0) (p : List ℕ → Bool) (ks : List (List ℕ)) → ((k : List ℕ) → p k ≡ false → P k) → Each P (filter p ks) → Each P ks
+each-filter P p [] out kept = tt
+each-filter P p (k ∷ ks) out kept =
+    elim (p k) as (λ b. p k ≡ b → Each P (cond b (k ∷ filter p ks) (filter p ks)) → Each P (k ∷ ks)) [
+      | true ↦ λ is each. (each.0, each-filter P p ks out each.1)
+      | false ↦ λ is each. (out k is, each-filter P p ks out each)
     ] refl kept
 
--- where each name has a value, so has each place at which it stands
-pub has-firsts : (t : Truth) (ks : List (List ℕ)) → HasAll t (firsts ks) → HasAll t ks
-has-firsts t [] has = tt
-has-firsts t (k ∷ ks) has =
-    (has.0, has-firsts t ks (has-filter t (λ j. not (name_eq k j)) (firsts ks) (λ j same. (has.0.0, rw (← (bytes_decides k j).0 (holds (name_eq k j) same)) has.0.1)) has.1))
+-- what holds of each name holds at each place at which it stands
+pub each-firsts : (P : List ℕ → Type 0) (ks : List (List ℕ)) → Each P (firsts ks) → Each P ks
+each-firsts P [] each = tt
+each-firsts P (k ∷ ks) each =
+    (each.0, each-firsts P ks (each-filter P (λ j. not (name_eq k j)) (firsts ks) (λ j same. subst P ((bytes_decides k j).0 (holds (name_eq k j) same)) each.0) each.1))
 
 pub static_looks : (kind : Kind) (t : Truth) (e : Tree) → is_static_tree e ≡ true → HasAll t (refs_of e) → fetched kind t e ≡ refs_of e
 static_looks kind t e h has = static_fetched kind t e h ∙ until-all t (refs_of e) has
 
 pub static_ends : (kind : Kind) (t : Truth) (e : Tree) → is_static_tree e ≡ true → HasAll t (refs_of e) → (v : Value) × (eval kind t e ≡ Ok v)
-static_ends kind t e h has = turn_ends t (mentions e) (asks kind e) (static_in_turn kind e h) (has-firsts t (mentions e) has)
+static_ends kind t e h has = turn_ends t (mentions e) (asks kind e) (static_in_turn kind e h) (each-firsts (λ k. (v : Value) × (t k ≡ Some v)) (mentions e) has)
+
+abbrev knows : Answers → Truth → List ℕ → Type 0
+knows a t k = (v : Value) × (answer_in a k ≡ Some v) × (t k ≡ Some v)
+
+pub static_run : (kind : Kind) (t u : Truth) (a : Answers) (e : Tree) → is_static_tree e ≡ true → KnowsAll a t (refs_of e) → run u (once a (asks kind e)) ≡ eval kind t e
+static_run kind t u a e h has = turn_run t u a (mentions e) (asks kind e) (static_in_turn kind e h) (each-firsts (knows a t) (mentions e) has)
+
+pub static_quiet : (kind : Kind) (t u : Truth) (a : Answers) (e : Tree) → is_static_tree e ≡ true → KnowsAll a t (refs_of e) → asked u (once a (asks kind e)) ≡ []
+static_quiet kind t u a e h has = turn_quiet t u a (mentions e) (asks kind e) (static_in_turn kind e h) (each-firsts (knows a t) (mentions e) has)

@@ -12,10 +12,17 @@ AsksInTurn [] (ask j go) = ⊥
 AsksInTurn (k ∷ ks) (done a) = ⊥
 AsksInTurn (k ∷ ks) (ask j go) = (k ≡ j) × ((v : Value) → AsksInTurn ks (go v))
 
+abbrev pub Each : (List ℕ → Type 0) → List (List ℕ) → Type 0
+Each P [] = Unit {0}
+Each P (k ∷ ks) = P k × Each P ks
+
 -- each of the names has a value
 abbrev pub HasAll : Truth → List (List ℕ) → Type 0
-HasAll t [] = Unit {0}
-HasAll t (k ∷ ks) = ((v : Value) × (t k ≡ Some v)) × HasAll t ks
+HasAll t ks = Each (λ k. (v : Value) × (t k ≡ Some v)) ks
+
+-- each of the names has an answer, which is its value
+abbrev pub KnowsAll : Answers → Truth → List (List ℕ) → Type 0
+KnowsAll a t ks = Each (λ k. (v : Value) × (answer_in a k ≡ Some v) × (t k ≡ Some v)) ks
 
 abbrev pub go_on : Option Value → List (List ℕ) → List (List ℕ)
 go_on None ks = []
@@ -25,8 +32,3 @@ go_on (Some v) ks = ks
 abbrev pub until : Truth → List (List ℕ) → List (List ℕ)
 until t [] = []
 until t (k ∷ ks) = k ∷ go_on (t k) (until t ks)
-
--- each of the names has an answer, which is its value
-abbrev pub KnowsAll : Answers → Truth → List (List ℕ) → Type 0
-KnowsAll a t [] = Unit {0}
-KnowsAll a t (k ∷ ks) = ((v : Value) × (answer_in a k ≡ Some v) × (t k ≡ Some v)) × KnowsAll a t ks

@@ -1,10 +1,12 @@
 -- What holds of formulas that are static.
-use Rattle.std.specs.Prelude.{true, ◌≡◌, Ok}
+use Rattle.std.specs.Prelude.{true, [], ◌≡◌, Ok}
 use Rattle.carte_value.specs.declared.kind.Kind.{Kind}
 use Rattle.carte_value.specs.declared.value.Value.{Value}
 use Rattle.carte_value.specs.Truths.{Truth}
+use Rattle.carte_value.specs.Asks.{run, asked}
+use Rattle.carte_value.specs.Once.{Answers, once}
 use Rattle.carte_formula.specs.Tree.{Tree}
-use Rattle.carte_meaning.specs.InTurn.{AsksInTurn, HasAll, until}
+use Rattle.carte_meaning.specs.InTurn.{AsksInTurn, HasAll, KnowsAll, until}
 use Rattle.carte_meaning.specs.Meaning.{asks, eval, fetched}
 use Rattle.carte_meaning.specs.Static.{mentions, refs_of, is_static_tree}
 
@@ -23,3 +25,8 @@ StaticLooks = (kind : Kind) (t : Truth) (e : Tree) → is_static_tree e ≡ true
 -- and has a value
 abbrev pub StaticEnds : Type 0
 StaticEnds = (kind : Kind) (t : Truth) (e : Tree) → is_static_tree e ≡ true → HasAll t (refs_of e) → (v : Value) × (eval kind t e ≡ Ok v)
+
+-- where each reference has its value for an answer, it asks for nothing more and ends as over the truth, whatever else there is
+pub record StaticRuns : Type 0 where
+  pub ends : (kind : Kind) (t u : Truth) (a : Answers) (e : Tree) → is_static_tree e ≡ true → KnowsAll a t (refs_of e) → run u (once a (asks kind e)) ≡ eval kind t e
+  pub quiet : (kind : Kind) (t u : Truth) (a : Answers) (e : Tree) → is_static_tree e ≡ true → KnowsAll a t (refs_of e) → asked u (once a (asks kind e)) ≡ []

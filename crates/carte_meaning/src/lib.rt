@@ -28,7 +28,7 @@ mod truths;
 
 pub use applied::{apply, call, condition, negate};
 pub use found::{name_in, names_in};
-pub use laws::{static_asks, static_ends, static_looks, static_needs};
+pub use laws::{static_asks, static_ends, static_looks, static_needs, static_runs};
 
 #[cfg(test)]
 mod tests;
