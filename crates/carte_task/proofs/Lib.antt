@@ -9,3 +9,4 @@ pub mod Shapes
 pub mod Links
 pub mod Mentioning
 pub mod Stepping
+pub mod Linking

@@ -15,3 +15,6 @@ pub mod Machines
 pub mod Laws
 pub mod Jobs
 pub mod Fitting
+pub mod Compared
+pub mod Checking
+pub mod Checks

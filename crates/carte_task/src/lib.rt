@@ -2,6 +2,7 @@
 #![tactic(auto)]
 
 mod areas;
+mod check;
 mod code;
 mod each;
 mod effect;
@@ -19,6 +20,7 @@ mod task;
 mod tracked;
 mod turns;
 
+pub use check::{Check, Verdict};
 pub use each::Each;
 pub use effect::{Effect, Halt};
 pub use ended::Ended;
