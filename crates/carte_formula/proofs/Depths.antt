@@ -1,5 +1,5 @@
 -- The depth that the stack counts is that of its frames.
-use Rattle.std.proofs.Common.{List, [], ◌∷◌, ◌≡◌, ◌+◌, refl, arith}
+use Rattle.std.proofs.Common.{List, [], ◌∷◌, ◌≡◌, refl, arith}
 use Rattle.carte_formula.specs.Frames.{depth_in}
 use Rattle.carte_formula.specs.Parser.{frames_of}
 use Rattle.carte_formula.specs.Reading.{depth_of}

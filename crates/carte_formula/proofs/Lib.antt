@@ -16,3 +16,6 @@ pub mod Round
 pub mod Depths
 pub mod Running
 pub mod Unpaired
+pub mod Taking
+pub mod Formulas
+pub mod ReadWhole

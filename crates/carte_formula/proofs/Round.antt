@@ -1,5 +1,5 @@
 -- A text is read in one way, and what is printed is read again as it was.
-use Rattle.std.proofs.Common.{ℕ, List, [], length, ◌≡◌, ◌≤◌, ◌+◌, Option, Some, None, Result, Ok, Err, if◌then◌else◌, refl, sym, ◌∙◌, ap, arith, nat_lt}
+use Rattle.std.proofs.Common.{ℕ, List, [], length, ◌≡◌, ◌≤◌, ◌+◌, Result, Ok, Err, if◌then◌else◌, refl, sym, ◌∙◌, ap, arith, nat_lt}
 use Rattle.std.proofs.lemmas.Bool.{le-ltb, lt-ltb}
 use Rattle.carte_value.specs.declared.kind.Kind.{Kind}
 use Rattle.carte_formula.specs.Tree.{Tree}
@@ -8,7 +8,7 @@ use Rattle.carte_formula.specs.Machine.{wants}
 use Rattle.carte_formula.specs.Reading.{FormulaFault, BadToken, BadSyntax, TooDeep, TooLong, TooWide, NoMemory, Placed, tokens_of, tokens_read}
 use Rattle.carte_formula.specs.Print.{shown, AllOfKind}
 use Rattle.carte_formula.specs.Lexer.{idle, lexed, printed}
-use Rattle.carte_formula.specs.Whole.{width, wide_from, Tokens, SpelledBy, Reads}
+use Rattle.carte_formula.specs.Whole.{width, with_width, wide_from, Tokens, SpelledBy, Reads}
 use Rattle.carte_formula.proofs.Complete.{complete}
 use Rattle.carte_formula.proofs.Viable.{one_tree}
 use Rattle.carte_formula.proofs.Readings.{read_so}
@@ -21,11 +21,6 @@ use Rattle.carte_formula.proofs.Lexing.{lexes}
 use Rattle.carte_formula.proofs.Lexed.{lexed_kind}
 
 -- what a text is read as, as a function
-abbrev with_width : Result Tree FormulaFault → Option ℕ → Result Tree FormulaFault
-with_width (Ok e) None = Ok e
-with_width (Ok e) (Some place) = Err (TooWide place)
-with_width (Err f) o = Err f
-
 abbrev with_tokens : Result (List Placed) ℕ → ℕ → Result Tree FormulaFault
 with_tokens (Err place) size = Err (BadToken place)
 with_tokens (Ok ps) size = with_width (tokens_read (wants []) ps size) (wide_from 0 ps)

@@ -1,20 +1,19 @@
 -- How runs go on and end.
-use Rattle.std.proofs.Common.{subst, inl, inr, ◌⊎◌, ℕ, zero, suc, Bool, true, false, List, [], ◌∷◌, ◌++◌, length, take, drop, ◌≡◌, ◌≤◌, ◌<◌, ◌+◌, ◌-◌, ◌&&◌, ◌||◌, ◌==◌, Option, Some, None, if◌then◌else◌, refl, sym, ◌∙◌, ap, add-one, length-append, arith, slice_index, slice_range, get_or, drop-cons, nat_le}
+use Rattle.std.proofs.Common.{subst, inl, inr, ◌⊎◌, ℕ, Bool, true, false, List, [], ◌∷◌, ◌++◌, length, drop, ◌≡◌, ◌≤◌, ◌<◌, ◌+◌, ◌-◌, ◌&&◌, ◌||◌, ◌==◌, Option, Some, None, if◌then◌else◌, refl, sym, ◌∙◌, ap, add-one, length-append, arith, slice_index, slice_range, get_or, drop-cons}
 use Rattle.std.specs.List.{list_all}
 use Rattle.std.proofs.lemmas.Bool.{eqb-true}
 use Rattle.std.proofs.lemmas.List.{drop_all, take_more, length-take-le, length-drop, get_or-drop, get_or_append_left, get_or-append-add}
 use Rattle.std.proofs.lemmas.List.Folds.{list_all-append}
 use Rattle.carte_value.specs.Names.{is_digit, is_lower, is_upper, is_letter, is_name_byte}
-use Rattle.carte_value.specs.declared.kind.Kind.{Kind}
-use Rattle.carte_formula.specs.Lexer.{Class, numeral, small, capitals, letters, less, greater, inside, closing, Pending, idle, run, start_of, grown_run, going_on, token_of, emit, from_run, lexed}
+use Rattle.carte_formula.specs.Lexer.{Class, numeral, small, capitals, letters, less, greater, inside, closing, run, grown_run, going_on, lexed}
 use Rattle.carte_formula.specs.Runs.{RunOk, RunsTo, Running}
-use Rattle.carte_formula.proofs.Bytes.{and_left, and_right, and_both, within}
+use Rattle.carte_formula.proofs.Bytes.{and_right, and_both, within}
 use Rattle.carte_formula.proofs.Lexing.{run_step, run_ends, is_going, Stopped}
 
-slice_length : (bytes : List ℕ) (from at : ℕ) → from ≤ at → at ≤ length bytes → length (slice_range bytes from at) ≡ at - from
+pub slice_length : (bytes : List ℕ) (from at : ℕ) → from ≤ at → at ≤ length bytes → length (slice_range bytes from at) ≡ at - from
 slice_length bytes from at h k = length-take-le (at - from) (drop from bytes) (rw (length-drop from bytes) (omega arith))
 
-slice_more : (bytes : List ℕ) (from at : ℕ) → from ≤ at → at < length bytes → slice_range bytes from (at + 1) ≡ slice_range bytes from at ++ slice_index bytes at ∷ []
+pub slice_more : (bytes : List ℕ) (from at : ℕ) → from ≤ at → at < length bytes → slice_range bytes from (at + 1) ≡ slice_range bytes from at ++ slice_index bytes at ∷ []
 slice_more bytes from at h k =
     let n : (at + 1) - from ≡ (at - from) + 1 = omega arith in
     let m : from + (at - from) ≡ at = omega arith in
@@ -34,7 +33,7 @@ goes : (b : Bool) (c e : Class) → going_on b c ≡ Some e → (b ≡ true) × 
 goes true c e h = (refl, (let z : c ≡ e = cc in z))
 goes false c e h = none_is e h
 
-abbrev LastAscii : List ℕ → Type 0
+abbrev pub LastAscii : List ℕ → Type 0
 LastAscii bs = slice_index bs (length bs - 1) < 128
 
 ascii_last : (bs : List ℕ) (b : ℕ) → b < 128 → LastAscii (bs ++ b ∷ [])
@@ -44,13 +43,13 @@ or_cases : (a b : Bool) → (a || b) ≡ true → (a ≡ true) ⊎ (b ≡ true)
 or_cases true b h = inl refl
 or_cases false b h = inr h
 
-digit_low : (b : ℕ) → is_digit b ≡ true → b < 128
+pub digit_low : (b : ℕ) → is_digit b ≡ true → b < 128
 digit_low b h = let w = within 48 57 b h in omega arith
 
-upper_low : (b : ℕ) → is_upper b ≡ true → b < 128
+pub upper_low : (b : ℕ) → is_upper b ≡ true → b < 128
 upper_low b h = let w = within 65 90 b h in omega arith
 
-lower_low : (b : ℕ) → is_lower b ≡ true → b < 128
+pub lower_low : (b : ℕ) → is_lower b ≡ true → b < 128
 lower_low b h = let w = within 97 122 b h in omega arith
 
 equal_low : (n b : ℕ) → n < 128 → (b == n) ≡ true → b < 128

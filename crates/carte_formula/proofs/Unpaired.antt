@@ -1,10 +1,10 @@
 -- A text without its quotes' doubles is UTF-8 where the text is.
-use Rattle.std.proofs.Common.{suc-add, zero, suc, ℕ, Bool, true, false, List, [], ◌∷◌, ◌++◌, length, take, drop, ◌≡◌, ◌≤◌, ◌<◌, ◌==◌, ◌+◌, if◌then◌else◌, refl, sym, ap, append_assoc, length-append, add-zero, ◌∙◌, subst, arith, get_or}
+use Rattle.std.proofs.Common.{suc-add, zero, suc, ℕ, Bool, true, false, List, [], ◌∷◌, ◌++◌, length, take, drop, ◌≡◌, ◌<◌, ◌==◌, ◌+◌, if◌then◌else◌, refl, append_assoc, length-append, add-zero, ◌∙◌, subst, arith, get_or}
 use Rattle.std.proofs.Math.Nat.{le_refl}
-use Rattle.std.specs.Str.{IsUtf8, IsCharBoundary}
+use Rattle.std.specs.Str.{IsUtf8}
 use Rattle.std.proofs.lemmas.Bool.{eqb-true}
-use Rattle.std.proofs.lemmas.List.{append-nil, take-append-le, drop-append-le, take_all, drop_all, get_or-append-add}
-use Rattle.std.proofs.lemmas.Str.{IsUtf8-append, IsUtf8-take, IsUtf8-drop, IsUtf8-from_ascii, IsUtf8-nil, IsCharBoundary-before_ascii, IsCharBoundary-after_ascii}
+use Rattle.std.proofs.lemmas.List.{take-append-le, take_all, get_or-append-add}
+use Rattle.std.proofs.lemmas.Str.{IsUtf8-append, IsUtf8-take, IsUtf8-drop, IsUtf8-from_ascii, IsCharBoundary-before_ascii, IsCharBoundary-after_ascii}
 use Rattle.carte_formula.specs.Lexer.{unpaired}
 
 at_seam : (xs ys : List ℕ) → get_or (xs ++ 34 ∷ ys) (length xs) 0 ≡ 34

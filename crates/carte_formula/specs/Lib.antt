@@ -9,3 +9,5 @@ pub mod Lexer
 pub mod Whole
 pub mod Parser
 pub mod Runs
+pub mod Takes
+pub mod Formula

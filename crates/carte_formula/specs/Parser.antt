@@ -1,10 +1,10 @@
 -- The machine's states as the code holds them.
-use Rattle.std.specs.Prelude.{ℕ, Bool, true, false, nat_lt, List, [], ◌∷◌, map, Option, Some, None, Result, Ok, Err, ◌≡◌, ◌≤◌, ◌<◌}
+use Rattle.std.specs.Prelude.{ℕ, true, false, nat_lt, List, map, Option, Some, None, Result, Ok, Err, ◌≡◌}
 use Rattle.carte_value.specs.declared.NoMemory.{NoMemory}
 use Rattle.carte_formula.specs.Tree.{Op, Tree, Arg, Term}
 use Rattle.carte_formula.specs.Code.{tree_of, term_of, pairs_of, arg_tree}
 use Rattle.carte_formula.specs.Machine.{Frame, sign, chain_at, group, args, State, wants, had, named, corner, half, ranged}
-use Rattle.carte_formula.specs.Reading.{FormulaFault, BadToken, BadSyntax, TooDeep, TooLong, TooWide, NoMemory as OutOfMemory, Placed, depth, tokens_read, ReadAs}
+use Rattle.carte_formula.specs.Reading.{FormulaFault, BadSyntax, TooDeep, NoMemory as OutOfMemory, depth}
 use Rattle.carte_formula.specs.declared.expr.Expr.{Expr}
 use Rattle.carte_formula.specs.declared.expr.Arg.{Arg as CodeArg}
 use Rattle.carte_formula.specs.declared.stack.OpenChain.{OpenChain}

@@ -1,5 +1,5 @@
 -- Runs of bytes, and where they end.
-use Rattle.std.specs.Prelude.{ℕ, List, [], ◌∷◌, ◌≡◌, ◌≤◌, ◌<◌, ◌+◌, ◌-◌, true, length, drop, slice_index, slice_range}
+use Rattle.std.specs.Prelude.{ℕ, List, ◌≡◌, ◌≤◌, ◌<◌, ◌+◌, ◌-◌, true, length, drop, slice_index, slice_range}
 use Rattle.std.specs.List.{list_all}
 use Rattle.carte_value.specs.Names.{is_digit}
 use Rattle.carte_value.specs.declared.kind.Kind.{Kind}

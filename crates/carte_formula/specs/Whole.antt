@@ -3,6 +3,8 @@ use Rattle.std.specs.Prelude.{ℕ, List, [], ◌∷◌, length, ◌≡◌, ◌�
 use Rattle.carte_value.specs.declared.kind.Kind.{Kind}
 use Rattle.carte_value.specs.Areas.{area_of, size_of}
 use Rattle.carte_formula.specs.Tree.{Tree, Token, cell, colon}
+use Rattle.carte_formula.specs.Code.{tree_of}
+use Rattle.carte_formula.specs.declared.expr.Expr.{Expr}
 use Rattle.carte_formula.specs.Grammar.{Spells}
 use Rattle.carte_formula.specs.Reading.{FormulaFault, BadToken, BadSyntax, TooDeep, TooLong, TooWide, NoMemory, Placed, tokens_of, ReadAs}
 use Rattle.carte_formula.specs.Lexer.{idle, lexed}
@@ -17,10 +19,14 @@ abbrev pub width : List Token → ℕ
 width [] = 0
 width (t ∷ ts) = front_size t ts + width ts
 
+abbrev pub size_at : List Placed → ℕ
+size_at [] = 0
+size_at (p ∷ ps) = front_size p.token (tokens_of ps)
+
 -- the place of the first cell of the range with which there are more than 65,536 cells
 abbrev pub wide_from : ℕ → List Placed → Option ℕ
 wide_from sum [] = None
-wide_from sum (p ∷ ps) = if nat_lt 65536 (sum + front_size p.token (tokens_of ps)) then Some p.place else wide_from (sum + front_size p.token (tokens_of ps)) ps
+wide_from sum (p ∷ ps) = if nat_lt 65536 (sum + size_at (p ∷ ps)) then Some p.place else wide_from (sum + size_at (p ∷ ps)) ps
 
 -- the text's tokens
 abbrev pub Tokens : Kind → List ℕ → List Placed → Type 0
@@ -39,3 +45,13 @@ Reads q bytes (Err (BadSyntax place)) = (length bytes ≤ 4096) × (ps : List Pl
 Reads q bytes (Err (TooDeep place)) = (length bytes ≤ 4096) × (ps : List Placed) × Tokens q bytes ps × ReadAs ps (length bytes) (Err (TooDeep place))
 Reads q bytes (Err (TooWide place)) = (length bytes ≤ 4096) × (ps : List Placed) × Tokens q bytes ps × (e : Tree) × ReadAs ps (length bytes) (Ok e) × (wide_from 0 ps ≡ Some place)
 Reads q bytes (Err NoMemory) = Unit {0}
+
+abbrev pub as_tree : Result Expr FormulaFault → Result Tree FormulaFault
+as_tree (Ok e) = Ok (tree_of e)
+as_tree (Err f) = Err f
+
+-- what the tokens are read as, with the width of their ranges
+abbrev pub with_width : Result Tree FormulaFault → Option ℕ → Result Tree FormulaFault
+with_width (Ok e) None = Ok e
+with_width (Ok e) (Some place) = Err (TooWide place)
+with_width (Err f) w = Err f

@@ -1,4 +1,4 @@
-use Rattle.std.proofs.Common.{ℕ, ℤ, pos, true, false, Bool, List, Option, Some, None, Result, Ok, Err, length, ◌≡◌, ◌<◌, ◌^◌, if◌then◌else◌, nat_lt, refl, w64}
+use Rattle.std.proofs.Common.{ℕ, pos, true, false, Bool, Option, Some, None, length, ◌≡◌, ◌<◌, ◌^◌, if◌then◌else◌, nat_lt, refl, w64}
 use Rattle.std.proofs.lemmas.Result.{OkIff-at_err}
 use Rattle.std.specs.Str.Parse.{digits_value}
 use Rattle.std.proofs.lemmas.Bool.{ltb-true}

@@ -1,4 +1,4 @@
-use Rattle.std.proofs.Common.{◌≡◌, false, sym, subst, IsUtf8}
+use Rattle.std.proofs.Common.{◌≡◌, false, IsUtf8}
 use Rattle.carte_formula.specs.Lexer.{unpaired}
 use Rattle.carte_formula.proofs.Unpaired.{unpaired_utf8}
 use Rattle.carte_formula.proofs.making.unpaired.Goals as goal
