@@ -1,0 +1,12 @@
+pub mod Pairs
+pub mod Lists
+pub mod Answering
+pub mod Driving
+pub mod Binding
+pub mod Stack
+pub mod Coding
+pub mod Shapes
+pub mod Links
+pub mod Mentioning
+pub mod Stepping
+pub mod Linking

@@ -1,0 +1,61 @@
+-- The names in a formula's instructions are those in the formula.
+use Rattle.std.proofs.Common.{◌≡◌, ℕ, List, [], ◌∷◌, ◌++◌, refl, ap, sym, ◌∙◌, append_assoc, append-nil}
+use Rattle.carte_value.specs.declared.kind.Kind.{Kind}
+use Rattle.carte_value.specs.Areas.{cells_of}
+use Rattle.carte_formula.specs.Tree.{Tree, number, text, ref, neg, chain, call, Steps, no_step, step, Args, no_arg, arg, Arg, one, cells}
+use Rattle.carte_formula.specs.declared.expr.Func.{Func}
+use Rattle.carte_formula.specs.declared.expr.Func.TheVariants as f
+use Rattle.carte_meaning.specs.Meaning.{asks}
+use Rattle.carte_meaning.specs.Static.{mentions, mentions_steps, mentions_args, mentions_arg}
+use Rattle.carte_task.specs.declared.code.Instr.{Instr}
+use Rattle.carte_task.specs.declared.code.Instr.TheVariants as i
+use Rattle.carte_task.specs.declared.task.Task.{Task}
+use Rattle.carte_task.specs.Code.{exec}
+use Rattle.carte_task.specs.Coding.{count, choice, code_of, code_of_steps, code_of_args, code_of_arg}
+use Rattle.carte_task.specs.Tasks.{mentioned_by, mentions_in, IsTaskOf}
+use Rattle.carte_task.proofs.Coding.{coded}
+
+mentions_on : (xs ys : List Instr) → mentions_in (xs ++ ys) ≡ mentions_in xs ++ mentions_in ys
+mentions_on [] ys = refl
+mentions_on (x ∷ xs) ys = ap (λ ks. mentioned_by x ++ ks) (mentions_on xs ys) ∙ sym (append_assoc (mentioned_by x) (mentions_in xs) (mentions_in ys))
+
+-- an instruction without names at the end
+last_silent : (xs : List Instr) (j : Instr) (ks : List (List ℕ)) → mentioned_by j ≡ [] → mentions_in xs ≡ ks → mentions_in (xs ++ j ∷ []) ≡ ks
+last_silent xs j ks silent is = mentions_on xs (j ∷ []) ∙ ap (λ js. mentions_in xs ++ (js ++ [])) silent ∙ append-nil (mentions_in xs) ∙ is
+
+choice_coded : (c a b : List Instr) (ks is js : List (List ℕ)) → mentions_in c ≡ ks → mentions_in a ≡ is → mentions_in b ≡ js → mentions_in (choice c a b) ≡ ks ++ (is ++ (js ++ []))
+choice_coded c a b ks is js first second third =
+    mentions_on c _ ∙ ap (λ ms. mentions_in c ++ ms) (mentions_on a _ ∙ ap (λ ms. mentions_in a ++ ms) (sym (append-nil (mentions_in b))))
+    ∙ ap (λ ms. ms ++ (mentions_in a ++ (mentions_in b ++ []))) first ∙ ap (λ ms. ks ++ (ms ++ (mentions_in b ++ []))) second ∙ ap (λ ms. ks ++ (is ++ (ms ++ []))) third
+
+mutual
+  mentions_coded : (e : Tree) → mentions_in (code_of e) ≡ mentions e
+  mentions_coded (number n) = refl
+  mentions_coded (text t) = refl
+  mentions_coded (ref k) = refl
+  mentions_coded (neg e) = last_silent (code_of e) i.Negate (mentions e) refl (mentions_coded e)
+  mentions_coded (chain level e ss) = mentions_on (code_of e) (code_of_steps ss) ∙ ap (λ ks. ks ++ mentions_in (code_of_steps ss)) (mentions_coded e) ∙ ap (λ ks. mentions e ++ ks) (steps_coded ss)
+  mentions_coded (call f.If (arg (one c) (arg (one a) (arg (one b) no_arg)))) = choice_coded (code_of c) (code_of a) (code_of b) (mentions c) (mentions a) (mentions b) (mentions_coded c) (mentions_coded a) (mentions_coded b)
+  mentions_coded (call f.Indirect (arg (one e) no_arg)) = last_silent (code_of e) i.Indirect (mentions e) refl (mentions_coded e) ∙ sym (append-nil (mentions e))
+  mentions_coded (call f.Gather (arg (one e) no_arg)) = last_silent (code_of e) i.Gather (mentions e) refl (mentions_coded e) ∙ sym (append-nil (mentions e))
+  mentions_coded (call func xs) = last_silent (code_of_args xs) (i.Call func (count xs)) (mentions_args xs) refl (args_coded xs)
+
+  steps_coded : (ss : Steps) → mentions_in (code_of_steps ss) ≡ mentions_steps ss
+  steps_coded no_step = refl
+  steps_coded (step op e ss) = mentions_on (code_of e) (i.Apply op ∷ code_of_steps ss) ∙ ap (λ ks. ks ++ mentions_in (code_of_steps ss)) (mentions_coded e) ∙ ap (λ ks. mentions e ++ ks) (steps_coded ss)
+
+  args_coded : (xs : Args) → mentions_in (code_of_args xs) ≡ mentions_args xs
+  args_coded no_arg = refl
+  args_coded (arg x xs) = mentions_on (code_of_arg x) (code_of_args xs) ∙ ap (λ ks. ks ++ mentions_in (code_of_args xs)) (arg_coded x) ∙ ap (λ ks. mentions_arg x ++ ks) (args_coded xs)
+
+  arg_coded : (x : Arg) → mentions_in (code_of_arg x) ≡ mentions_arg x
+  arg_coded (one e) = mentions_coded e
+  arg_coded (cells a) = append-nil (cells_of a)
+
+-- a task of a formula, with the formula's instructions
+pub task_made : (kind : Kind) (k : List ℕ) (e : Tree) (t : Task) → t.key ≡ k → t.kind ≡ kind → t.code.items ≡ code_of e → IsTaskOf kind k e t
+task_made kind k e t key of_kind code = record {
+  key = key;
+  computes = ap (λ q. exec q 0 t.code.items []) of_kind ∙ ap (λ cs. exec kind 0 cs []) code ∙ coded kind e;
+  mentioned = ap mentions_in code ∙ mentions_coded e;
+}

@@ -1,0 +1,33 @@
+-- The stack as a list, and names looked up onto it.
+use Rattle.std.proofs.Common.{◌≡◌, ℕ, ◌+◌, ◌-◌, List, [], ◌∷◌, ◌++◌, length, take, drop, refl, ap, sym, ◌∙◌, append_assoc, append-nil, length-append, arith}
+use Rattle.std.proofs.Math.Path.{fun_ext}
+use Rattle.std.proofs.Math.Seq.{drop-append_seam, take-append_seam}
+use Rattle.carte_value.specs.declared.value.Value.{Value}
+use Rattle.carte_value.specs.Asks.{Asks, done, ask, and_then}
+use Rattle.carte_meaning.specs.Meaning.{asks_all}
+use Rattle.carte_task.specs.Code.{newest, below, put, top, pushed}
+use Rattle.carte_task.proofs.Binding.{and_then_assoc, and_then_same, Always, always_then, always_any}
+
+height : (vs us : List Value) (n : ℕ) → length us ≡ n → length (vs ++ us) - n ≡ length vs
+height vs us n is = omega (arith, length-append vs us)
+
+pub newest_on : (vs us : List Value) (n : ℕ) → length us ≡ n → newest n (vs ++ us) ≡ us
+newest_on vs us n is = rw (height vs us n is) (drop-append_seam vs us)
+
+pub below_on : (vs us : List Value) (n : ℕ) → length us ≡ n → below n (vs ++ us) ≡ vs
+below_on vs us n is = rw (height vs us n is) (take-append_seam vs us)
+
+pub put_on : (vs us : List Value) (n : ℕ) (v : Value) → length us ≡ n → put n (vs ++ us) v ≡ vs ++ v ∷ []
+put_on vs us n v is = ap (λ ws. ws ++ v ∷ []) (below_on vs us n is)
+
+-- looked up onto a stack, or looked up and then put on it
+pub pushed_all : {A : Type 0} (ks : List (List ℕ)) (vs : List Value) (go : List Value → Asks A) → pushed ks vs go ≡ and_then (asks_all ks) (λ us. go (vs ++ us))
+pushed_all [] vs go = ap go (sym (append-nil vs))
+pushed_all (k ∷ ks) vs go = ap (ask k) (fun_ext (λ v.
+    pushed_all ks (vs ++ v ∷ []) go
+    ∙ and_then_same (asks_all ks) (λ us. go ((vs ++ v ∷ []) ++ us)) (λ us. go (vs ++ (v ∷ us))) (λ us. ap go (append_assoc vs (v ∷ []) us))
+    ∙ sym (and_then_assoc (asks_all ks) (λ us. done (v ∷ us)) (λ us. go (vs ++ us)))))
+
+pub all_counted : (ks : List (List ℕ)) → Always (λ (us : List Value). length us ≡ length ks) (asks_all ks)
+all_counted [] = refl
+all_counted (k ∷ ks) = λ v. always_then (λ (us : List Value). length us ≡ length ks) (λ (us : List Value). length us ≡ length (k ∷ ks)) (asks_all ks) (λ us. done (v ∷ us)) (all_counted ks) (λ us same. cc)

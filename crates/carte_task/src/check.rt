@@ -1,0 +1,122 @@
+ghost use Rattle.std.specs.Prelude.{◌≡◌, IfOk, bytes_eq};
+ghost use Rattle.carte_task.specs.Effects.{SameOwn};
+ghost use Rattle.carte_task.specs.Compared.{Compared};
+
+use crate::{Effect, Halt, Reuse};
+use carte_value::{Digest, Link, Links, Name, NoMemory, Value};
+use std::alloc::Global;
+use std::marker::Model;
+
+/// What a check comes to.
+#[derive(Debug, Drop)]
+pub enum Verdict {
+    /// Each link has the digest that it had, so the earlier end holds.
+    Same(Reuse),
+    /// The place of the first link that has another.
+    Differs(usize),
+}
+
+/// Asks for the links of an earlier end in order, and compares digests, until one differs.
+#[derive(Debug, Drop)]
+pub struct Check {
+    key: Name,
+    value: Value,
+    links: Links,
+    at: usize,
+}
+
+impl Model for Check {
+    ghost use Rattle.carte_task.specs.Checking.{Checking};
+
+    ghost Value = { Checking };
+
+    ghost view = { λ c. record { earlier = record { key = c.key; value = c.value; links = c.links }; at = c.at } };
+}
+
+// Whether two digests are the same.
+fn is_same(digest: &Digest, other: &Digest) -> bool
+    ensures { result ≡ bytes_eq digest.now.0 other.now.0 }
+{
+    digest.0.as_slice() == other.0.as_slice()
+}
+
+// Whether the name of a link still has a value with the link's digest.
+fn still<E: Effect>(alloc: Global, link: &Link, effect: &mut E) -> Result<bool, Halt<E::Stop>>
+    ensures truth { E.truth effect.new ≡ E.truth effect.old }
+    ensures own { SameOwn (E.own effect.old) (E.own effect.new) }
+    ensures asked { Compared (E.truth effect.old) (E.own effect.old) (E.log effect.old) (E.log effect.new) link.now result }
+{
+    match effect.fetch(alloc, &link.name) {
+        Ok(value) => Ok(is_same(&link.digest, &value.digest())),
+        Err(halt) => Err(halt),
+    }
+}
+
+impl Check {
+    ghost use Rattle.carte_task.specs.Checks.{Checked, Judges, Gives};
+
+    /// A check of an earlier end, with nothing compared so far.
+    pub fn start(alloc: Global, key: &Name, links: &Links, value: &Value) -> Result<Check, NoMemory>
+        ensures { IfOk result (λ c. c ≡ record { earlier = record { key = key.now; value = value.now; links = links.now }; at = 0 }) }
+    {
+        let key = key.copy(alloc)?;
+        let links = links.copy(alloc)?;
+        let value = value.copy(alloc)?;
+        Ok(Check {
+            key,
+            value,
+            links,
+            at: 0,
+        })
+    }
+
+    /// Goes on to the verdict, or to a link whose name has no value.
+    pub fn drive<E: Effect>(
+        &mut self,
+        alloc: Global,
+        effect: &mut E,
+    ) -> Result<Verdict, Halt<E::Stop>>
+        ensures truth { E.truth effect.new ≡ E.truth effect.old }
+        ensures own { SameOwn (E.own effect.old) (E.own effect.new) }
+        ensures earlier { self.new.earlier ≡ self.old.earlier }
+        ensures checked { Checked (E.truth effect.old) (E.own effect.old) (E.log effect.old) (E.log effect.new) self.old self.new result }
+        ensures judges { IfOk result (Judges (E.truth effect.old) self.old) }
+    {
+        self.compare(alloc, effect)
+    }
+
+    fn compare<E: Effect>(
+        &mut self,
+        alloc: Global,
+        effect: &mut E,
+    ) -> Result<Verdict, Halt<E::Stop>>
+        ensures truth { E.truth effect.new ≡ E.truth effect.old }
+        ensures own { SameOwn (E.own effect.old) (E.own effect.new) }
+        ensures earlier { self.new.earlier ≡ self.old.earlier }
+        ensures checked { Checked (E.truth effect.old) (E.own effect.old) (E.log effect.old) (E.log effect.new) self.old self.new result }
+        ensures reuse { IfOk result (Gives self.old) }
+    {
+        'links: while self.at < self.links.len() {
+            let link = &self.links.as_slice()[self.at];
+            match still(alloc, link, effect) {
+                Ok(true) => self.at += 1,
+                Ok(false) => return Ok(Verdict::Differs(self.at)),
+                Err(halt) => return Err(halt),
+            }
+        }
+        match self.reuse(alloc) {
+            Ok(reuse) => Ok(Verdict::Same(reuse)),
+            Err(_) => Err(Halt::NoMemory),
+        }
+    }
+
+    // The earlier end, which holds.
+    fn reuse(&self, alloc: Global) -> Result<Reuse, NoMemory>
+        ensures { IfOk result (λ r. r ≡ self.now.earlier) }
+    {
+        let key = self.key.copy(alloc)?;
+        let value = self.value.copy(alloc)?;
+        let links = self.links.copy(alloc)?;
+        Ok(Reuse::new(key, value, links))
+    }
+}

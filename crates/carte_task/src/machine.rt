@@ -1,0 +1,109 @@
+ghost use Rattle.std.specs.Prelude.{◌≡◌, is_ok, if◌then◌else◌, IfOk};
+ghost use Rattle.carte_task.specs.Effects.{SameOwn};
+ghost use Rattle.carte_task.specs.Ledger.{with_start, with_end};
+
+use crate::progress::Progress;
+use crate::{Effect, Ended, Halt, Runs, Task};
+use carte_value::{Name, NoMemory};
+use std::alloc::Global;
+
+/// A task that runs, halts at a name without a value, and goes on from there. It asks each name at most once, and remembers the answers.
+#[derive(Drop)]
+pub struct Machine {
+    task: Task,
+    progress: Progress,
+    ended: bool,
+}
+
+impl Machine {
+    ghost use Rattle.carte_task.specs.Machines.{state_of, started, Drove, Kept, EndsWith};
+    ghost use Rattle.carte_task.specs.Laws.{IsSound, Steps};
+    ghost use Rattle.carte_task.specs.Laws.{IsSound, Steps};
+    ghost use Rattle.carte_task.specs.Tasks.{key_of, asks_of};
+
+    /// A machine at the start of a task, which is counted.
+    pub fn start(alloc: Global, task: Task, runs: &mut Runs) -> Result<Machine, NoMemory>
+        ensures machine { IfOk result (λ m. state_of m ≡ started (key_of task) (asks_of task)) }
+        ensures sound { IfOk result (λ m. IsSound (state_of m)) }
+        ensures runs { runs.new ≡ (if is_ok result then with_start runs.old (key_of task) else runs.old) }
+    {
+        match runs.start(alloc, &task.key) {
+            Ok(()) => Ok(Machine {
+                task,
+                progress: Progress::new(alloc),
+                ended: false,
+            }),
+            Err(refused) => Err(refused),
+        }
+    }
+
+    pub(crate) fn task_key(&self) -> &Name
+        ensures { result.now ≡ (state_of self.now).key }
+    {
+        &self.task.key
+    }
+
+    /// Whether it has come to its end.
+    pub fn has_ended(&self) -> bool
+        ensures { result ≡ (state_of self.now).ended }
+    {
+        self.ended
+    }
+
+    /// Goes on to the end, which is counted, or to a name without an answer. After a halt it stands before the fetch that halted, and keeps what was answered.
+    pub fn drive<E: Effect>(
+        &mut self,
+        alloc: Global,
+        effect: &mut E,
+        runs: &mut Runs,
+    ) -> Result<Ended, Halt<E::Stop>>
+        ensures truth { E.truth effect.new ≡ E.truth effect.old }
+        ensures own { SameOwn (E.own effect.old) (E.own effect.new) }
+        ensures drove { Drove (E.truth effect.old) (E.own effect.old) (E.log effect.old) (E.log effect.new) (state_of self.old) (state_of self.new) result }
+        ensures runs { runs.new ≡ (if is_ok result then with_end runs.old (state_of self.old).key else runs.old) }
+
+        // What that is for the formula of a machine that was started and driven.
+        ensures sound { IsSound (state_of self.old) → IsSound (state_of self.new) }
+        ensures steps { IsSound (state_of self.old) → Steps (E.truth effect.old) (E.own effect.old) (state_of self.old) (state_of self.new) result }
+    {
+        self.go_on(alloc, effect, runs)
+    }
+
+    fn go_on<E: Effect>(
+        &mut self,
+        alloc: Global,
+        effect: &mut E,
+        runs: &mut Runs,
+    ) -> Result<Ended, Halt<E::Stop>>
+        ensures truth { E.truth effect.new ≡ E.truth effect.old }
+        ensures own { SameOwn (E.own effect.old) (E.own effect.new) }
+        ensures drove { Drove (E.truth effect.old) (E.own effect.old) (E.log effect.old) (E.log effect.new) (state_of self.old) (state_of self.new) result }
+        ensures runs { runs.new ≡ (if is_ok result then with_end runs.old (state_of self.old).key else runs.old) }
+    {
+        match self
+            .progress
+            .drive(alloc, self.task.kind, self.task.code.as_slice(), effect)
+        {
+            Ok(()) => {}
+            Err(halt) => return Err(halt),
+        }
+        match self.end(alloc, runs) {
+            Ok(ended) => Ok(ended),
+            Err(_) => Err(Halt::NoMemory),
+        }
+    }
+
+    // The end, once nothing is left to be done.
+    fn end(&mut self, alloc: Global, runs: &mut Runs) -> Result<Ended, NoMemory>
+        ensures kept { Kept (state_of self.old) (state_of self.new) (is_ok result) }
+        ensures ended { IfOk result (EndsWith self.old) }
+        ensures runs { runs.new ≡ (if is_ok result then with_end runs.old (state_of self.old).key else runs.old) }
+    {
+        let value = self.progress.top(alloc)?;
+        let links = self.progress.links(alloc)?;
+        let key = self.task.key.copy(alloc)?;
+        runs.end(alloc, &self.task.key)?;
+        self.ended = true;
+        Ok(Ended::new(key, value, links))
+    }
+}

@@ -1,0 +1,218 @@
+ghost use Rattle.std.specs.Prelude.{◌≡◌, ◌+◌, ◌<◌, ◌≤◌, ◌∷◌, [], List, length, IfOk, OnOk, drop};
+ghost use Rattle.carte_value.specs.declared.kind.Kind.{Kind as SomeKind};
+ghost use Rattle.carte_task.specs.declared.code.Instr.{Instr};
+ghost use Rattle.carte_task.specs.Effects.{SameOwn};
+ghost use Rattle.carte_task.specs.Answered.{Answered};
+
+use crate::code::{Instr, Next};
+use crate::{Effect, Halt, turns};
+use carte_value::{Kind, Link, Links, Name, Names, NoMemory, Value};
+use indexmap::IndexMap;
+use std::alloc::Global;
+
+/// How far a task has come: the place in its code, the stack, the names to be looked up first, and the answers so far in order.
+#[derive(Drop)]
+pub(crate) struct Progress {
+    pub(crate) at: usize,
+    pub(crate) values: Vec<Value>,
+    pub(crate) names: Names,
+    pub(crate) looked: usize,
+    pub(crate) next: Next,
+    pub(crate) answers: IndexMap<Name, Value>,
+}
+
+// The value of a name: a second look-up takes the first answer.
+fn answer<E: Effect>(
+    alloc: Global,
+    answers: &mut IndexMap<Name, Value>,
+    name: &Name,
+    effect: &mut E,
+) -> Result<Value, Halt<E::Stop>>
+    ensures truth { E.truth effect.new ≡ E.truth effect.old }
+    ensures own { SameOwn (E.own effect.old) (E.own effect.new) }
+    ensures answered { Answered (E.truth effect.old) (E.own effect.old) (E.log effect.old) (E.log effect.new) answers.old.entries answers.new.entries name.now result }
+{
+    if let Some(value) = answers.get(name) {
+        return match value.copy(alloc) {
+            Ok(value) => Ok(value),
+            Err(_) => Err(Halt::NoMemory),
+        };
+    }
+    let Ok(own) = name.copy(alloc) else {
+        return Err(Halt::NoMemory);
+    };
+    if let Err(_refused) = answers.reserve(1) {
+        return Err(Halt::NoMemory);
+    }
+    let value = match effect.fetch(alloc, name) {
+        Ok(value) => value,
+        Err(halt) => return Err(halt),
+    };
+    let copy = value.copy(alloc);
+    match answers.insert(own, value) {
+        Ok(_old) => match copy {
+            Ok(value) => Ok(value),
+            Err(_) => Err(Halt::NoMemory),
+        },
+        Err(_refused) => Err(Halt::NoMemory),
+    }
+}
+
+impl Progress {
+    ghost use Rattle.carte_task.specs.State.{answers_in, pending, rest_in, Looked, Proceeds, Stepped};
+    ghost use Rattle.carte_value.specs.Once.{once};
+    ghost use Rattle.carte_task.specs.Code.{exec, top};
+    ghost use Rattle.carte_task.specs.Outcomes.{links_of};
+
+    /// At the start of its code.
+    pub(crate) fn new(alloc: Global) -> Progress
+        ensures answers { answers_in result ≡ [] }
+        ensures rest { (kind : SomeKind) (code : List Instr) → rest_in kind code result ≡ once [] (exec kind 0 code []) }
+    {
+        Progress {
+            at: 0,
+            values: Vec::new(alloc),
+            names: Names::new(alloc),
+            looked: 0,
+            next: Next::Behind(0),
+            answers: IndexMap::new(alloc),
+        }
+    }
+
+    /// The newest value.
+    pub(crate) fn top(&self, alloc: Global) -> Result<Value, NoMemory>
+        ensures { IfOk result (λ v. v ≡ top self.now.values.items) }
+    {
+        turns::top(alloc, &self.values)
+    }
+
+    /// The names that were asked, in order, with the digests of their values.
+    pub(crate) fn links(&self, alloc: Global) -> Result<Links, NoMemory>
+        ensures { IfOk result (λ links. links ≡ links_of (answers_in self.now)) }
+    {
+        let mut links = Links::new(alloc);
+        for at in 0..self.answers.len() {
+            let Some((name, value)) = self.answers.get_index(at) else {
+                return Err(NoMemory);
+            };
+            let name = name.copy(alloc)?;
+            links.push(Link {
+                name,
+                digest: value.digest(),
+            })?;
+        }
+        Ok(links)
+    }
+
+    /// Looks up the names that are to be looked up first, each onto the stack.
+    fn look_up<E: Effect>(&mut self, alloc: Global, effect: &mut E) -> Result<(), Halt<E::Stop>>
+        ensures truth { E.truth effect.new ≡ E.truth effect.old }
+        ensures own { SameOwn (E.own effect.old) (E.own effect.new) }
+        ensures kept { (self.new.at ≡ self.old.at) × (self.new.next ≡ self.old.next) }
+        ensures looked { Looked (E.truth effect.old) (E.own effect.old) (E.log effect.old) (E.log effect.new) self.old self.new result }
+    {
+        while self.looked < self.names.len() {
+            if let Err(_refused) = self.values.reserve(1) {
+                return Err(Halt::NoMemory);
+            }
+            let name = &self.names.as_slice()[self.looked];
+            let value = match answer(alloc, &mut self.answers, name, effect) {
+                Ok(value) => value,
+                Err(halt) => return Err(halt),
+            };
+            self.values.push_reserved(value);
+            self.looked += 1;
+        }
+        Ok(())
+    }
+
+    /// Goes on once the names are looked up.
+    fn settle(&mut self, alloc: Global, len: usize) -> Result<(), NoMemory>
+        requires { pending self.old ≡ [] }
+        ensures answers { answers_in self.new ≡ answers_in self.old }
+        ensures rest { (kind : SomeKind) (code : List Instr) → length code ≡ len → rest_in kind code self.new ≡ rest_in kind code self.old }
+        ensures on { self.old.at ≤ self.new.at }
+        ensures settled { OnOk result ((self.new.next ≡ Next.Behind 0) × (pending self.new ≡ [])) }
+    {
+        match self.next {
+            Next::Behind(count) => {
+                self.at = behind(self.at, count, len);
+                self.next = Next::Behind(0);
+                Ok(())
+            }
+            Next::Joined(count) => match turns::join(alloc, &mut self.values, count) {
+                Ok(()) => {
+                    self.next = Next::Behind(0);
+                    Ok(())
+                }
+                Err(refused) => Err(refused),
+            },
+        }
+    }
+
+    /// Does one instruction; false where there is none left.
+    fn step(&mut self, alloc: Global, kind: Kind, code: &[Instr]) -> Result<bool, NoMemory>
+        requires names { pending self.old ≡ [] }
+        requires next { self.old.next ≡ Next.Behind 0 }
+        ensures answers { answers_in self.new ≡ answers_in self.old }
+        ensures rest { rest_in kind code.now self.new ≡ rest_in kind code.now self.old }
+        ensures end { IfOk result (λ more. Stepped kind code.now self.old self.new more) }
+    {
+        if self.at >= code.len() {
+            return Ok(false);
+        }
+        let pending = match turns::turn(alloc, kind, &code[self.at], &mut self.values) {
+            Ok(pending) => pending,
+            Err(refused) => return Err(refused),
+        };
+        self.at += 1;
+        self.names = pending.names;
+        self.looked = 0;
+        self.next = pending.next;
+        Ok(true)
+    }
+
+    /// Goes on to the end, or to a name without an answer.
+    pub(crate) fn drive<E: Effect>(
+        &mut self,
+        alloc: Global,
+        kind: Kind,
+        code: &[Instr],
+        effect: &mut E,
+    ) -> Result<(), Halt<E::Stop>>
+        ensures truth { E.truth effect.new ≡ E.truth effect.old }
+        ensures own { SameOwn (E.own effect.old) (E.own effect.new) }
+        ensures proceeds { Proceeds kind code.now (E.truth effect.old) (E.own effect.old) (E.log effect.old) (E.log effect.new) self.old self.new result }
+    {
+        'turns: loop {
+            match self.look_up(alloc, effect) {
+                Ok(()) => {}
+                Err(halt) => return Err(halt),
+            }
+            match self.settle(alloc, code.len()) {
+                Ok(()) => {}
+                Err(_) => return Err(Halt::NoMemory),
+            }
+            match self.step(alloc, kind, code) {
+                Ok(true) => {}
+                Ok(false) => return Ok(()),
+                Err(_) => return Err(Halt::NoMemory),
+            }
+        }
+    }
+}
+
+// The place behind that many instructions, or behind all of them.
+fn behind(at: usize, count: usize, len: usize) -> usize
+    ensures on { at ≤ result }
+    ensures drop { (code : List Instr) → length code ≡ len → drop result code ≡ drop count (drop at code) }
+{
+    if count == 0 {
+        return at;
+    }
+    if at < len && count < len - at {
+        at + count
+    } else {
+        at.max(len)
+    }
+}
