@@ -10,3 +10,4 @@ pub mod Links
 pub mod Mentioning
 pub mod Stepping
 pub mod Linking
+pub mod Once

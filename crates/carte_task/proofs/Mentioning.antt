@@ -6,7 +6,7 @@ use Rattle.carte_formula.specs.Tree.{Tree, number, text, ref, neg, chain, call, 
 use Rattle.carte_formula.specs.declared.expr.Func.{Func}
 use Rattle.carte_formula.specs.declared.expr.Func.TheVariants as f
 use Rattle.carte_meaning.specs.Meaning.{asks}
-use Rattle.carte_meaning.specs.Static.{mentions, mentions_steps, mentions_args, mentions_arg}
+use Rattle.carte_formula.specs.Formula.{mentions, steps_mentions, args_mentions, arg_mentions}
 use Rattle.carte_task.specs.declared.code.Instr.{Instr}
 use Rattle.carte_task.specs.declared.code.Instr.TheVariants as i
 use Rattle.carte_task.specs.declared.task.Task.{Task}
@@ -15,7 +15,7 @@ use Rattle.carte_task.specs.Coding.{count, choice, code_of, code_of_steps, code_
 use Rattle.carte_task.specs.Tasks.{mentioned_by, mentions_in, IsTaskOf}
 use Rattle.carte_task.proofs.Coding.{coded}
 
-mentions_on : (xs ys : List Instr) → mentions_in (xs ++ ys) ≡ mentions_in xs ++ mentions_in ys
+pub mentions_on : (xs ys : List Instr) → mentions_in (xs ++ ys) ≡ mentions_in xs ++ mentions_in ys
 mentions_on [] ys = refl
 mentions_on (x ∷ xs) ys = ap (λ ks. mentioned_by x ++ ks) (mentions_on xs ys) ∙ sym (append_assoc (mentioned_by x) (mentions_in xs) (mentions_in ys))
 
@@ -38,17 +38,17 @@ mutual
   mentions_coded (call f.If (arg (one c) (arg (one a) (arg (one b) no_arg)))) = choice_coded (code_of c) (code_of a) (code_of b) (mentions c) (mentions a) (mentions b) (mentions_coded c) (mentions_coded a) (mentions_coded b)
   mentions_coded (call f.Indirect (arg (one e) no_arg)) = last_silent (code_of e) i.Indirect (mentions e) refl (mentions_coded e) ∙ sym (append-nil (mentions e))
   mentions_coded (call f.Gather (arg (one e) no_arg)) = last_silent (code_of e) i.Gather (mentions e) refl (mentions_coded e) ∙ sym (append-nil (mentions e))
-  mentions_coded (call func xs) = last_silent (code_of_args xs) (i.Call func (count xs)) (mentions_args xs) refl (args_coded xs)
+  mentions_coded (call func xs) = last_silent (code_of_args xs) (i.Call func (count xs)) (args_mentions xs) refl (args_coded xs)
 
-  steps_coded : (ss : Steps) → mentions_in (code_of_steps ss) ≡ mentions_steps ss
+  steps_coded : (ss : Steps) → mentions_in (code_of_steps ss) ≡ steps_mentions ss
   steps_coded no_step = refl
   steps_coded (step op e ss) = mentions_on (code_of e) (i.Apply op ∷ code_of_steps ss) ∙ ap (λ ks. ks ++ mentions_in (code_of_steps ss)) (mentions_coded e) ∙ ap (λ ks. mentions e ++ ks) (steps_coded ss)
 
-  args_coded : (xs : Args) → mentions_in (code_of_args xs) ≡ mentions_args xs
+  args_coded : (xs : Args) → mentions_in (code_of_args xs) ≡ args_mentions xs
   args_coded no_arg = refl
-  args_coded (arg x xs) = mentions_on (code_of_arg x) (code_of_args xs) ∙ ap (λ ks. ks ++ mentions_in (code_of_args xs)) (arg_coded x) ∙ ap (λ ks. mentions_arg x ++ ks) (args_coded xs)
+  args_coded (arg x xs) = mentions_on (code_of_arg x) (code_of_args xs) ∙ ap (λ ks. ks ++ mentions_in (code_of_args xs)) (arg_coded x) ∙ ap (λ ks. arg_mentions x ++ ks) (args_coded xs)
 
-  arg_coded : (x : Arg) → mentions_in (code_of_arg x) ≡ mentions_arg x
+  arg_coded : (x : Arg) → mentions_in (code_of_arg x) ≡ arg_mentions x
   arg_coded (one e) = mentions_coded e
   arg_coded (cells a) = append-nil (cells_of a)
 

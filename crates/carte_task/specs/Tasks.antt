@@ -6,7 +6,7 @@ use Rattle.carte_value.specs.Areas.{cells_of}
 use Rattle.carte_value.specs.Asks.{Asks}
 use Rattle.carte_formula.specs.Tree.{Tree}
 use Rattle.carte_meaning.specs.Meaning.{asks}
-use Rattle.carte_meaning.specs.Static.{mentions}
+use Rattle.carte_formula.specs.Formula.{mentions}
 use Rattle.carte_task.specs.declared.code.Instr.{Instr}
 use Rattle.carte_task.specs.declared.code.Instr.TheVariants as i
 use Rattle.carte_task.specs.declared.task.Task.{Task}

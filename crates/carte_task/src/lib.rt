@@ -12,6 +12,7 @@ mod list;
 mod look;
 mod machine;
 mod made;
+mod mentioned;
 mod postfix;
 mod progress;
 mod refs_only;
