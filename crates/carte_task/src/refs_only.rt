@@ -5,7 +5,7 @@ use carte_value::Names;
 use std::alloc::Global;
 
 /// The stop of what never stops.
-#[derive(Debug, Drop)]
+#[derive(Drop)]
 pub enum Never {}
 
 /// Lists the names that it is asked for, and withholds their values: what a task would read, without reading it.
