@@ -37,7 +37,7 @@ mutual
   steps_is no_step l = refl
   steps_is (step o e ss) l =
       ap (λ bs. op_bytes o ++ bs) (text_append (bracketed (tight (rank l) e) (shown e)) (steps_shown l ss) ∙ ap (λ bs. bs ++ text_of (steps_shown l ss)) (held_is (tight (rank l) e) e (printed_is e))
-        ∙ ap (λ bs. in_brackets (tight (rank l) e) (printed e) ++ bs) (steps_is ss l))
+      ∙ ap (λ bs. in_brackets (tight (rank l) e) (printed e) ++ bs) (steps_is ss l))
       ∙ sym (append_assoc (op_bytes o) (in_brackets (tight (rank l) e) (printed e)) (steps_printed l ss))
 
   args_is : (xs : Args) → text_of (args_shown xs) ≡ args_printed xs
