@@ -65,7 +65,7 @@ mutual
   spelt_expr q (single x) h = spelt_expr q x h
   spelt_expr q (chained {l} {ts} {us} {vs} x o is y r) h =
       let k = kind_both q ts (op o ∷ (us ++ vs)) h in let j = kind_both q us vs k.1.1 in
-      (spelt_expr q x k.0, (is, spelt_expr q y j.0, steps_expr q r j.1))
+      (spelt_expr q x k.0, (is, spelt_expr q y j.0, steps_expr q r j.1), tt)
 
   steps_expr : {l : Level} {vs : List Token} {ss : List Term} (q : Kind) → Repeats l vs ss → AllOfKind q vs → AreSteps l (steps_of ss)
   steps_expr q none h = tt

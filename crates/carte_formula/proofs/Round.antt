@@ -9,7 +9,7 @@ use Rattle.carte_formula.specs.Reading.{FormulaFault, BadToken, BadSyntax, TooDe
 use Rattle.carte_formula.specs.Print.{shown, AllOfKind}
 use Rattle.carte_formula.specs.Lexer.{idle, lexed, text_of}
 use Rattle.carte_formula.specs.Printed.{printed}
-use Rattle.carte_formula.specs.Whole.{width, with_width, wide_from, Tokens, SpelledBy, Reads}
+use Rattle.carte_formula.specs.Whole.{IsTold, width, with_width, wide_from, Tokens, SpelledBy, Reads}
 use Rattle.carte_formula.proofs.Complete.{complete}
 use Rattle.carte_formula.proofs.Viable.{one_tree}
 use Rattle.carte_formula.proofs.Readings.{read_so}
@@ -32,11 +32,6 @@ text_read q bytes = if nat_lt 4096 (length bytes) then Err (TooLong (length byte
 
 short_read : (q : Kind) (bytes : List ℕ) → length bytes ≤ 4096 → text_read q bytes ≡ with_tokens (lexed q idle 0 bytes) (length bytes)
 short_read q bytes h = rw (le-ltb 4096 (length bytes) h) refl
-
--- not for want of memory
-abbrev pub IsTold : Result Tree FormulaFault → Type 0
-IsTold (Err NoMemory) = ⊥
-IsTold _ = Unit {0}
 
 told : (q : Kind) (bytes : List ℕ) (r : Result Tree FormulaFault) → Reads q bytes r → IsTold r → text_read q bytes ≡ r
 told q bytes (Ok e) (low, ps, is, r, w) t = short_read q bytes low ∙ ap (λ x. with_tokens x (length bytes)) is ∙ ap (λ x. with_width x (wide_from 0 ps)) (read_so ps (length bytes) (Ok e) r) ∙ ap (λ x. with_width (Ok e) x) w

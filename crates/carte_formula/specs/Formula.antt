@@ -21,6 +21,10 @@ abbrev pub args_count : Args → ℕ
 args_count no_arg = 0
 args_count (arg x xs) = args_count xs + 1
 
+abbrev pub HasStep : Steps → Type 0
+HasStep no_step = ⊥
+HasStep (step o e ss) = Unit {0}
+
 abbrev mutual
   -- numbers, levels, arguments and ranges are as reading makes them
   pub IsExpr : Tree → Type 0
@@ -28,12 +32,8 @@ abbrev mutual
   IsExpr (text k) = length k ≤ 65536
   IsExpr (ref k) = Unit {0}
   IsExpr (neg e) = IsExpr e
-  IsExpr (chain l e ss) = IsExpr e × IsRest l ss
+  IsExpr (chain l e ss) = IsExpr e × AreSteps l ss × HasStep ss
   IsExpr (call f xs) = IsCount (arity f) (args_count xs) × AreArgs f xs
-
-  pub IsRest : Level → Steps → Type 0
-  IsRest l no_step = ⊥
-  IsRest l (step o e ss) = (level_of o ≡ l) × IsExpr e × AreSteps l ss
 
   pub AreSteps : Level → Steps → Type 0
   AreSteps l no_step = Unit {0}
@@ -129,6 +129,15 @@ rule_of functions.Indirect = never
 rule_of functions.Gather = never
 rule_of _ = any
 
+abbrev pub branches_free : Args → Bool
+branches_free no_arg = true
+branches_free (arg x xs) = args_free xs
+
+abbrev pub args_allowed : Rule → Args → Bool
+args_allowed never xs = false
+args_allowed any xs = true
+args_allowed branches xs = branches_free xs
+
 abbrev mutual
   -- no reference or range stands in a branch of an IF, and neither INDIRECT nor GATHER occurs
   pub is_static_tree : Tree → Bool
@@ -150,9 +159,3 @@ abbrev mutual
   pub arg_static : Arg → Bool
   arg_static (one e) = is_static_tree e
   arg_static (cells a) = true
-
-  pub args_allowed : Rule → Args → Bool
-  args_allowed never xs = false
-  args_allowed any xs = true
-  args_allowed branches no_arg = true
-  args_allowed branches (arg x xs) = args_free xs

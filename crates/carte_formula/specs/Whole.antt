@@ -55,3 +55,8 @@ abbrev pub with_width : Result Tree FormulaFault → Option ℕ → Result Tree 
 with_width (Ok e) None = Ok e
 with_width (Ok e) (Some place) = Err (TooWide place)
 with_width (Err f) w = Err f
+
+-- not for want of memory
+abbrev pub IsTold : Result Tree FormulaFault → Type 0
+IsTold (Err NoMemory) = ⊥
+IsTold _ = Unit {0}

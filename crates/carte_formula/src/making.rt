@@ -1,4 +1,4 @@
-ghost use Rattle.std.specs.Prelude.{◌≡◌, ◌<◌, ◌++◌, ◌∷◌, [], OnOk, true, false, IfOk, IsUtf8, length, string_bytes};
+ghost use Rattle.std.specs.Prelude.{◌≡◌, ◌<◌, true, false, IfOk, IsUtf8, length, string_bytes};
 ghost use Rattle.std.specs.List.{list_all};
 ghost use Rattle.std.specs.Str.{str_to_ascii_uppercase};
 ghost use Rattle.carte_value.specs.Names.{is_digit};
@@ -6,6 +6,7 @@ ghost use Rattle.carte_formula.specs.Lexer.{token_of, numeral, small, letters, c
 ghost use Rattle.carte_formula.specs.Runs.{RunOk};
 
 use crate::cell::Cell;
+use crate::put::put_byte;
 use crate::tokens::{Class, Token};
 use crate::{Func, Op};
 use carte_value::{Name, NameFault, NoMemory, Text};
@@ -156,17 +157,8 @@ fn unpaired_bytes(alloc: Global, raw: &[u8]) -> Result<Vec<u8>, NoMemory>
             paired = false;
         } else {
             paired = *byte == b'"';
-            put(&mut bytes, *byte)?;
+            put_byte(&mut bytes, *byte)?;
         }
     }
     Ok(bytes)
-}
-
-fn put(bytes: &mut Vec<u8>, byte: u8) -> Result<(), NoMemory>
-    ensures { OnOk result (bytes.new.items ≡ bytes.old.items ++ byte ∷ []) }
-{
-    match bytes.push(byte) {
-        Ok(()) => Ok(()),
-        Err(_) => Err(NoMemory),
-    }
 }

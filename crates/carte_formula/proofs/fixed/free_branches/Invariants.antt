@@ -1,0 +1,12 @@
+use Rattle.std.proofs.Common.{ℕ, ◌≡◌, ◌≤◌, ◌-◌, drop, length}
+use Rattle.carte_formula.specs.Tree.{args_of}
+use Rattle.carte_formula.specs.Code.{args_tree}
+use Rattle.carte_formula.specs.Parser.{args_trees}
+use Rattle.carte_formula.specs.Formula.{args_free, branches_free}
+use Rattle.carte_formula.proofs.fixed.free_branches.Given as goal
+
+abbrev pub invariant-loop-arg : goal.invariant-loop-arg
+invariant-loop-arg l = args_free (args_of (args_trees (drop l.at l.args.items.items))) ≡ branches_free (args_of (args_trees l.args.items.items))
+
+abbrev pub decreases-loop-arg : goal.decreases-loop-arg
+decreases-loop-arg l = length l.args.items.items - l.at
