@@ -12,6 +12,7 @@ pub mod Clear
 pub mod Bytes
 pub mod Lexing
 pub mod Lexed
+pub mod Texts
 pub mod Round
 pub mod Depths
 pub mod Running

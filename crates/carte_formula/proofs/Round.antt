@@ -7,7 +7,8 @@ use Rattle.carte_formula.specs.Grammar.{Spells}
 use Rattle.carte_formula.specs.Machine.{wants}
 use Rattle.carte_formula.specs.Reading.{FormulaFault, BadToken, BadSyntax, TooDeep, TooLong, TooWide, NoMemory, Placed, tokens_of, tokens_read}
 use Rattle.carte_formula.specs.Print.{shown, AllOfKind}
-use Rattle.carte_formula.specs.Lexer.{idle, lexed, printed}
+use Rattle.carte_formula.specs.Lexer.{idle, lexed, text_of}
+use Rattle.carte_formula.specs.Printed.{printed}
 use Rattle.carte_formula.specs.Whole.{width, with_width, wide_from, Tokens, SpelledBy, Reads}
 use Rattle.carte_formula.proofs.Complete.{complete}
 use Rattle.carte_formula.proofs.Viable.{one_tree}
@@ -19,6 +20,7 @@ use Rattle.carte_formula.proofs.Widths.{same_width, narrow, not_wide}
 use Rattle.carte_formula.proofs.Clear.{all_clear}
 use Rattle.carte_formula.proofs.Lexing.{lexes}
 use Rattle.carte_formula.proofs.Lexed.{lexed_kind}
+use Rattle.carte_formula.proofs.Texts.{printed_shown}
 
 -- what a text is read as, as a function
 abbrev with_tokens : Result (List Placed) ℕ → ℕ → Result Tree FormulaFault
@@ -64,4 +66,5 @@ read_again q bytes e (low, ps, is, (spells, shallow), narrow0) short =
     let g = lexes q (shown e) (shown_kind q spells kind) (all_clear (wants []) (shown e) e (complete s)) 0 in
     let w : 0 + width (tokens_of ps) ≤ 65536 = narrow 0 ps narrow0 (omega arith) in
     let v : width (tokens_of ps) ≡ width (shown e) = same_width spells s in
-    (short, g.0, g.1, (rw g.2 s, rw g.2 (shown_shallow spells shallow)), not_wide 0 g.0 (rw g.2 (omega arith)))
+    let t : printed e ≡ text_of (shown e) = printed_shown e in
+    (short, g.0, (rw t g.1), (rw g.2 s, rw g.2 (shown_shallow spells shallow)), not_wide 0 g.0 (rw g.2 (omega arith)))

@@ -6,13 +6,12 @@ use Rattle.std.specs.Str.Parse.{digits_value}
 use Rattle.carte_value.specs.Names.{is_digit, is_lower, is_upper, is_letter, is_name_byte, is_rule_name, is_cell_name}
 use Rattle.carte_value.specs.declared.kind.Kind.{Kind}
 use Rattle.carte_value.specs.declared.kind.Kind.TheVariants.{Rules, Sheet}
-use Rattle.carte_formula.specs.Tree.{Op, eq, ne, lt, le, gt, ge, join, add, sub, mul, div, Func, Tree, Token, digits, quoted, word, cell, func, op, lpar, rpar, comma, colon}
+use Rattle.carte_formula.specs.Tree.{Op, eq, ne, lt, le, gt, ge, join, add, sub, mul, div, Func, Token, digits, quoted, word, cell, func, op, lpar, rpar, comma, colon}
 use Rattle.carte_formula.specs.declared.expr.Func.TheVariants as functions
 pub use Rattle.carte_formula.specs.declared.tokens.Class.{Class}
 pub use Rattle.carte_formula.specs.declared.tokens.Class.TheVariants.{Digits as numeral, Word as small, Capitals as capitals, Letters as letters, Less as less, Greater as greater, Inside as inside, Quote as closing}
 pub use Rattle.carte_formula.specs.declared.tokens.Start.{Start}
 pub use Rattle.carte_formula.specs.declared.tokens.Start.TheVariants.{Blank as blank, Sign as single, Run as begins, Wrong as wrong}
-use Rattle.carte_formula.specs.Print.{shown}
 use Rattle.carte_formula.specs.Reading.{Placed}
 
 abbrev pub is_blank : ℕ → Bool
@@ -199,6 +198,3 @@ token_bytes colon = codes ":"
 abbrev pub text_of : List Token → List ℕ
 text_of [] = []
 text_of (t ∷ ts) = token_bytes t ++ text_of ts
-
-abbrev pub printed : Tree → List ℕ
-printed e = text_of (shown e)

@@ -11,3 +11,4 @@ pub mod Parser
 pub mod Runs
 pub mod Takes
 pub mod Formula
+pub mod Printed
