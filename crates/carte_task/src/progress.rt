@@ -250,12 +250,13 @@ fn fill(
     requires answers { answers.old.entries ≡ [] }
     ensures { OnOk result (answers.new.entries ≡ paired names.now values) }
 {
-    let mut rest = values.into_vec().into_iter();
+    let mut rest = values.as_slice();
     for name in names.as_slice() {
-        let Some(value) = rest.next() else {
+        let Some((value, later)) = rest.split_first() else {
             return Ok(());
         };
-        put(alloc, name, value, answers)?;
+        put(alloc, name, value.copy(alloc)?, answers)?;
+        rest = later;
     }
     Ok(())
 }

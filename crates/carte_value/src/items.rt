@@ -67,14 +67,6 @@ impl<T> Items<T> {
     {
         self.items.as_slice()
     }
-
-    /// The items themselves. It takes no memory.
-    pub fn into_vec(self) -> Vec<T>
-        ensures { result.items ≡ self }
-    {
-        let Items { items } = self;
-        items
-    }
 }
 
 impl<T: Drop> Items<T> {
