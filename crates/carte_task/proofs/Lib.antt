@@ -11,3 +11,4 @@ pub mod Mentioning
 pub mod Stepping
 pub mod Linking
 pub mod Once
+pub mod Filling

@@ -12,7 +12,8 @@ use Rattle.carte_task.specs.declared.code.Instr.TheVariants as i
 use Rattle.carte_task.specs.declared.task.Task.{Task}
 use Rattle.carte_task.specs.Code.{exec}
 use Rattle.carte_task.specs.Coding.{count, choice, code_of, code_of_steps, code_of_args, code_of_arg}
-use Rattle.carte_task.specs.Tasks.{mentioned_by, mentions_in, IsTaskOf}
+use Rattle.carte_task.specs.Mentions.{mentioned_by, mentions_in}
+use Rattle.carte_task.specs.Tasks.{IsTaskOf}
 use Rattle.carte_task.proofs.Coding.{coded}
 
 pub mentions_on : (xs ys : List Instr) → mentions_in (xs ++ ys) ≡ mentions_in xs ++ mentions_in ys

@@ -4,7 +4,7 @@ use Rattle.std.specs.List.{list_any, slice_get}
 use Rattle.std.proofs.lemmas.List.{take_more}
 use Rattle.std.proofs.lemmas.Option.{get_or_from_slice_get, slice_get_within}
 use Rattle.carte_task.specs.declared.code.Instr.{Instr}
-use Rattle.carte_task.specs.Tasks.{mentioned_by, mentions_in}
+use Rattle.carte_task.specs.Mentions.{mentioned_by, mentions_in}
 use Rattle.carte_task.proofs.Mentioning.{mentions_on}
 use Rattle.std.specs.Prelude.{if◌then◌else◌}
 use Rattle.std.specs.Cmp.Lexicographic.{bytes_decides, nat_list_eq_equiv}

@@ -10,6 +10,7 @@ pub mod Turns
 pub mod Answered
 pub mod State
 pub mod Outcomes
+pub mod Mentions
 pub mod Tasks
 pub mod Machines
 pub mod Laws
@@ -19,3 +20,4 @@ pub mod Compared
 pub mod Checking
 pub mod Checks
 pub mod Firsts
+pub mod Statics

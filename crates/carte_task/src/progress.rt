@@ -1,12 +1,15 @@
 ghost use Rattle.std.specs.Prelude.{◌≡◌, ◌+◌, ◌<◌, ◌≤◌, ◌∷◌, [], List, length, IfOk, OnOk, drop};
 ghost use Rattle.carte_value.specs.declared.kind.Kind.{Kind as SomeKind};
 ghost use Rattle.carte_task.specs.declared.code.Instr.{Instr};
-ghost use Rattle.carte_task.specs.Effects.{SameOwn};
+ghost use Rattle.indexmap.specs.IndexMap.{insert_entry};
+ghost use Rattle.carte_value.specs.Names.{name_eq};
+ghost use Rattle.carte_value.specs.Truths.{NoneTwice};
+ghost use Rattle.carte_task.specs.Effects.{SameOwn, paired};
 ghost use Rattle.carte_task.specs.Answered.{Answered};
 
 use crate::code::{Instr, Next};
 use crate::{Effect, Halt, turns};
-use carte_value::{Kind, Link, Links, Name, Names, NoMemory, Value};
+use carte_value::{Kind, Link, Links, Name, Names, NoMemory, Value, Values};
 use indexmap::IndexMap;
 use std::alloc::Global;
 
@@ -69,13 +72,32 @@ impl Progress {
         ensures answers { answers_in result ≡ [] }
         ensures rest { (kind : SomeKind) (code : List Instr) → rest_in kind code result ≡ once [] (exec kind 0 code []) }
     {
+        Progress::knowing(alloc, IndexMap::new(alloc))
+    }
+
+    /// At the start of its code, with values for these names.
+    pub(crate) fn filled(alloc: Global, names: &Names, values: Values) -> Result<Progress, NoMemory>
+        requires { NoneTwice names.now }
+        ensures answers { IfOk result (λ p. answers_in p ≡ paired names.now values) }
+        ensures rest { IfOk result (λ p. (kind : SomeKind) (code : List Instr) → rest_in kind code p ≡ once (answers_in p) (exec kind 0 code [])) }
+    {
+        let mut answers = IndexMap::new(alloc);
+        fill(alloc, names, values, &mut answers)?;
+        Ok(Progress::knowing(alloc, answers))
+    }
+
+    // At the start of its code, with these answers.
+    fn knowing(alloc: Global, answers: IndexMap<Name, Value>) -> Progress
+        ensures answers { answers_in result ≡ answers.entries }
+        ensures rest { (kind : SomeKind) (code : List Instr) → rest_in kind code result ≡ once answers.entries (exec kind 0 code []) }
+    {
         Progress {
             at: 0,
             values: Vec::new(alloc),
             names: Names::new(alloc),
             looked: 0,
             next: Next::Behind(0),
-            answers: IndexMap::new(alloc),
+            answers,
         }
     }
 
@@ -214,5 +236,42 @@ fn behind(at: usize, count: usize, len: usize) -> usize
         at + count
     } else {
         at.max(len)
+    }
+}
+
+// Answers for names, in order, as far as there are values.
+fn fill(
+    alloc: Global,
+    names: &Names,
+    values: Values,
+    answers: &mut IndexMap<Name, Value>,
+) -> Result<(), NoMemory>
+    requires names { NoneTwice names.now }
+    requires answers { answers.old.entries ≡ [] }
+    ensures { OnOk result (answers.new.entries ≡ paired names.now values) }
+{
+    let mut rest = values.as_slice();
+    for name in names.as_slice() {
+        let Some((value, later)) = rest.split_first() else {
+            return Ok(());
+        };
+        put(alloc, name, value.copy(alloc)?, answers)?;
+        rest = later;
+    }
+    Ok(())
+}
+
+fn put(
+    alloc: Global,
+    name: &Name,
+    value: Value,
+    answers: &mut IndexMap<Name, Value>,
+) -> Result<(), NoMemory>
+    ensures { OnOk result (answers.new.entries ≡ insert_entry name_eq answers.old.entries name.now value) }
+{
+    let name = name.copy(alloc)?;
+    match answers.insert(name, value) {
+        Ok(_) => Ok(()),
+        Err(_) => Err(NoMemory),
     }
 }

@@ -1,0 +1,16 @@
+ghost use Rattle.std.specs.Prelude.{◌≡◌};
+ghost use Rattle.carte_value.specs.Asks.{firsts};
+ghost use Rattle.carte_task.specs.Mentions.{mentions_in};
+
+use crate::code::Instr;
+use carte_value::{Kind, Name, Names};
+
+/// A task that reads the names that its formula mentions, whatever their values are.
+#[derive(Drop)]
+pub struct StaticTask {
+    pub(crate) key: Name,
+    pub(crate) kind: Kind,
+    pub(crate) code: Vec<Instr>,
+    pub(crate) refs: Names,
+    ghost mentioned: { refs ≡ firsts (mentions_in code.items) },
+}
