@@ -3,13 +3,13 @@ use Rattle.std.proofs.Common.{◌≡◌, ℕ, Bool, true, false, cond, List, [],
 use Rattle.std.specs.Ordering.{eq_by_cmp}
 use Rattle.std.specs.Map.{lookup}
 use Rattle.std.specs.BTreeMap as tree
-use Rattle.std.specs.FinMap.{insert, find, get-from_entries, get-insert, same_map, slice_cmp-IsAntisymmetric, nat_cmp-IsAntisymmetric}
+use Rattle.std.specs.FinMap.{get, insert, find, get-from_entries, get-insert, same_map, slice_cmp-IsAntisymmetric, nat_cmp-IsAntisymmetric}
 use Rattle.std.specs.Cmp.{eq_by_cmp_equiv}
 use Rattle.std.proofs.lemmas.Cmp.{nat_list_cmp_total}
 use Rattle.carte_value.specs.Names.{name_cmp}
 use Rattle.carte_book.specs.declared.book.Item.{Item as CodeItem}
 use Rattle.carte_book.specs.declared.book.Book.{Book as CodeBook}
-use Rattle.carte_book.specs.Book.{content, item_view, entries_view, book_view}
+use Rattle.carte_book.specs.Book.{item_view, entries_view, book_view}
 
 Map : Type 0
 Map = BTreeMap (List ℕ) CodeItem
@@ -22,9 +22,9 @@ viewed (e ∷ es) k =
       | false ↦ viewed es k
     ]
 
--- what the map finds is what the book has
-pub content_found : (b : CodeBook) (k : List ℕ) → content (book_view b) k ≡ option_map item_view (tree.get name_cmp b.items k)
-content_found b k = get-from_entries nat_list_cmp_total (entries_view b.items.entries) k ∙ viewed b.items.entries k
+-- what the map finds is what the book holds
+pub item_found : (b : CodeBook) (k : List ℕ) → get (book_view b).items k ≡ option_map item_view (tree.get name_cmp b.items k)
+item_found b k = get-from_entries nat_list_cmp_total (entries_view b.items.entries) k ∙ viewed b.items.entries k
 
 turned : (b : Bool) (x : CodeItem) (o : Option CodeItem) → option_map item_view (cond b (Some x) o) ≡ cond b (Some (item_view x)) (option_map item_view o)
 turned true x o = refl
@@ -33,7 +33,7 @@ turned false x o = refl
 -- one entry that is put
 pub one_put : (b c : CodeBook) (k : List ℕ) (x : CodeItem) → ((q : List ℕ) → tree.get name_cmp c.items q ≡ cond (eq_by_cmp name_cmp k q) (Some x) (tree.get name_cmp b.items q)) → (book_view c).items ≡ insert (book_view b).items k (item_view x)
 one_put b c k x put = same_map nat_list_cmp_total (slice_cmp-IsAntisymmetric nat_cmp-IsAntisymmetric) _ _ (λ q.
-    content_found c q ∙ ap (option_map item_view) (put q) ∙ turned (eq_by_cmp name_cmp k q) x (tree.get name_cmp b.items q)
+    item_found c q ∙ ap (option_map item_view) (put q) ∙ turned (eq_by_cmp name_cmp k q) x (tree.get name_cmp b.items q)
     ∙ ap (λ t. cond t (Some (item_view x)) (option_map item_view (tree.get name_cmp b.items q))) ((eq_by_cmp_equiv nat_list_cmp_total).symm k q)
-    ∙ ap (cond (eq_by_cmp name_cmp q k) (Some (item_view x))) (sym (content_found b q))
+    ∙ ap (cond (eq_by_cmp name_cmp q k) (Some (item_view x))) (sym (item_found b q))
     ∙ sym (get-insert nat_list_cmp_total (book_view b).items k (item_view x) q))

@@ -1,12 +1,12 @@
 -- There is one reason at most, and none where every target has a clean value.
 use Rattle.std.proofs.Common.{◌≡◌, ℕ, List, [], ◌∷◌, Err, refl, subst, inl, inr}
 use Rattle.carte_value.specs.Truths.{Among}
-use Rattle.carte_book.specs.Formula.{eval}
+use Rattle.carte_meaning.specs.Meaning.{eval}
 use Rattle.carte_book.specs.Book.{Book, clean}
 use Rattle.carte_book.specs.Needs.{IsRule}
 use Rattle.carte_book.specs.Reason.{AllClean, StuckAt, Begins, GoesRound, GoesAstray, IsReason}
 use Rattle.carte_book.specs.declared.reason.Reason.{Reason}
-use Rattle.carte_book.specs.declared.reason.Reason.TheVariants.{Cycle, Missing}
+use Rattle.carte_book.specs.declared.reason.Reason.TheVariants.{Cycle, Missing, Dynamic}
 
 begins_same : (b : Book) (ts : List (List ℕ)) (j i : List ℕ) (p q : List (List ℕ)) → Begins b ts (j ∷ p) → Begins b ts (i ∷ q) → j ≡ i
 begins_same b [] j i p q h g = absurd h
@@ -24,7 +24,7 @@ begins_same b (k ∷ ks) j i p q h g = elim h [
 stuck_same : (b : Book) (k j i : List ℕ) → StuckAt b k j → StuckAt b k i → j ≡ i
 stuck_same b k j i h g =
     let e : h.0 ≡ g.0 = cc in
-    let r : eval (clean b) g.0 ≡ Err j = rw e at h.2 in
+    let r : eval b.kind (clean b) g.0 ≡ Err j = rw e at h.2 in
     cc
 
 -- the names seen are rules
@@ -77,6 +77,8 @@ no_start b [] h = h
 no_start b (k ∷ ks) h = h
 
 pub one_reason : (b : Book) (ts : List (List ℕ)) (r s : Reason) → IsReason b ts r → IsReason b ts s → r ≡ s
+one_reason b ts (Dynamic path) s h g = absurd h
+one_reason b ts r (Dynamic path) h g = absurd g
 one_reason b ts (Cycle []) s h g = absurd (h.1)
 one_reason b ts (Missing []) s h g = absurd (h.1)
 one_reason b ts r (Cycle []) h g = absurd (g.1)
@@ -112,3 +114,4 @@ begins_stuck b (k ∷ ks) (j ∷ js) h all = elim h [
 pub no_reason : (b : Book) (ts : List (List ℕ)) (r : Reason) → IsReason b ts r → AllClean b ts → ⊥
 no_reason b ts (Cycle path) h all = begins_stuck b ts path h.0 all
 no_reason b ts (Missing path) h all = begins_stuck b ts path h.0 all
+no_reason b ts (Dynamic path) h all = h

@@ -9,12 +9,14 @@ use Rattle.std.proofs.lemmas.Cmp.{nat_list_cmp_total}
 use Rattle.carte_value.specs.Names.{name_cmp}
 use Rattle.carte_book.specs.declared.book.Item.{Item as CodeItem}
 use Rattle.carte_book.specs.declared.book.Item.TheVariants.{Input as InputItem, Rule as RuleItem}
-use Rattle.carte_book.specs.declared.formula.Formula.{Formula as CodeFormula}
+use Rattle.carte_formula.specs.declared.expr.Expr.{Expr}
+use Rattle.carte_formula.specs.Tree.{Tree}
+use Rattle.carte_formula.specs.Code.{tree_of}
 use Rattle.carte_book.specs.declared.book.Book.{Book as CodeBook}
-use Rattle.carte_book.specs.Book.{rule, item_view, book_view}
+use Rattle.carte_book.specs.Book.{rule, default_of, or_default, item_view, book_view}
 use Rattle.carte_book.specs.Looked.{HasRules, AddsRule}
-use Rattle.carte_book.proofs.Books.{content_found}
-use Rattle.carte_book.proofs.Clean.{tied_name}
+use Rattle.carte_book.proofs.Books.{item_found}
+use Rattle.carte_book.proofs.Clean.{tied_name, rule_held}
 
 abbrev pub Map : Type 0
 Map = BTreeMap (List ℕ) CodeItem
@@ -23,7 +25,7 @@ abbrev pub Entries : Type 0
 Entries = List (List ℕ × CodeItem)
 
 abbrev pub HasRuleAt : Map → List ℕ → Type 0
-HasRuleAt m k = (f : CodeFormula) × (tree.get name_cmp m k ≡ Some (RuleItem f))
+HasRuleAt m k = (f : Expr) × (tree.get name_cmp m k ≡ Some (RuleItem f))
 
 -- the names of the rules that aren't among the entries left
 pub record IsSoFar (m : Map) (names : BTreeSet (List ℕ)) (rest : Entries) : Type 0 where
@@ -79,15 +81,15 @@ one_more m names new rest left k (RuleItem f) is has adds so = record {
       | false ↦ λ apart there. inr there
     ] refl
 
-rule_found : (o : Option CodeItem) (e : _) → option_map item_view o ≡ Some (rule e) → (f : CodeFormula) × (o ≡ Some (RuleItem f))
+rule_found : (o : Option CodeItem) (e : Tree) → option_map item_view o ≡ Some (rule e) → (f : Expr) × (o ≡ Some (RuleItem f))
 rule_found None e h = cc
 rule_found (Some (InputItem v)) e h = cc
 rule_found (Some (RuleItem f)) e h = (f, refl)
 
 pub at_last : (b : CodeBook) (names : BTreeSet (List ℕ)) → IsSoFar b.items names [] → HasRules (book_view b) names
 at_last b names so k = (
-  (λ in_names. let has = so.only k in_names in (has.0.terms, content_found b k ∙ ap (option_map item_view) has.1)),
-  (λ is_rule. elim (so.each k (rule_found (tree.get name_cmp b.items k) is_rule.0 (sym (content_found b k) ∙ is_rule.1))) [
+  (λ in_names. let has = so.only k in_names in (tree_of has.0, ap (λ o. or_default o (default_of b.kind k)) (item_found b k ∙ ap (option_map item_view) has.1))),
+  (λ is_rule. elim (so.each k (rule_found (tree.get name_cmp b.items k) is_rule.0 (sym (item_found b k) ∙ rule_held (book_view b) k is_rule.0 is_rule.1))) [
     | inl in_names ↦ in_names
     | inr later ↦ cc
   ]),

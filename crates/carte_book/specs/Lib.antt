@@ -1,9 +1,5 @@
-pub mod Formula
 pub mod Book
 pub mod Needs
 pub mod Reason
-pub mod Terms
+pub mod Dynamic
 pub mod Looked
-pub mod FormulaTexts
-pub mod Reading
-pub mod Found

@@ -2,6 +2,7 @@
 use Rattle.std.specs.Prelude.{ℕ, ◌≡◌, ◌↔◌, List, Option, Some, None, true, if◌then◌else◌}
 use Rattle.std.specs.BTreeSet.{BTreeSet, contains}
 use Rattle.std.specs.Ordering.{eq_by_cmp}
+use Rattle.carte_formula.specs.Code.{tree_of}
 use Rattle.carte_book.specs.declared.book.Item.{Item as CodeItem}
 use Rattle.carte_book.specs.declared.book.Item.TheVariants.{Input as InputItem, Rule as RuleItem}
 use Rattle.carte_value.specs.Names.{name_cmp}
@@ -12,7 +13,7 @@ use Rattle.carte_book.specs.declared.book.Looked.TheVariants.{Input as FoundInpu
 
 abbrev pub Answers : Option Item → Looked → Type 0
 Answers o (FoundInput v) = o ≡ Some (input v.now)
-Answers o (FoundRule f) = o ≡ Some (rule f.now.terms)
+Answers o (FoundRule e) = o ≡ Some (rule (tree_of e.now))
 Answers o FoundNone = o ≡ None
 
 -- the set has the names of all rules, and no other
@@ -22,4 +23,4 @@ HasRules b names = (k : List ℕ) → (contains name_cmp names k ≡ true) ↔ I
 -- a rule's name was put into the set
 abbrev pub AddsRule : BTreeSet (List ℕ) → BTreeSet (List ℕ) → List ℕ → CodeItem → Type 0
 AddsRule old new k (InputItem v) = (q : List ℕ) → contains name_cmp new q ≡ contains name_cmp old q
-AddsRule old new k (RuleItem f) = (q : List ℕ) → contains name_cmp new q ≡ (if eq_by_cmp name_cmp k q then true else contains name_cmp old q)
+AddsRule old new k (RuleItem e) = (q : List ℕ) → contains name_cmp new q ≡ (if eq_by_cmp name_cmp k q then true else contains name_cmp old q)

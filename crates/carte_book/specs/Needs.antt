@@ -1,17 +1,18 @@
 -- The needs of names, and what is reached by them.
 use Rattle.std.specs.Prelude.{ℕ, ◌≡◌, List, [], Option, Some, None}
 use Rattle.carte_value.specs.Truths.{Among}
-use Rattle.carte_book.specs.Formula.{Formula, fetched}
+use Rattle.carte_formula.specs.Tree.{Tree}
+use Rattle.carte_meaning.specs.Meaning.{fetched}
 use Rattle.carte_book.specs.Book.{Item, input, rule, Book, content, clean}
 
-abbrev pub needs_of : Option Item → (Formula → List (List ℕ)) → List (List ℕ)
+abbrev pub needs_of : Option Item → (Tree → List (List ℕ)) → List (List ℕ)
 needs_of None f = []
 needs_of (Some (input v)) f = []
 needs_of (Some (rule e)) f = f e
 
 -- the names that a rule looks up over the clean values; an input has none
 abbrev pub needs : Book → List ℕ → List (List ℕ)
-needs b k = needs_of (content b k) (λ e. fetched (clean b) e)
+needs b k = needs_of (content b k) (λ e. fetched b.kind (clean b) e)
 
 -- a target, or a need of what is reached
 pub data Reaches (b : Book) (targets : List (List ℕ)) : List ℕ → Type 0 where
@@ -19,7 +20,7 @@ pub data Reaches (b : Book) (targets : List (List ℕ)) : List ℕ → Type 0 wh
   need : {j k : List ℕ} → Reaches b targets j → Among (needs b j) k → Reaches b targets k
 
 abbrev pub IsRule : Book → List ℕ → Type 0
-IsRule b k = (e : Formula) × (content b k ≡ Some (rule e))
+IsRule b k = (e : Tree) × (content b k ≡ Some (rule e))
 
 -- a rule that is reached from the targets
 abbrev pub IsReachedRule : Book → List (List ℕ) → List ℕ → Type 0

@@ -2,10 +2,11 @@
 use Rattle.std.specs.Prelude.{ℕ, ◌≡◌, ◌⊎◌, List, [], ◌∷◌, Some, None, Err}
 use Rattle.carte_value.specs.declared.value.Value.{Value}
 use Rattle.carte_value.specs.Truths.{Among}
-use Rattle.carte_book.specs.Formula.{Formula, eval}
+use Rattle.carte_formula.specs.Tree.{Tree}
+use Rattle.carte_meaning.specs.Meaning.{eval}
 use Rattle.carte_book.specs.Book.{rule, Book, content, clean}
 use Rattle.carte_book.specs.declared.reason.Reason.{Reason}
-use Rattle.carte_book.specs.declared.reason.Reason.TheVariants.{Cycle, Missing}
+use Rattle.carte_book.specs.declared.reason.Reason.TheVariants.{Cycle, Missing, Dynamic}
 
 abbrev pub IsClean : Book → List ℕ → Type 0
 IsClean b k = (v : Value) × (clean b k ≡ Some v)
@@ -16,7 +17,7 @@ AllClean b (k ∷ ks) = IsClean b k × AllClean b ks
 
 -- k is a rule, and j is the one of its needs that has no clean value
 abbrev pub StuckAt : Book → List ℕ → List ℕ → Type 0
-StuckAt b k j = (e : Formula) × (content b k ≡ Some (rule e)) × (eval (clean b) e ≡ Err j)
+StuckAt b k j = (e : Tree) × (content b k ≡ Some (rule e)) × (eval b.kind (clean b) e ≡ Err j)
 
 -- the path begins with the first target that has no clean value
 abbrev pub Begins : Book → List (List ℕ) → List (List ℕ) → Type 0
@@ -36,6 +37,8 @@ GoesAstray b seen [] = ⊥
 GoesAstray b seen (k ∷ []) = content b k ≡ None
 GoesAstray b seen (k ∷ j ∷ ks) = ¬ (Among seen k) × StuckAt b k j × GoesAstray b (k ∷ seen) (j ∷ ks)
 
+-- why a build has no values, whatever the order of its rules
 abbrev pub IsReason : Book → List (List ℕ) → Reason → Type 0
 IsReason b targets (Cycle path) = Begins b targets path × GoesRound b [] path
 IsReason b targets (Missing path) = Begins b targets path × GoesAstray b [] path
+IsReason b targets (Dynamic path) = ⊥

@@ -1,8 +1,7 @@
 // Laws of the definitions, each as the contract of a function that does nothing.
-ghost use Rattle.std.specs.Prelude.{◌≡◌, ℕ, List, Ok};
+ghost use Rattle.std.specs.Prelude.{◌≡◌, ℕ, List};
 ghost use Rattle.carte_book.specs.Book.{Book, settled, clean};
 ghost use Rattle.carte_book.specs.Reason.{AllClean, IsReason};
-ghost use Rattle.carte_book.specs.Reading.{book_of};
 ghost use Rattle.carte_book.specs.declared.reason.Reason.{Reason};
 
 /// The clean values are a fixpoint: one more round of evaluation changes none.
@@ -21,9 +20,4 @@ pub fn reason_is_unique()
 #[tactic(auto, using(crate::proofs::Reasons::no_reason))]
 pub fn clean_or_refused()
     ensures { (b : Book) (targets : List (List ℕ)) (reason : Reason) → IsReason b targets reason → AllClean b targets → ⊥ }
-{}
-
-/// Bytes are one book at most.
-pub fn book_is_unique()
-    ensures { (bytes : List ℕ) (one other : Book) → book_of bytes ≡ Ok one → book_of bytes ≡ Ok other → one ≡ other }
 {}

@@ -16,20 +16,11 @@
 //! The laws of the definitions are contracts of functions that do nothing: only a contract is proved.
 #![tactic(auto)]
 
+mod access;
 mod book;
-mod fault;
-mod formula;
-mod formula_text;
-mod found;
 mod laws;
-mod read;
 mod reason;
-#[cfg(test)]
-mod tests;
 
 pub use book::{Book, Item, Looked};
-pub use fault::{BookFault, Which};
-pub use formula::{Formula, Look, Open, Term};
-pub use laws::{book_is_unique, clean_is_settled, clean_or_refused, reason_is_unique};
-pub use read::read_rules;
+pub use laws::{clean_is_settled, clean_or_refused, reason_is_unique};
 pub use reason::Reason;

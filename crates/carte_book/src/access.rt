@@ -1,0 +1,99 @@
+ghost use Rattle.std.specs.Prelude.{◌≡◌, is_some, IfOk, OnOk};
+ghost use Rattle.std.specs.FinMap.{empty, insert, get};
+ghost use Rattle.carte_book.specs.Book.{book_view, item_view, content, default_of};
+ghost use Rattle.carte_book.specs.Looked.{Answers, HasRules, AddsRule};
+
+use crate::{Book, Item, Looked};
+use carte_value::{Kind, Name, NoMemory, Value};
+use std::alloc::Global;
+use std::collections::{BTreeMap, BTreeSet};
+
+impl Book {
+    /// The book of this kind without keys. It takes no memory.
+    pub fn new(alloc: Global, kind: Kind) -> Book
+        ensures kind { (book_view result).kind ≡ kind }
+        ensures items { (book_view result).items ≡ empty }
+    {
+        Book {
+            kind,
+            items: BTreeMap::new(alloc),
+            nothing: Value::Empty,
+        }
+    }
+
+    /// It takes no memory.
+    pub fn kind(&self) -> Kind
+        ensures { result ≡ (book_view self.now).kind }
+    {
+        self.kind
+    }
+
+    /// What stands at a name; in a sheet a cell that the book doesn't hold is an input without content. It takes no memory.
+    pub fn lookup(&self, name: &Name) -> Looked<'_>
+        ensures { Answers (content (book_view self.now) name.now) result }
+    {
+        match self.items.get(name) {
+            Some(Item::Input(value)) => Looked::Input(value),
+            Some(Item::Rule(formula)) => Looked::Rule(formula),
+            None => self.unheld(name),
+        }
+    }
+
+    // What a name has that isn't among the keys.
+    fn unheld(&self, name: &Name) -> Looked<'_>
+        ensures { Answers (default_of (book_view self.now).kind name.now) result }
+    {
+        match self.kind {
+            Kind::Sheet if name.is_cell() => Looked::Input(&self.nothing),
+            _ => Looked::None,
+        }
+    }
+
+    /// The names of all rules.
+    pub fn rule_names(&self, alloc: Global) -> Result<BTreeSet<Name>, NoMemory>
+        ensures { IfOk result (HasRules (book_view self.now)) }
+    {
+        let mut names = BTreeSet::new(alloc);
+        for (name, item) in &self.items {
+            if let Err(refused) = add_rule(alloc, &mut names, name, item) {
+                return Err(refused);
+            }
+        }
+        Ok(names)
+    }
+
+    pub(crate) fn has(&self, name: &Name) -> bool
+        ensures { result ≡ is_some (get (book_view self.now).items name.now) }
+    {
+        self.items.contains_key(name)
+    }
+
+    pub(crate) fn put(&mut self, name: Name, item: Item) -> Result<(), NoMemory>
+        ensures { OnOk result ((book_view self.new).items ≡ insert (book_view self.old).items name (item_view item)) }
+    {
+        match self.items.insert(name, item) {
+            Ok(_) => Ok(()),
+            Err(_) => Err(NoMemory),
+        }
+    }
+}
+
+fn add_rule(
+    alloc: Global,
+    names: &mut BTreeSet<Name>,
+    name: &Name,
+    item: &Item,
+) -> Result<(), NoMemory>
+    ensures { OnOk result (AddsRule names.old names.new name.now item.now) }
+{
+    match item {
+        Item::Input(_) => Ok(()),
+        Item::Rule(_) => match name.copy(alloc) {
+            Ok(name) => match names.insert(name) {
+                Ok(_) => Ok(()),
+                Err(_) => Err(NoMemory),
+            },
+            Err(refused) => Err(refused),
+        },
+    }
+}
