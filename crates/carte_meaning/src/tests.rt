@@ -5,7 +5,7 @@ use std::alloc::{AllocError, Global};
 use std::test::Fail;
 
 // A row is an operator, a function or a test, the values that it is given, and what it gives. The values stand behind `|` in printed form.
-// Where a meaning is Excel's these are the values of its documentation, and else they are worked out by hand from docs/FORMULAS-MEANING.md.
+// Where a meaning is Excel's these are the values of its documentation, and else they are worked out by hand from docs/FORMULAS.md.
 const ROWS: &str = r#"+|2|3 -> 5
 +|-7|2 -> -5
 +|empty|4 -> 4

@@ -12,3 +12,4 @@ pub mod Stepping
 pub mod Linking
 pub mod Once
 pub mod Filling
+pub mod Readings

@@ -1,15 +1,18 @@
 -- The names in a formula's instructions are those in the formula.
-use Rattle.std.proofs.Common.{◌≡◌, ℕ, List, [], ◌∷◌, ◌++◌, refl, ap, sym, ◌∙◌, append_assoc, append-nil}
+use Rattle.std.proofs.Common.{◌≡◌, ℕ, true, List, [], ◌∷◌, ◌++◌, refl, ap, sym, ◌∙◌, append_assoc, append-nil}
 use Rattle.carte_value.specs.declared.kind.Kind.{Kind}
 use Rattle.carte_value.specs.Areas.{cells_of}
 use Rattle.carte_formula.specs.Tree.{Tree, number, text, ref, neg, chain, call, Steps, no_step, step, Args, no_arg, arg, Arg, one, cells}
 use Rattle.carte_formula.specs.declared.expr.Func.{Func}
 use Rattle.carte_formula.specs.declared.expr.Func.TheVariants as f
 use Rattle.carte_meaning.specs.Meaning.{asks}
-use Rattle.carte_formula.specs.Formula.{mentions, steps_mentions, args_mentions, arg_mentions}
+use Rattle.carte_formula.specs.Formula.{is_static_tree, mentions, steps_mentions, args_mentions, arg_mentions}
 use Rattle.carte_task.specs.declared.code.Instr.{Instr}
 use Rattle.carte_task.specs.declared.code.Instr.TheVariants as i
 use Rattle.carte_task.specs.declared.task.Task.{Task}
+use Rattle.carte_task.specs.declared.static_task.StaticTask.{StaticTask}
+use Rattle.carte_value.specs.Asks.{firsts}
+use Rattle.carte_task.specs.Statics.{HasParts, IsStaticTaskOf}
 use Rattle.carte_task.specs.Code.{exec}
 use Rattle.carte_task.specs.Coding.{count, choice, code_of, code_of_steps, code_of_args, code_of_arg}
 use Rattle.carte_task.specs.Mentions.{mentioned_by, mentions_in}
@@ -54,9 +57,19 @@ mutual
   arg_coded (cells a) = append-nil (cells_of a)
 
 -- a task of a formula, with the formula's instructions
-pub task_made : (kind : Kind) (k : List ℕ) (e : Tree) (t : Task) → t.key ≡ k → t.kind ≡ kind → t.code.items ≡ code_of e → IsTaskOf kind k e t
-task_made kind k e t key of_kind code = record {
+pub task_made : (kind : Kind) (k : List ℕ) (e : Tree) (t : Task) → t.key ≡ k → t.kind ≡ kind → t.code.items ≡ code_of e → t.fixed ≡ is_static_tree e → IsTaskOf kind k e t
+task_made kind k e t key of_kind code fixed = record {
   key = key;
   computes = ap (λ q. exec q 0 t.code.items []) of_kind ∙ ap (λ cs. exec kind 0 cs []) code ∙ coded kind e;
   mentioned = ap mentions_in code ∙ mentions_coded e;
+  fixed = fixed;
+}
+
+-- parts of a task of a static formula are a static task of it
+pub static_made : (kind : Kind) (k : List ℕ) (e : Tree) (t : Task) (s : StaticTask) → t.fixed ≡ true → HasParts t s → IsTaskOf kind k e t → IsStaticTaskOf kind k e s
+static_made kind k e t s fixed parts of = record {
+  fixed = sym of.fixed ∙ fixed;
+  key = parts.key ∙ of.key;
+  computes = ap (λ q. exec q 0 s.code.items []) parts.kind ∙ ap (λ cs. exec t.kind 0 cs []) parts.code ∙ of.computes;
+  refs = s.mentioned ∙ ap (λ cs. firsts (mentions_in cs)) parts.code ∙ ap firsts of.mentioned;
 }

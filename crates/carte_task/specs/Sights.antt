@@ -26,3 +26,8 @@ Sees seen.Missing s = s ≡ missing
 abbrev pub IsStuck : Sight → List ℕ → Stuck → Type 0
 IsStuck s k (stuck.NotDone j) = (j ≡ k) × (s ≡ not_done)
 IsStuck s k (stuck.Missing j) = (j ≡ k) × (s ≡ missing)
+
+-- the value, where there is one, and else that
+abbrev pub seen_or : Option Value → Sight → Sight
+seen_or (Some v) s = sight_of v
+seen_or None s = s

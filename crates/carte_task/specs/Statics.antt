@@ -1,5 +1,5 @@
 -- What a static task is a task of, and what a run of one comes to.
-use Rattle.std.specs.Prelude.{ℕ, Bool, true, false, List, [], ◌∷◌, ◌++◌, ◌≡◌, ◌⊎◌, Option, Some, None, Result, Ok, Err}
+use Rattle.std.specs.Prelude.{ℕ, Bool, true, false, List, [], ◌∷◌, ◌++◌, ◌≡◌, ◌⊎◌, map, Option, Some, None, Result, Ok, Err}
 use Rattle.carte_value.specs.declared.kind.Kind.{Kind}
 use Rattle.carte_value.specs.declared.value.Value.{Value}
 use Rattle.carte_value.specs.Truths.{Truth}
@@ -7,10 +7,11 @@ use Rattle.carte_value.specs.Asks.{Asks, done, run}
 use Rattle.carte_value.specs.Once.{once}
 use Rattle.carte_formula.specs.Tree.{Tree}
 use Rattle.carte_formula.specs.Formula.{refs_of, is_static_tree}
-use Rattle.carte_meaning.specs.Meaning.{asks}
+use Rattle.carte_meaning.specs.Meaning.{asks, eval}
 use Rattle.carte_task.specs.declared.effect.Halt.{Halt}
 use Rattle.carte_task.specs.declared.effect.Halt.TheVariants.{Stop, NoMemory}
 use Rattle.carte_task.specs.declared.static_task.StaticTask.{StaticTask}
+use Rattle.carte_task.specs.declared.task.Task.{Task}
 use Rattle.carte_task.specs.declared.progress.Progress.{Progress}
 use Rattle.carte_task.specs.Code.{exec, top}
 use Rattle.carte_task.specs.State.{answers_in}
@@ -40,6 +41,12 @@ abbrev pub IsStaticOf : Kind → List ℕ → Tree → Option StaticTask → Typ
 IsStaticOf kind k e (Some s) = IsStaticTaskOf kind k e s
 IsStaticOf kind k e None = is_static_tree e ≡ false
 
+-- the same key, kind and code
+pub record HasParts (t : Task) (s : StaticTask) : Type 0 where
+  pub key : s.key ≡ t.key
+  pub kind : s.kind ≡ t.kind
+  pub code : s.code.items ≡ t.code.items
+
 -- the value over the truth, with the links of all references
 pub record IsStaticEnd (t : Truth) (s : StaticTask) (o : Outcome) : Type 0 where
   pub key : o.key ≡ static_key s
@@ -58,6 +65,19 @@ StaticRan t own withholds log0 log s runs0 runs (Ok (Some o)) = (withholds ≡ f
 StaticRan t own withholds log0 log s runs0 runs (Ok None) = (withholds ≡ true) × (log ≡ listed log0 (static_refs s)) × (runs ≡ runs0)
 StaticRan t own withholds log0 log s runs0 runs (Err (Stop stop)) = StopsAmong t own (static_refs s) stop × (log ≡ log0) × (runs ≡ runs0)
 StaticRan t own withholds log0 log s runs0 runs (Err NoMemory) = ((log ≡ log0) ⊎ (log ≡ listed log0 (static_refs s))) × (runs ≡ runs0)
+
+-- the formula's value for the key, with links of its references
+pub record IsRead (kind : Kind) (t : Truth) (k : List ℕ) (e : Tree) (o : Outcome) : Type 0 where
+  pub key : o.key ≡ k
+  pub value : eval kind t e ≡ Ok o.value
+  pub links : map (λ l. l.name) o.links ≡ refs_of e
+
+-- what a run is for the formula: it is read, with one run; it is stuck at a name, or its references were asked for alone, with none
+abbrev pub Reads : {S : Type 0} → Kind → Truth → (List ℕ → S → Type 0) → Bool → List ℕ → Tree → Ledger → Ledger → Result (Option Outcome) (Halt S) → Type 0
+Reads kind t own withholds k e runs0 runs (Ok (Some o)) = IsRead kind t k e o × (runs ≡ with_run runs0 k)
+Reads kind t own withholds k e runs0 runs (Ok None) = (withholds ≡ true) × (runs ≡ runs0)
+Reads kind t own withholds k e runs0 runs (Err (Stop stop)) = ((j : List ℕ) × (eval kind t e ≡ Err j) × own j stop) × (runs ≡ runs0)
+Reads kind t own withholds k e runs0 runs (Err NoMemory) = runs ≡ runs0
 
 -- what it comes to over these values of its references
 pub record EndsOver (s : StaticTask) (vs : List Value) (o : Outcome) : Type 0 where

@@ -1,11 +1,11 @@
 -- What a task is a task of.
-use Rattle.std.specs.Prelude.{ℕ, List, [], ◌≡◌}
+use Rattle.std.specs.Prelude.{ℕ, Bool, List, [], ◌≡◌}
 use Rattle.carte_value.specs.declared.kind.Kind.{Kind}
 use Rattle.carte_value.specs.declared.value.Value.{Value}
 use Rattle.carte_value.specs.Asks.{Asks}
 use Rattle.carte_formula.specs.Tree.{Tree}
 use Rattle.carte_meaning.specs.Meaning.{asks}
-use Rattle.carte_formula.specs.Formula.{mentions}
+use Rattle.carte_formula.specs.Formula.{mentions, is_static_tree}
 use Rattle.carte_task.specs.declared.task.Task.{Task}
 use Rattle.carte_task.specs.Code.{exec}
 use Rattle.carte_task.specs.Mentions.{mentions_in}
@@ -16,8 +16,12 @@ key_of t = t.key
 abbrev pub asks_of : Task → Asks Value
 asks_of t = exec t.kind 0 t.code.items []
 
--- it has this key, and asks for what the formula asks for
+abbrev pub is_fixed : Task → Bool
+is_fixed t = t.fixed
+
+-- it has this key, asks for what the formula asks for, and knows whether the formula is static
 pub record IsTaskOf (kind : Kind) (k : List ℕ) (e : Tree) (t : Task) : Type 0 where
   pub key : key_of t ≡ k
   pub computes : asks_of t ≡ asks kind e
   pub mentioned : mentions_in t.code.items ≡ mentions e
+  pub fixed : is_fixed t ≡ is_static_tree e

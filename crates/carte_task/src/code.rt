@@ -1,5 +1,8 @@
+ghost use Rattle.std.specs.Prelude.{◌≡◌, IfOk};
+
 use carte_formula::{Func, Op};
-use carte_value::{Area, Name, Value};
+use carte_value::{Area, Name, NoMemory, Value};
+use std::alloc::Global;
 
 /// One step of a formula that is written in postfix order. Values wait on a stack.
 #[derive(Drop)]
@@ -40,4 +43,44 @@ pub(crate) enum Next {
 pub(crate) struct Pending {
     pub(crate) names: carte_value::Names,
     pub(crate) next: Next,
+}
+
+impl Instr {
+    fn copy(&self, alloc: Global) -> Result<Instr, NoMemory>
+        ensures { IfOk result (λ instr. instr ≡ self.now) }
+    {
+        match self {
+            Instr::Push(value) => match value.copy(alloc) {
+                Ok(value) => Ok(Instr::Push(value)),
+                Err(refused) => Err(refused),
+            },
+            Instr::Look(name) => match name.copy(alloc) {
+                Ok(name) => Ok(Instr::Look(name)),
+                Err(refused) => Err(refused),
+            },
+            Instr::Cells(area) => Ok(Instr::Cells(*area)),
+            Instr::Negate => Ok(Instr::Negate),
+            Instr::Apply(op) => Ok(Instr::Apply(*op)),
+            Instr::Call(func, count) => Ok(Instr::Call(*func, *count)),
+            Instr::Test(other, end) => Ok(Instr::Test(*other, *end)),
+            Instr::Jump(count) => Ok(Instr::Jump(*count)),
+            Instr::Indirect => Ok(Instr::Indirect),
+            Instr::Gather => Ok(Instr::Gather),
+        }
+    }
+}
+
+/// A second list of equal instructions.
+pub(crate) fn copy_of(alloc: Global, code: &[Instr]) -> Result<Vec<Instr>, NoMemory>
+    ensures { IfOk result (λ copy. copy.items ≡ code.now) }
+{
+    let mut copy = Vec::new(alloc);
+    for instr in code {
+        let instr = instr.copy(alloc)?;
+        match copy.push(instr) {
+            Ok(()) => {}
+            Err(_) => return Err(NoMemory),
+        }
+    }
+    Ok(copy)
 }

@@ -1,11 +1,14 @@
 //! A static task is a machine whose answers are there before it starts, so there is no second way in which formulas are evaluated.
 
-ghost use Rattle.std.specs.Prelude.{◌≡◌, None, IfOk, is_ok, if◌then◌else◌};
+ghost use Rattle.std.specs.Prelude.{◌≡◌, ℕ, List, None, IfOk, is_ok, if◌then◌else◌};
+ghost use Rattle.carte_value.specs.declared.kind.Kind.{Kind as SomeKind};
+ghost use Rattle.carte_formula.specs.Tree.{Tree};
 ghost use Rattle.carte_task.specs.Effects.{SameOwn};
-ghost use Rattle.carte_task.specs.Statics.{StaticRan, EndsOver, IsOver, static_refs, static_key, with_run};
+ghost use Rattle.carte_task.specs.Statics.{StaticRan, Reads, EndsOver, IsOver, IsStaticTaskOf, static_refs, static_key, with_run};
 
 use crate::progress::Progress;
 use crate::{Answers, Effect, Ended, FetchList, Halt, Never, Runs, StaticTask};
+use carte_meaning::static_needs;
 use carte_value::{Name, Names, NoMemory, Value, Values};
 use std::alloc::Global;
 
@@ -19,6 +22,21 @@ impl StaticTask {
 
     /// Asks for the values of its references at once, and ends over them. None where they are withheld. Its start and its end are counted where it ends.
     pub fn run<B: FetchList>(
+        &self,
+        alloc: Global,
+        list: &mut B,
+        runs: &mut Runs,
+    ) -> Result<Option<Ended>, Halt<B::Stop>>
+        ensures truth { B.truth list.new ≡ B.truth list.old }
+        ensures own { SameOwn (B.own list.old) (B.own list.new) }
+        ensures ran { StaticRan (B.truth list.old) (B.own list.old) B.withholds (B.log list.old) (B.log list.new) self.now runs.old runs.new result }
+        ensures reads { (kind : SomeKind) (k : List ℕ) (e : Tree) → IsStaticTaskOf kind k e self.now → Reads kind (B.truth list.old) (B.own list.old) B.withholds k e runs.old runs.new result }
+    {
+        static_needs();
+        self.ask(alloc, list, runs)
+    }
+
+    fn ask<B: FetchList>(
         &self,
         alloc: Global,
         list: &mut B,

@@ -1,9 +1,12 @@
-ghost use Rattle.std.specs.Prelude.{◌≡◌, IfOk};
+ghost use Rattle.std.specs.Prelude.{◌≡◌, ℕ, List, IfOk};
+ghost use Rattle.carte_value.specs.declared.kind.Kind.{Kind as SomeKind};
+ghost use Rattle.carte_formula.specs.Tree.{Tree};
 ghost use Rattle.carte_formula.specs.Code.{tree_of};
 
-use crate::code::Instr;
-use crate::postfix;
-use carte_formula::Expr;
+use crate::code::{Instr, copy_of};
+use crate::mentioned::names_in;
+use crate::{StaticTask, postfix};
+use carte_formula::{Expr, is_static};
 use carte_value::{Kind, Name, NoMemory};
 use std::alloc::Global;
 
@@ -13,10 +16,13 @@ pub struct Task {
     pub(crate) key: Name,
     pub(crate) kind: Kind,
     pub(crate) code: Vec<Instr>,
+    // Whether the formula is static. The code has lost it: a jump doesn't tell what it passes over.
+    pub(crate) fixed: bool,
 }
 
 impl Task {
     ghost use Rattle.carte_task.specs.Tasks.{IsTaskOf};
+    ghost use Rattle.carte_task.specs.Statics.{IsStaticOf, HasParts};
 
     /// The task of a key's formula in a book of that kind. A range whose corners don't lie in the sheet, as no reader gives one, finds no memory.
     pub fn of(alloc: Global, kind: Kind, key: &Name, expr: &Expr) -> Result<Task, NoMemory>
@@ -25,6 +31,39 @@ impl Task {
         let key = key.copy(alloc)?;
         let mut code = Vec::new(alloc);
         postfix::write(alloc, expr, &mut code)?;
-        Ok(Task { key, kind, code })
+        Ok(Task {
+            key,
+            kind,
+            code,
+            fixed: is_static(expr),
+        })
+    }
+
+    /// The same as a task that reads its references whatever their values are; none where the formula isn't static.
+    pub fn as_static(&self, alloc: Global) -> Result<Option<StaticTask>, NoMemory>
+        ensures { (kind : SomeKind) (k : List ℕ) (e : Tree) → IsTaskOf kind k e self.now → IfOk result (IsStaticOf kind k e) }
+    {
+        if !self.fixed {
+            return Ok(None);
+        }
+        match self.parts(alloc) {
+            Ok(task) => Ok(Some(task)),
+            Err(refused) => Err(refused),
+        }
+    }
+
+    // The key, the kind and the code, with the names in the code.
+    fn parts(&self, alloc: Global) -> Result<StaticTask, NoMemory>
+        ensures { IfOk result (HasParts self.now) }
+    {
+        let key = self.key.copy(alloc)?;
+        let code = copy_of(alloc, self.code.as_slice())?;
+        let refs = names_in(alloc, code.as_slice())?;
+        Ok(StaticTask {
+            key,
+            kind: self.kind,
+            code,
+            refs,
+        })
     }
 }
