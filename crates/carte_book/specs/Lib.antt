@@ -3,3 +3,4 @@ pub mod Needs
 pub mod Reason
 pub mod Dynamic
 pub mod Looked
+pub mod Edits

@@ -1,6 +1,7 @@
-ghost use Rattle.std.specs.Prelude.{◌≡◌, is_some, IfOk, OnOk};
-ghost use Rattle.std.specs.FinMap.{empty, insert, get};
+ghost use Rattle.std.specs.Prelude.{◌≡◌, None, is_some, IfOk, OnOk, OnErr};
+ghost use Rattle.std.specs.FinMap.{empty, get};
 ghost use Rattle.carte_book.specs.Book.{book_view, item_view, content, default_of};
+ghost use Rattle.carte_book.specs.Edits.{with_item};
 ghost use Rattle.carte_book.specs.Looked.{Answers, HasRules, AddsRule};
 
 use crate::{Book, Item, Looked};
@@ -15,6 +16,7 @@ impl Book {
         ensures items { (book_view result).items ≡ empty }
     {
         Book {
+            alloc,
             kind,
             items: BTreeMap::new(alloc),
             nothing: Value::Empty,
@@ -69,7 +71,9 @@ impl Book {
     }
 
     pub(crate) fn put(&mut self, name: Name, item: Item) -> Result<(), NoMemory>
-        ensures { OnOk result ((book_view self.new).items ≡ insert (book_view self.old).items name (item_view item)) }
+        ensures ok { OnOk result (book_view self.new ≡ with_item (book_view self.old) name (item_view item)) }
+        ensures absent { OnErr result (get (book_view self.old).items name ≡ None) }
+        ensures unchanged { OnErr result (book_view self.new ≡ book_view self.old) }
     {
         match self.items.insert(name, item) {
             Ok(_) => Ok(()),

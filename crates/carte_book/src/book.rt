@@ -3,6 +3,7 @@ ghost use Rattle.carte_value.specs.declared.value.Value.TheVariants.{Empty};
 
 use carte_formula::Expr;
 use carte_value::{Kind, Name, Value};
+use std::alloc::Global;
 use std::collections::BTreeMap;
 
 /// What stands at a name of a book.
@@ -15,6 +16,7 @@ pub enum Item {
 /// A rule file or a sheet in memory.
 #[derive(Debug, Drop)]
 pub struct Book {
+    pub(crate) alloc: Global,
     pub(crate) kind: Kind,
     pub(crate) items: BTreeMap<Name, Item>,
     /// What each cell of a sheet holds that nothing was put in.

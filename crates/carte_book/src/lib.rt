@@ -18,9 +18,14 @@
 
 mod access;
 mod book;
+mod edits;
+mod fault;
+mod key_text;
 mod laws;
 mod reason;
 
 pub use book::{Book, Item, Looked};
+pub use fault::{AddFault, BookFault, SetFault, Which};
+pub use key_text::KeyText;
 pub use laws::{clean_is_settled, clean_or_refused, reason_is_unique};
 pub use reason::Reason;
