@@ -1,10 +1,6 @@
-pub mod Paths
 pub mod Parts
-pub mod Walking
-pub mod Refusing
-pub mod Turning
+pub mod Evaluating
 pub mod Built
-pub mod Reaching
 pub mod WordsRead
 pub mod Outcomes
 pub mod Dues

@@ -1,19 +1,19 @@
 -- What a build has done, from what its parts have done.
-use Rattle.std.proofs.Common.{◌≡◌, ℕ, suc, List, [], ◌∷◌, ◌++◌, length, Some, Ok, refl, ap, subst, inl, inr}
-use Rattle.std.specs.Map.{keys_of}
-use Rattle.std.specs.BTreeMap.{keys, btree_map_len}
-use Rattle.carte_value.specs.declared.value.Value.{Value}
+use Rattle.std.proofs.Common.{◌≡◌, ℕ, List, [], ◌∷◌, ◌++◌, length, Some, Ok, refl, ap, subst, inl, inr}
+use Rattle.std.specs.BTreeMap.{keys}
 use Rattle.carte_value.specs.Truths.{Extends, Among}
 use Rattle.carte_book.specs.Book.{Book, book_view, clean}
-use Rattle.carte_book.specs.Reading.{book_of}
 use Rattle.carte_book.specs.Reason.{AllClean}
 use Rattle.carte_book.specs.declared.book.Book.{Book as CodeBook}
+use Rattle.carte_rules.specs.Reading.{BookOf}
+use Rattle.carte_task.specs.Ledger.{Ledger, given_up}
 use Rattle.carte_top.specs.declared.status.Status.{Status}
 use Rattle.carte_top.specs.declared.status.Status.TheVariants.{Done, BookRefused, Usage, BuildRefused, ReadFault, WriteFault, NoMemory}
 use Rattle.carte_top.specs.Known.{Done as DoneMap, part}
 use Rattle.carte_top.specs.Building.{IsBuilt, IsKnownAt}
 use Rattle.carte_top.specs.Words.{targets_of}
 use Rattle.carte_top.specs.Reply.{target_lines, counts_line, reply}
+use Rattle.carte_top.specs.Replied.{answer_text}
 use Rattle.carte_top.specs.Around.{OverSource, OverSink, TakesAll, TakesFront}
 use Rattle.carte_top.specs.Outcome.{Replies, Built, Ran}
 use Rattle.carte_top.specs.Running.{Prints, Answers, Reports}
@@ -29,26 +29,22 @@ all_clean : (b : Book) (done : DoneMap) (ts : List (List ℕ)) → Extends (part
 all_clean b done [] more known = tt
 all_clean b done (k ∷ ks) more known = let here = known k (inl refl) in ((here.0, more k here.0 here.1), all_clean b done ks more (λ j among. known j (inr among)))
 
-keys_count : (es : List (List ℕ × Value)) → length es ≡ length (keys_of es)
-keys_count [] = refl
-keys_count (e ∷ es) = ap (λ n. suc n) (keys_count es)
+reply_same : (b : Book) (ts : List (List ℕ)) (done : DoneMap) (runs : Ledger) → IsBuilt b ts done runs → answer_text b done runs ts ≡ reply b ts (keys done)
+reply_same b ts done runs built = rw (lines_same b done ts built.is_clean built.known, built.count, built.none_given_up) refl
 
-reply_same : (b : Book) (ts : List (List ℕ)) (done : DoneMap) → IsBuilt b ts done → target_lines (part b done) ts ++ counts_line (btree_map_len done) ≡ reply b ts (keys done)
-reply_same b ts done built = rw (lines_same b done ts built.clean built.known, keys_count done.entries) refl
+replies : (Takes : OverSink → List ℕ → Type 0) (k : OverSink) (b : Book) (ts : List (List ℕ)) (done : DoneMap) (runs : Ledger) → IsBuilt b ts done runs → (k.tells → Takes k (answer_text b done runs ts)) → Replies Takes k ts b
+replies Takes k b ts done runs built takes = (built.no_dynamic, all_clean b done ts built.is_clean built.known, keys done, built.reached, λ tells. subst (λ (bytes : List ℕ). Takes k bytes) (reply_same b ts done runs built) (takes tells))
 
-replies : (Takes : OverSink → List ℕ → Type 0) (k : OverSink) (b : Book) (ts : List (List ℕ)) (done : DoneMap) → IsBuilt b ts done → (k.tells → Takes k (target_lines (part b done) ts ++ counts_line (btree_map_len done))) → Replies Takes k ts b
-replies Takes k b ts done built takes = (all_clean b done ts built.clean built.known, keys done, built.ran, λ tells. subst (λ (bytes : List ℕ). Takes k bytes) (reply_same b ts done built) (takes tells))
+pub answered : (b : Book) (ts ts' : List (List ℕ)) (done : DoneMap) (runs : Ledger) (k : OverSink) (status : Status) → ts' ≡ ts → IsBuilt b ts done runs → Prints (answer_text b done runs ts') k status → Answers b ts k status
+answered b ts ts' done runs k Done same built prints = replies TakesAll k b ts done runs built (rw same at prints)
+answered b ts ts' done runs k WriteFault same built prints = (replies TakesFront k b ts done runs built (rw same at prints.0), prints.1)
+answered b ts ts' done runs k NoMemory same built prints = prints
+answered b ts ts' done runs k (BookRefused f) same built prints = absurd prints
+answered b ts ts' done runs k (Usage f) same built prints = absurd prints
+answered b ts ts' done runs k (BuildRefused r) same built prints = absurd prints
+answered b ts ts' done runs k ReadFault same built prints = absurd prints
 
-pub answered : (b : Book) (ts ts' : List (List ℕ)) (done : DoneMap) (k : OverSink) (status : Status) → ts' ≡ ts → IsBuilt b ts done → Prints (target_lines (part b done) ts' ++ counts_line (btree_map_len done)) k status → Answers b ts k status
-answered b ts ts' done k Done same built prints = replies TakesAll k b ts done built (rw same at prints)
-answered b ts ts' done k WriteFault same built prints = (replies TakesFront k b ts done built (rw same at prints.0), prints.1)
-answered b ts ts' done k NoMemory same built prints = prints
-answered b ts ts' done k (BookRefused f) same built prints = absurd prints
-answered b ts ts' done k (Usage f) same built prints = absurd prints
-answered b ts ts' done k (BuildRefused r) same built prints = absurd prints
-answered b ts ts' done k ReadFault same built prints = absurd prints
-
-pub built : (book : CodeBook) (ts : List (List ℕ)) (s : OverSource) (k : OverSink) (status : Status) → (s.tells → book_of s.left ≡ Ok (book_view book)) → Answers (book_view book) ts k status → Built ts s k status
+pub built : (book : CodeBook) (ts : List (List ℕ)) (s : OverSource) (k : OverSink) (status : Status) → (s.tells → BookOf s.left (Ok (book_view book))) → Answers (book_view book) ts k status → Built ts s k status
 built book ts s k Done is answers = λ tells. (book_view book, is tells, answers)
 built book ts s k (BuildRefused r) is answers = (λ tells. (book_view book, is tells, answers.0), answers.1)
 built book ts s k WriteFault is answers = (λ tells. (book_view book, is tells, answers.0), answers.1)

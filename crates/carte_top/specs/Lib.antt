@@ -1,9 +1,10 @@
 pub mod Known
-pub mod Walk
+pub mod Evaluated
 pub mod Building
 pub mod Status
 pub mod Words
 pub mod Reply
+pub mod Replied
 pub mod Texts
 pub mod Around
 pub mod Outcome

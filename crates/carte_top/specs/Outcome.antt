@@ -4,10 +4,11 @@ use Rattle.carte_value.specs.Truths.{IsListOf}
 use Rattle.carte_io.specs.Causes.{Rose}
 use Rattle.carte_book.specs.Book.{Book}
 use Rattle.carte_book.specs.Needs.{IsReachedRule}
-use Rattle.carte_book.specs.Reading.{book_of}
-use Rattle.carte_book.specs.Reason.{AllClean, IsReason}
+use Rattle.carte_book.specs.Dynamic.{NoDynamicPath, IsOrderReason}
+use Rattle.carte_book.specs.Reason.{AllClean}
 use Rattle.carte_book.specs.declared.fault.BookFault.{BookFault}
 use Rattle.carte_book.specs.declared.fault.BookFault.TheVariants.{NoMemory as BookNoMemory}
+use Rattle.carte_rules.specs.Reading.{BookOf}
 use Rattle.carte_top.specs.declared.status.Status.{Status}
 use Rattle.carte_top.specs.declared.status.Status.TheVariants.{Done, BookRefused, Usage, BuildRefused, ReadFault, WriteFault, NoMemory}
 use Rattle.carte_top.specs.Around.{OverSource, OverSink, Around, IsUnread, IsUntouched, TakesAll, TakesFront, Says}
@@ -21,23 +22,23 @@ Commands words P = (targets : List (List ℕ)) × (targets_of words ≡ Ok targe
 
 -- where the source tells its bytes, they are such a book
 abbrev pub Holds : OverSource → (Book → Type 0) → Type 0
-Holds s P = s.tells → (b : Book) × (book_of s.left ≡ Ok b) × P b
+Holds s P = s.tells → (b : Book) × BookOf s.left (Ok b) × P b
 
--- the targets have clean values, and the sink was given the reply
+-- no dynamic rule is referred to, the targets have clean values, and the sink was given the reply
 abbrev pub Replies : (OverSink → List ℕ → Type 0) → OverSink → List (List ℕ) → Book → Type 0
-Replies Takes k targets b = AllClean b targets × (ran : List (List ℕ)) × IsListOf (IsReachedRule b targets) ran × (k.tells → Takes k (reply b targets ran))
+Replies Takes k targets b = NoDynamicPath b targets × AllClean b targets × (ran : List (List ℕ)) × IsListOf (IsReachedRule b targets) ran × (k.tells → Takes k (reply b targets ran))
 
 -- where the source tells its bytes, they are no book, and this is why
 abbrev pub Refuses : OverSource → BookFault → Type 0
 Refuses s BookNoMemory = ⊥
-Refuses s fault = s.tells → book_of s.left ≡ Err fault
+Refuses s fault = s.tells → BookOf s.left (Err fault)
 
 -- what a build of these targets has done
 abbrev pub Built : List (List ℕ) → OverSource → OverSink → Status → Type 0
 Built targets s k Done = Holds s (Replies TakesAll k targets)
 Built targets s k (BookRefused fault) = Refuses s fault × IsUntouched k
 Built targets s k (Usage fault) = ⊥
-Built targets s k (BuildRefused reason) = Holds s (λ b. IsReason b targets reason) × IsUntouched k
+Built targets s k (BuildRefused reason) = Holds s (λ b. IsOrderReason b targets reason) × IsUntouched k
 Built targets s k ReadFault = Rose s.faults s.faults' × IsUntouched k
 Built targets s k WriteFault = Holds s (Replies TakesFront k targets) × Rose k.faults k.faults'
 Built targets s k NoMemory = IsUntouched k
@@ -56,13 +57,13 @@ Ended k status = Says k (error_line status)
 
 -- which status is due. The source tells its bytes, and they are such a book
 abbrev pub IsBook : OverSource → (Book → Type 0) → Type 0
-IsBook s P = s.tells × (b : Book) × (book_of s.left ≡ Ok b) × P b
+IsBook s P = s.tells × (b : Book) × BookOf s.left (Ok b) × P b
 
 abbrev pub IsDue : List (List ℕ) → OverSource → Status → Type 0
-IsDue words s Done = Commands words (λ targets. IsBook s (λ b. AllClean b targets))
-IsDue words s (BookRefused fault) = Commands words (λ targets. s.tells × (book_of s.left ≡ Err fault))
+IsDue words s Done = Commands words (λ targets. IsBook s (λ b. NoDynamicPath b targets × AllClean b targets))
+IsDue words s (BookRefused fault) = Commands words (λ targets. s.tells × BookOf s.left (Err fault))
 IsDue words s (Usage fault) = targets_of words ≡ Err fault
-IsDue words s (BuildRefused reason) = Commands words (λ targets. IsBook s (λ b. IsReason b targets reason))
+IsDue words s (BuildRefused reason) = Commands words (λ targets. IsBook s (λ b. IsOrderReason b targets reason))
 IsDue words s status = ⊥
 
 -- want of memory, or a device

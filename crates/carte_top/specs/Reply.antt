@@ -13,9 +13,10 @@ abbrev pub target_lines : Truth → List (List ℕ) → List ℕ
 target_lines t [] = []
 target_lines t (k ∷ ks) = target_line t k ++ target_lines t ks
 
-abbrev pub counts_line : ℕ → List ℕ
-counts_line ran = codes "ran " ++ (decimal ran ++ (codes ", given up 0, reused 0" ++ 10 ∷ []))
+-- how many tasks ran, how many were given up, and how many results were reused
+abbrev pub counts_line : ℕ → ℕ → ℕ → List ℕ
+counts_line ran given_up reused = codes "ran " ++ (decimal ran ++ (codes ", given up " ++ (decimal given_up ++ (codes ", reused " ++ (decimal reused ++ 10 ∷ [])))))
 
 -- a line for each target with its clean value, in their order, and then how many rules ran
 abbrev pub reply : Book → List (List ℕ) → List (List ℕ) → List ℕ
-reply b targets ran = target_lines (clean b) targets ++ counts_line (length ran)
+reply b targets ran = target_lines (clean b) targets ++ counts_line (length ran) 0 0

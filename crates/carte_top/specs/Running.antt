@@ -2,8 +2,7 @@
 use Rattle.std.specs.Prelude.{ℕ, ◌≡◌, ◌⊎◌, Bool, true, false, List, Result, Ok, Err}
 use Rattle.carte_io.specs.Causes.{Rose}
 use Rattle.carte_book.specs.Book.{Book, book_view}
-use Rattle.carte_book.specs.Reading.{book_of}
-use Rattle.carte_book.specs.Reason.{IsReason}
+use Rattle.carte_book.specs.Dynamic.{IsOrderReason}
 use Rattle.carte_book.specs.declared.book.Book.{Book as CodeBook}
 use Rattle.carte_book.specs.declared.fault.BookFault.{BookFault}
 use Rattle.carte_book.specs.declared.fault.BookFault.TheVariants.{Limit, NoMemory as BookNoMemory}
@@ -12,8 +11,9 @@ use Rattle.carte_io.specs.declared.whole.ReadEnd.{ReadEnd}
 use Rattle.carte_io.specs.declared.whole.ReadEnd.TheVariants.{TooLong, Failed, NoMemory as ReadNoMemory}
 use Rattle.carte_top.specs.declared.words.WordsEnd.{WordsEnd}
 use Rattle.carte_top.specs.declared.words.WordsEnd.TheVariants.{Fault, NoMemory as WordsNoMemory}
-use Rattle.carte_top.specs.declared.walk.BuildFault.{BuildFault}
-use Rattle.carte_top.specs.declared.walk.BuildFault.TheVariants.{Refused, NoMemory as BuildNoMemory}
+use Rattle.carte_rules.specs.Reading.{BookOf}
+use Rattle.carte_topo.specs.declared.PlanFault.{PlanFault}
+use Rattle.carte_topo.specs.declared.PlanFault.TheVariants.{Refused, NoMemory as PlanNoMemory}
 use Rattle.carte_top.specs.declared.status.Status.{Status}
 use Rattle.carte_top.specs.declared.status.Status.TheVariants.{Done, BookRefused, Usage, BuildRefused, ReadFault, WriteFault, NoMemory}
 use Rattle.carte_top.specs.Around.{OverSource, OverSink, IsUntouched, TakesAll, TakesFront}
@@ -22,17 +22,17 @@ use Rattle.carte_top.specs.Outcome.{Replies, Refuses}
 -- bytes that are read as a book
 abbrev pub RefusesBytes : List ℕ → BookFault → Type 0
 RefusesBytes bytes BookNoMemory = ⊥
-RefusesBytes bytes fault = book_of bytes ≡ Err fault
+RefusesBytes bytes fault = BookOf bytes (Err fault)
 
 abbrev pub Parses : List ℕ → Result CodeBook Status → Type 0
-Parses bytes (Ok b) = book_of bytes ≡ Ok (book_view b)
+Parses bytes (Ok b) = BookOf bytes (Ok (book_view b))
 Parses bytes (Err (BookRefused fault)) = RefusesBytes bytes fault
 Parses bytes (Err NoMemory) = Unit {0}
 Parses bytes (Err status) = ⊥
 
 -- a source that is read as a book
 abbrev pub Loads : OverSource → Result CodeBook Status → Type 0
-Loads s (Ok b) = s.tells → book_of s.left ≡ Ok (book_view b)
+Loads s (Ok b) = s.tells → BookOf s.left (Ok (book_view b))
 Loads s (Err (BookRefused fault)) = Refuses s fault
 Loads s (Err ReadFault) = Rose s.faults s.faults'
 Loads s (Err NoMemory) = Unit {0}
@@ -48,14 +48,14 @@ Prints bytes k status = ⊥
 -- a book that is built
 abbrev pub Answers : Book → List (List ℕ) → OverSink → Status → Type 0
 Answers b targets k Done = Replies TakesAll k targets b
-Answers b targets k (BuildRefused reason) = IsReason b targets reason × IsUntouched k
+Answers b targets k (BuildRefused reason) = IsOrderReason b targets reason × IsUntouched k
 Answers b targets k WriteFault = Replies TakesFront k targets b × Rose k.faults k.faults'
 Answers b targets k NoMemory = IsUntouched k
 Answers b targets k status = ⊥
 
-abbrev pub refusal_of : BuildFault → Status
+abbrev pub refusal_of : PlanFault → Status
 refusal_of (Refused reason) = BuildRefused reason
-refusal_of BuildNoMemory = NoMemory
+refusal_of PlanNoMemory = NoMemory
 
 -- a status with an error line
 abbrev pub is_spoken : Status → Bool

@@ -3,11 +3,13 @@ use Rattle.std.specs.Prelude.{ℕ, List, [], ◌∷◌, ◌++◌, codes}
 use Rattle.std.specs.Fmt.{decimal}
 use Rattle.carte_value.specs.Printed.{quoted}
 use Rattle.carte_book.specs.declared.fault.Which.{Which}
-use Rattle.carte_book.specs.declared.fault.Which.TheVariants.{Bytes}
+use Rattle.carte_book.specs.declared.fault.Which.TheVariants.{Bytes, Keys, Rows, Columns}
 use Rattle.carte_book.specs.declared.fault.BookFault.{BookFault}
-use Rattle.carte_book.specs.declared.fault.BookFault.TheVariants.{Limit, NotToml, NotYet, NoMemory as BookNoMemory}
+use Rattle.carte_book.specs.declared.fault.BookFault.TheVariants.{Limit, NotToml, BadTable, BadName, BadValue, Formula, Twice, NotUtf8, NoMemory as BookNoMemory}
+use Rattle.carte_formula.specs.declared.fault.FormulaFault.{FormulaFault}
+use Rattle.carte_formula.specs.declared.fault.FormulaFault.TheVariants.{BadToken, BadSyntax, TooDeep, TooLong, TooWide, NoMemory as FormulaNoMemory}
 use Rattle.carte_book.specs.declared.reason.Reason.{Reason}
-use Rattle.carte_book.specs.declared.reason.Reason.TheVariants.{Cycle, Missing}
+use Rattle.carte_book.specs.declared.reason.Reason.TheVariants.{Cycle, Missing, Dynamic}
 use Rattle.carte_top.specs.declared.status.WordsFault.{WordsFault}
 use Rattle.carte_top.specs.declared.status.WordsFault.TheVariants.{Words, NoTarget, BadTarget}
 use Rattle.carte_top.specs.declared.status.Status.{Status}
@@ -15,11 +17,27 @@ use Rattle.carte_top.specs.declared.status.Status.TheVariants.{Done, BookRefused
 
 abbrev pub which_text : Which → List ℕ
 which_text Bytes = codes "bytes"
+which_text Keys = codes "keys"
+which_text Rows = codes "rows"
+which_text Columns = codes "columns"
+
+abbrev pub formula_fault_text : FormulaFault → List ℕ
+formula_fault_text (BadToken place) = codes "bad token at " ++ decimal place
+formula_fault_text (BadSyntax place) = codes "bad syntax at " ++ decimal place
+formula_fault_text (TooDeep place) = codes "too deep at " ++ decimal place
+formula_fault_text (TooLong n) = codes "longer than 4096 bytes"
+formula_fault_text (TooWide place) = codes "too many cells at " ++ decimal place
+formula_fault_text FormulaNoMemory = codes "out of memory"
 
 abbrev pub book_fault_text : BookFault → List ℕ
 book_fault_text (Limit which n) = codes "more than " ++ (decimal n ++ (codes " " ++ which_text which))
 book_fault_text NotToml = codes "not TOML"
-book_fault_text NotYet = codes "not yet"
+book_fault_text (BadTable text) = codes "bad table " ++ quoted text
+book_fault_text (BadName text) = codes "bad name " ++ quoted text
+book_fault_text (BadValue k) = codes "bad value of " ++ k
+book_fault_text (Formula k fault) = codes "formula of " ++ (k ++ (codes ": " ++ formula_fault_text fault))
+book_fault_text (Twice k) = k ++ codes " is an input and a rule"
+book_fault_text (NotUtf8 k) = codes "cell " ++ (k ++ codes " is not UTF-8")
 book_fault_text BookNoMemory = codes "out of memory"
 
 abbrev pub words_fault_text : WordsFault → List ℕ
@@ -39,6 +57,7 @@ path_text (k ∷ ks) = k ++ arrows ks
 abbrev pub reason_text : Reason → List ℕ
 reason_text (Cycle path) = codes "cycle: " ++ path_text path
 reason_text (Missing path) = codes "missing: " ++ path_text path
+reason_text (Dynamic path) = codes "dynamic: " ++ path_text path
 
 abbrev pub status_text : Status → List ℕ
 status_text Done = []

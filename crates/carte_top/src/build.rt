@@ -1,34 +1,25 @@
 ghost use Rattle.carte_book.specs.Book.{book_view};
 ghost use Rattle.carte_top.specs.Building.{Builds};
 
-use crate::walk::{BuildFault, Walk};
+use crate::evaluate::{Evaluated, evaluate};
 use carte_book::Book;
-use carte_value::{Name, Value};
+use carte_topo::{PlanFault, order};
+use carte_value::Names;
 use std::alloc::Global;
-use std::collections::{BTreeMap, VecDeque};
 
-/// The values of the rules that the targets reach, each evaluated once, or why the build is refused.
-pub(crate) fn build(
-    alloc: Global,
-    book: &Book,
-    targets: &[Name],
-) -> Result<BTreeMap<Name, Value>, BuildFault>
+/// The values of the rules that the targets reach, each worked out once, or why the build is refused.
+pub(crate) fn build(alloc: Global, book: &Book, targets: &Names) -> Result<Evaluated, PlanFault>
     ensures { Builds (book_view book.now) targets.now result }
 {
-    let fresh = match book.rule_names(alloc) {
+    let names = match order(alloc, book, targets) {
         Ok(names) => names,
-        Err(_) => return Err(BuildFault::NoMemory),
+        Err(fault) => return Err(fault),
     };
-    let mut walk = Walk {
-        fresh,
-        path: VecDeque::new(alloc),
-        done: BTreeMap::new(alloc),
-    };
-    for at in 0..targets.len() {
-        if let Err(fault) = walk.reach(alloc, book, targets, at) {
-            return Err(fault);
+    match evaluate(alloc, book, names.as_slice()) {
+        Ok(evaluated) => {
+            let _count = evaluated.done.len();
+            Ok(evaluated)
         }
+        Err(_) => Err(PlanFault::NoMemory),
     }
-    let _count = walk.done.len();
-    Ok(walk.done)
 }

@@ -1,10 +1,12 @@
-ghost use Rattle.std.specs.Prelude.{◌≡◌, [], Some, None, IfOk, OnOk};
+ghost use Rattle.std.specs.Prelude.{◌≡◌, [], true, Some, None, Ok, IfOk, OnOk};
 ghost use Rattle.std.specs.BTreeMap.{get};
 ghost use Rattle.carte_value.specs.Names.{name_cmp};
 ghost use Rattle.carte_value.specs.Truths.{NoneTwice};
-ghost use Rattle.carte_formula.specs.Formula.{refs_of};
+ghost use Rattle.carte_formula.specs.Code.{tree_of};
+ghost use Rattle.carte_formula.specs.Formula.{refs_of, is_static_tree};
+ghost use Rattle.carte_meaning.specs.Meaning.{eval};
 ghost use Rattle.carte_meaning.specs.InTurn.{HasAll};
-ghost use Rattle.carte_task.specs.Statics.{with_run, static_refs};
+ghost use Rattle.carte_task.specs.Statics.{with_run, IsStaticTaskOf};
 ghost use Rattle.carte_book.specs.Book.{book_view};
 ghost use Rattle.carte_topo.specs.Orders.{InOrder};
 ghost use Rattle.carte_top.specs.Known.{part};
@@ -13,6 +15,7 @@ ghost use Rattle.carte_top.specs.Evaluated.{IsRunnable, Gives, Advances, IsEvalu
 use crate::known::Known;
 use carte_book::{Book, Looked};
 use carte_formula::Expr;
+use carte_meaning::static_ends;
 use carte_task::{Each, Halt, Runs, Snapshot, StaticTask, Task};
 use carte_value::{Kind, Name, NoMemory, Value};
 use std::alloc::Global;
@@ -76,13 +79,52 @@ fn run_rule(
     ensures runs { OnOk result (runs.new ≡ with_run runs.old name.now) }
 {
     match book.lookup(name) {
-        Looked::Rule(formula) => {
-            let task = match static_task(alloc, book.kind(), name, formula) {
-                Ok(task) => task,
-                Err(refused) => return Err(refused),
-            };
-            run_task(alloc, &Known { book, done }, &task, runs)
-        }
+        Looked::Rule(formula) => run_formula(alloc, &Known { book, done }, runs, name, formula),
         _ => unreachable!(),
+    }
+}
+
+fn run_formula(
+    alloc: Global,
+    known: &Known<'_>,
+    runs: &mut Runs,
+    name: &Name,
+    formula: &Expr,
+) -> Result<Value, NoMemory>
+    requires is_static { is_static_tree (tree_of formula.now) ≡ true }
+    requires has_all { HasAll (part (book_view known.now.book.now) known.now.done.now) (refs_of (tree_of formula.now)) }
+    ensures value { IfOk result (λ v. eval known.now.book.now.kind (part (book_view known.now.book.now) known.now.done.now) (tree_of formula.now) ≡ Ok v) }
+    ensures runs { OnOk result (runs.new ≡ with_run runs.old name.now) }
+{
+    static_ends();
+    let task = match static_task(alloc, known.book.kind(), name, formula) {
+        Ok(task) => task,
+        Err(refused) => return Err(refused),
+    };
+    let mut list = Each::of(Snapshot::of(known));
+    match task.run(alloc, &mut list, runs) {
+        Ok(Some(ended)) => ended.value().copy(alloc),
+        Ok(None) => unreachable!(),
+        Err(Halt::Stop(_)) => unreachable!(),
+        Err(Halt::NoMemory) => Err(NoMemory),
+    }
+}
+
+fn static_task(
+    alloc: Global,
+    kind: Kind,
+    name: &Name,
+    formula: &Expr,
+) -> Result<StaticTask, NoMemory>
+    requires { is_static_tree (tree_of formula.now) ≡ true }
+    ensures { IfOk result (IsStaticTaskOf kind name.now (tree_of formula.now)) }
+{
+    match Task::of(alloc, kind, name, formula) {
+        Ok(task) => match task.as_static(alloc) {
+            Ok(Some(task)) => Ok(task),
+            Ok(None) => unreachable!(),
+            Err(refused) => Err(refused),
+        },
+        Err(refused) => Err(refused),
     }
 }

@@ -16,6 +16,7 @@
 #![tactic(auto)]
 
 mod build;
+mod evaluate;
 mod known;
 mod reply;
 mod status;
@@ -23,7 +24,6 @@ mod status;
 mod tests;
 mod texts;
 mod top;
-mod walk;
 mod word;
 mod words;
 

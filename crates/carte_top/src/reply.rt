@@ -1,12 +1,15 @@
-ghost use Rattle.std.specs.Prelude.{◌≡◌, ◌++◌, ◌∷◌, [], codes, IfOk, OnOk, string_bytes, unwrap_or};
-ghost use Rattle.std.specs.BTreeMap.{btree_map_len};
+ghost use Rattle.std.specs.Prelude.{◌≡◌, ◌++◌, ◌∷◌, [], codes, IfOk, OnOk, length, string_bytes, unwrap_or};
 ghost use Rattle.carte_value.specs.Printed.{printed};
 ghost use Rattle.carte_book.specs.Book.{book_view};
 ghost use Rattle.carte_top.specs.Known.{part};
+ghost use Rattle.carte_task.specs.Ledger.{given_up};
 ghost use Rattle.carte_top.specs.Reply.{target_line, target_lines, counts_line};
+ghost use Rattle.carte_top.specs.Replied.{answer_text};
 
+use crate::evaluate::Evaluated;
 use crate::known::Known;
-use carte_book::{Book, Look};
+use carte_book::Book;
+use carte_task::{Look, Runs, Seen};
 use carte_value::{Name, NoMemory, Value};
 use std::alloc::Global;
 use std::collections::BTreeMap;
@@ -15,17 +18,16 @@ use std::collections::BTreeMap;
 pub(crate) fn reply(
     alloc: Global,
     book: &Book,
-    done: &BTreeMap<Name, Value>,
+    evaluated: &Evaluated,
     targets: &[Name],
 ) -> Result<String, NoMemory>
-    ensures { IfOk result (λ text. string_bytes text
-        ≡ target_lines (part (book_view book.now) done.now) targets.now ++ counts_line (btree_map_len done.now)) }
+    ensures { IfOk result (λ text. string_bytes text ≡ answer_text (book_view book.now) evaluated.now.done evaluated.now.runs targets.now) }
 {
-    let mut text = match lines(alloc, book, done, targets) {
+    let mut text = match lines(alloc, book, &evaluated.done, targets) {
         Ok(text) => text,
         Err(refused) => return Err(refused),
     };
-    match push_counts(alloc, &mut text, done.len()) {
+    match push_counts(alloc, &mut text, &evaluated.runs) {
         Ok(()) => Ok(text),
         Err(refused) => Err(refused),
     }
@@ -75,8 +77,9 @@ fn value_text(
 {
     let known = Known { book, done };
     match known.look(target) {
-        Some(value) => value.print(alloc),
-        None => Value::Empty.print(alloc),
+        Seen::Value(value) => value.print(alloc),
+        Seen::NotDone => Value::Empty.print(alloc),
+        Seen::Missing => Value::Empty.print(alloc),
     }
 }
 
@@ -91,12 +94,16 @@ fn push_line(text: &mut String, name: &str, value: &str) -> Result<(), NoMemory>
     Ok(())
 }
 
-fn push_counts(alloc: Global, text: &mut String, ran: usize) -> Result<(), NoMemory>
-    ensures { OnOk result (string_bytes text.new ≡ string_bytes text.old ++ counts_line ran) }
+fn push_counts(alloc: Global, text: &mut String, runs: &Runs) -> Result<(), NoMemory>
+    ensures { OnOk result (string_bytes text.new
+        ≡ string_bytes text.old ++ counts_line (length runs.now.ends) (given_up runs.now) 0) }
 {
-    let ran = ran.to_string(alloc)?;
+    let ran = runs.ended().len().to_string(alloc)?;
+    let given_up = runs.given_up().to_string(alloc)?;
     text.push_str("ran ")?;
     text.push_str(ran.as_str())?;
-    text.push_str(", given up 0, reused 0\n")?;
+    text.push_str(", given up ")?;
+    text.push_str(given_up.as_str())?;
+    text.push_str(", reused 0\n")?;
     Ok(())
 }

@@ -179,50 +179,96 @@ fn faults_have_their_names(rt: HostRuntime) -> Result<(), Fail> {
                 "[inputs]\na = 9223372036854775808",
                 "1\ncarte: book refused: not TOML\n",
             ),
+        ],
+    )
+}
+
+/// Texts by hand, each fault of a book by its name.
+#[test]
+fn refused_books_have_their_names(rt: HostRuntime) -> Result<(), Fail> {
+    let cases = [
+        ("[other]", "bad table \"other\""),
+        ("inputs = 1", "bad table \"inputs\""),
+        ("[inputs]\nA = 1", "bad name \"A\""),
+        ("[inputs]\na = true", "bad value of a"),
+        ("[rules]\na = 1", "bad value of a"),
+        ("[rules]\na = \"1 +\"", "formula of a: bad syntax at 3"),
+        ("[rules]\na = \"b ? c\"", "formula of a: bad token at 2"),
+        (
+            "[rules]\na = \"9223372036854775808\"",
+            "formula of a: bad token at 0",
+        ),
+        (
+            "[rules]\na = \"((((((((((((((((((((((((((((((((((((((((((((((((((((((((((((((((1\"",
+            "formula of a: bad syntax at 65",
+        ),
+        (
+            "[rules]\na = \"(((((((((((((((((((((((((((((((((((((((((((((((((((((((((((((((((1\"",
+            "formula of a: too deep at 64",
+        ),
+        (
+            "[inputs]\na = 1\n[rules]\na = \"1\"",
+            "a is an input and a rule",
+        ),
+    ];
+    for (book, want) in cases.iter() {
+        let text = shown_of(rt.alloc(), "build b s a", book)?;
+        let line = format!(in rt.alloc(); "1\ncarte: book refused: {want}\n")?;
+        assert_eq!(rt; text.as_str(), line.as_str(), "{book}");
+    }
+    Ok(())
+}
+
+const NUMBERS: &str =
+    "[inputs]\na1 = 9223372036854775807\na2 = -9223372036854775808\n[rules]\nb1 = \"a1+1\"\nb2 = \"a2 /-1\"\nb3 = \"1 /0\"\n";
+
+const BRANCHES: &str =
+    "[inputs]\nb = 1\nc = 2\np = \"q\"\n[rules]\na = \"IF(1,b,c)\"\ns = \"IF(b,1,2)\"\nk = \"PICK(0, gone, s)\"\nr = \"INDIRECT(p)\"\nfar = \"near + r\"\nnear = \"a + 1\"\nmid = \"s + a\"\nturn = \"turn + near\"\n";
+
+/// Values by hand: numbers at their ends, and what is static and what isn't.
+#[test]
+fn the_whole_language_is_built(rt: HostRuntime) -> Result<(), Fail> {
+    shows(
+        &rt,
+        rt.alloc(),
+        &[
+            (
+                "build b s b1 b2 b3",
+                NUMBERS,
+                "0\nb1 = #NUM!\nb2 = #NUM!\nb3 = #DIV/0!\nran 3, given up 0, reused 0\n",
+            ),
             (
                 "build b s a",
                 "[rules]\na = \"1 * 2\"",
-                "1\ncarte: book refused: not yet\n",
+                "0\na = 2\nran 1, given up 0, reused 0\n",
             ),
             (
                 "build b s a",
-                "[rules]\na = \"1 +\"",
-                "1\ncarte: book refused: not yet\n",
+                "[inputs]\na = \"x\\ny\"",
+                "0\na = \"x\\ny\"\nran 0, given up 0, reused 0\n",
             ),
             (
-                "build b s a",
-                "[rules]\na = \"9223372036854775808\"",
-                "1\ncarte: book refused: not yet\n",
+                "build b s s",
+                BRANCHES,
+                "0\ns = 1\nran 1, given up 0, reused 0\n",
+            ),
+            ("build b s a", BRANCHES, "3\ncarte: dynamic: a\n"),
+            ("build b s r", BRANCHES, "3\ncarte: dynamic: r\n"),
+            ("build b s k", BRANCHES, "3\ncarte: missing: k -> gone\n"),
+            (
+                "build b s k far",
+                BRANCHES,
+                "3\ncarte: dynamic: far -> r\n",
             ),
             (
-                "build b s a",
-                "[rules]\na = 1",
-                "1\ncarte: book refused: not yet\n",
+                "build b s turn mid far",
+                BRANCHES,
+                "3\ncarte: dynamic: far -> r\n",
             ),
             (
-                "build b s a",
-                "[inputs]\na = \"1\"",
-                "1\ncarte: book refused: not yet\n",
-            ),
-            (
-                "build b s a",
-                "[inputs]\nA = 1",
-                "1\ncarte: book refused: not yet\n",
-            ),
-            (
-                "build b s a",
-                "[inputs]\na = 1\n[rules]\na = \"1\"",
-                "1\ncarte: book refused: not yet\n",
-            ),
-            (
-                "build b s a",
-                "[inputs]\na = 1\n[rest]",
-                "1\ncarte: book refused: not yet\n",
-            ),
-            (
-                "build b s a",
-                "inputs = 1",
-                "1\ncarte: book refused: not yet\n",
+                "build b s turn",
+                BRANCHES,
+                "3\ncarte: dynamic: turn -> near -> a\n",
             ),
         ],
     )
@@ -324,7 +370,10 @@ fn a_long_chain_needs_no_stack(rt: HostRuntime) -> Result<(), Fail> {
     );
     let book = chain(alloc, 65537)?;
     let text = shown_of(alloc, "build b s k0", book.as_str())?;
-    assert_eq!(rt; text.as_str(), "1\ncarte: book refused: not yet\n");
+    assert_eq!(rt;
+        text.as_str(),
+        "1\ncarte: book refused: more than 65536 keys\n"
+    );
     Ok(())
 }
 

@@ -1,23 +1,22 @@
-ghost use Rattle.std.specs.Prelude.{◌≡◌, ◌++◌};
-ghost use Rattle.std.specs.BTreeMap.{btree_map_len};
+ghost use Rattle.std.specs.Prelude.{◌≡◌};
 ghost use Rattle.carte_book.specs.Book.{book_view};
-ghost use Rattle.carte_top.specs.Known.{part};
-ghost use Rattle.carte_top.specs.Reply.{target_lines, counts_line};
+ghost use Rattle.carte_top.specs.Replied.{answer_text};
 ghost use Rattle.carte_top.specs.Around.{Says};
 ghost use Rattle.carte_top.specs.Outcome.{IsOutcome, Ran, Built, Ended};
 ghost use Rattle.carte_top.specs.Running.{Parses, Loads, Prints, Answers, Reports, refusal_of, usage_of, unread_of, unparsed_of, is_spoken};
 
 use crate::build::build;
+use crate::evaluate::Evaluated;
 use crate::reply::reply;
 use crate::texts::{line, memory_line};
-use crate::walk::BuildFault;
 use crate::words::{WordsEnd, read_targets};
 use crate::{Status, Word};
-use carte_book::{Book, BookFault, Which, read_rules};
+use carte_book::{Book, BookFault, Which};
 use carte_io::{ReadEnd, Sink, Source, read_whole, write_all};
-use carte_value::{Name, Names, Value};
+use carte_rules::read_rules;
+use carte_topo::PlanFault;
+use carte_value::{Name, Names};
 use std::alloc::Global;
-use std::collections::BTreeMap;
 
 const MOST_BYTES: usize = 16777216;
 
@@ -189,29 +188,29 @@ fn answer<O: Sink>(alloc: Global, book: &Book, targets: &Names, out: &mut O) -> 
         })
         result }
 {
-    match build(alloc, book, targets.as_slice()) {
-        Ok(done) => print(alloc, book, &done, targets.as_slice(), out),
+    match build(alloc, book, targets) {
+        Ok(evaluated) => print(alloc, book, &evaluated, targets.as_slice(), out),
         Err(fault) => refusal(fault),
     }
 }
 
-fn refusal(fault: BuildFault) -> Status
+fn refusal(fault: PlanFault) -> Status
     ensures { result ≡ refusal_of fault }
 {
     match fault {
-        BuildFault::Refused(reason) => Status::BuildRefused(reason),
-        BuildFault::NoMemory => Status::NoMemory,
+        PlanFault::Refused(reason) => Status::BuildRefused(reason),
+        PlanFault::NoMemory => Status::NoMemory,
     }
 }
 
 fn print<O: Sink>(
     alloc: Global,
     book: &Book,
-    done: &BTreeMap<Name, Value>,
+    evaluated: &Evaluated,
     targets: &[Name],
     out: &mut O,
 ) -> Status
-    ensures { Prints (target_lines (part (book_view book.now) done.now) targets.now ++ counts_line (btree_map_len done.now))
+    ensures { Prints (answer_text (book_view book.now) evaluated.now.done evaluated.now.runs targets.now)
         (record {
           tells = O.tells;
           taken = O.taken out.old;
@@ -223,7 +222,7 @@ fn print<O: Sink>(
         })
         result }
 {
-    match reply(alloc, book, done, targets) {
+    match reply(alloc, book, evaluated, targets) {
         Ok(text) => write_whole(out, text.as_str().as_bytes()),
         Err(_) => Status::NoMemory,
     }

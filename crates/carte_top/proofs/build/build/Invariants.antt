@@ -1,8 +1,0 @@
-use Rattle.std.proofs.Common.{ℕ, List, take}
-use Rattle.carte_value.specs.Truths.{Among}
-use Rattle.carte_book.specs.Book.{book_view}
-use Rattle.carte_top.specs.Building.{IsBetween, IsKnownAt}
-use Rattle.carte_top.proofs.build.build.Given as goal
-
-abbrev pub invariant-loop-at : goal.invariant-loop-at
-invariant-loop-at l = IsBetween (book_view l.book) l.targets l.walk.fresh l.walk.path.items l.walk.done × ((k : List ℕ) → Among (take l.at l.targets) k → IsKnownAt (book_view l.book) l.walk.done k)
