@@ -1,0 +1,3 @@
+pub mod Unique
+pub mod Drafts
+pub mod Documents
