@@ -1,9 +1,10 @@
 -- Drafts beside what they hold.
-use Rattle.std.proofs.Common.{◌≡◌, ℕ, ◌+◌, ◌<◌, ◌≤◌, Bool, true, false, cond, ◌||◌, List, [], ◌∷◌, length, Option, Some, None, is_some, refl, ap, sym, ◌∙◌, arith}
+use Rattle.std.proofs.Common.{◌≡◌, ℕ, zero, suc, not, ◌+◌, ◌<◌, ◌≤◌, Bool, true, false, cond, ◌||◌, List, [], ◌∷◌, length, Option, Some, None, is_some, refl, ap, sym, ◌∙◌, arith}
 use Rattle.std.specs.Ordering.{eq_by_cmp}
 use Rattle.std.specs.FinMap.{get, insert, empty, entries, len, get-empty, get-insert, len-empty, len-insert, len-entries}
 use Rattle.std.specs.BTreeSet.{BTreeSet, contains, btree_set_len}
 use Rattle.std.specs.Cmp.{eq_by_cmp_equiv}
+use Rattle.std.proofs.lemmas.Bool.{false≢true}
 use Rattle.std.proofs.lemmas.Cmp.{nat_list_cmp_total}
 use Rattle.std.proofs.lemmas.List.{nil_from_length}
 use Rattle.carte_value.specs.Names.{name_cmp}
@@ -42,10 +43,17 @@ holds_none d is none =
       more = λ p. absurd (omega (arith, none, p));
     }
 
+no_number : (n : ℕ) → ¬ (0 < n) → n ≡ 0
+no_number zero h = refl
+no_number (suc n) h = absurd (h (omega arith))
+
+still_room : {n : ℕ} → 65536 ≤ n → n < 65536 → ⊥
+still_room h g = omega arith
+
 -- one more that the book takes
 pub holds_more : (d e : Draft) (m : Content) (k : List ℕ) (x : Item) → Holds d m → length (entries (items_of d)) < 65536 → items_of e ≡ insert (items_of d) k x → btree_set_len e.beyond ≡ btree_set_len d.beyond → Holds e (insert m k x)
 holds_more d e m k x h room put beside =
-    let none : btree_set_len d.beyond ≡ 0 = omega (arith, h.full) in
+    let none : btree_set_len d.beyond ≡ 0 = no_number (btree_set_len d.beyond) (λ p. still_room (h.full p) room) in
     let none_now : btree_set_len e.beyond ≡ 0 = beside ∙ none in
     let is : items_of e ≡ insert m k x = put ∙ ap (λ (i : Content). insert i k x) (h.all none) in
     let grown : length (entries (items_of e)) ≡ cond (is_some (get (items_of d) k)) (length (entries (items_of d))) (length (entries (items_of d)) + 1) = ap (λ (i : Content). length (entries i)) put ∙ longer (is_some (get (items_of d) k)) (items_of d) k x refl in
@@ -85,3 +93,15 @@ holds_name d e m k x h new full same more has =
       full = λ p. omega (arith, long, full);
       more = λ p. omega (arith, grown, before);
     }
+
+second : (a b : Bool) → (a || b) ≡ false → b ≡ false
+second true b e = absurd (false≢true (sym e))
+second false b e = e
+
+-- what isn't held isn't among the names beyond the book
+pub not_beyond : (d : Draft) (m : Content) (k : List ℕ) → Holds d m → get m k ≡ None → contains name_cmp d.beyond k ≡ false
+not_beyond d m k h new = second (is_some (get (items_of d) k)) (contains name_cmp d.beyond k) (sym (h.names k) ∙ ap is_some new)
+
+-- a set with a key that it hadn't
+pub one_key : (t c : Bool) (n o : ℕ) → n ≡ o + cond t 1 0 → t ≡ not c → c ≡ false → n ≡ o + 1
+one_key t c n o is added absent = rw (added, absent) at is

@@ -75,7 +75,7 @@ impl Draft {
     {
         match self.beyond.insert(name) {
             Ok(_) => Ok(()),
-            Err(_) => Err(NoMemory),
+            Err(refused) => Err(NoMemory::from(refused)),
         }
     }
 

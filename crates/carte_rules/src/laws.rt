@@ -12,7 +12,7 @@ pub fn book_is_unique()
 {}
 
 /// The want of memory is never what bytes are, nor that in reading a formula.
-#[tactic(auto)]
+#[tactic(auto, using(crate::proofs::Causes::of_bytes))]
 pub fn fault_is_of_bytes()
     ensures { (bytes : List ℕ) (fault : BookFault) → BookOf bytes (Err fault) → IsOfBytes fault }
 {}
