@@ -1,0 +1,6 @@
+pub mod Unique
+pub mod Drafts
+pub mod Documents
+pub mod Keys
+pub mod Turns
+pub mod Causes

@@ -1,0 +1,5 @@
+pub mod Tables
+pub mod Reading
+pub mod Steps
+pub mod Drafts
+pub mod Found

@@ -1,0 +1,92 @@
+ghost use Rattle.std.specs.Prelude.{◌≡◌, ◌≤◌, None, is_some, length, IsTrue, OnOk};
+ghost use Rattle.std.specs.FinMap.{empty, get, insert, entries};
+ghost use Rattle.carte_value.specs.declared.kind.Kind.TheVariants.{Rules};
+ghost use Rattle.carte_value.specs.Names.{is_rule_name};
+ghost use Rattle.carte_formula.specs.Code.{tree_of};
+ghost use Rattle.carte_formula.specs.Formula.{IsExpr, HasNames};
+ghost use Rattle.carte_book.specs.Book.{Item, input, rule, book_view};
+ghost use Rattle.carte_rules.specs.Drafts.{Holds, items_of};
+ghost use Rattle.carte_rules.specs.Reading.{Content, book_of};
+ghost use Rattle.carte_rules.specs.Steps.{Gives};
+
+use crate::draft::Draft;
+use carte_book::{Book, BookFault, Looked, Which};
+use carte_formula::Expr;
+use carte_value::{Kind, Name, NoMemory, Value};
+use std::alloc::Global;
+use std::collections::BTreeSet;
+
+const MOST_KEYS: u64 = 65_536;
+
+impl Draft {
+    pub(crate) fn new(alloc: Global) -> Draft
+        ensures { Holds result empty }
+    {
+        Draft {
+            book: Book::new(alloc, Kind::Rules),
+            beyond: BTreeSet::new(alloc),
+        }
+    }
+
+    /// Whether something stands at the name.
+    pub(crate) fn has(&self, name: &Name) -> bool
+        ensures { (m : Content) → Holds self.now m → is_some (get m name.now) ≡ result }
+    {
+        match self.book.lookup(name) {
+            Looked::None => self.beyond.contains(name),
+            _ => true,
+        }
+    }
+
+    /// Puts an input at a name at which nothing stands.
+    pub(crate) fn add_input(&mut self, name: Name, value: Value) -> Result<(), NoMemory>
+        requires { IsTrue (is_rule_name name) }
+        ensures { (m : Content) → Holds self.old m → get m name ≡ None → OnOk result (Holds self.new (insert m name (input value))) }
+    {
+        if self.book.keys() >= MOST_KEYS {
+            return self.add_beyond(name);
+        }
+        match self.book.add_input(name, value) {
+            Ok(()) => Ok(()),
+            Err(_) => Err(NoMemory),
+        }
+    }
+
+    /// Puts a rule at a name at which nothing stands.
+    pub(crate) fn add_rule(&mut self, name: Name, expr: Expr) -> Result<(), NoMemory>
+        requires name { IsTrue (is_rule_name name) }
+        requires formula { IsExpr (tree_of expr) }
+        requires names { HasNames Rules (tree_of expr) }
+        ensures { (m : Content) → Holds self.old m → get m name ≡ None → OnOk result (Holds self.new (insert m name (rule (tree_of expr)))) }
+    {
+        if self.book.keys() >= MOST_KEYS {
+            return self.add_beyond(name);
+        }
+        match self.book.add_rule(name, expr) {
+            Ok(()) => Ok(()),
+            Err(_) => Err(NoMemory),
+        }
+    }
+
+    // Keeps the name of a key for which the book has no room.
+    fn add_beyond(&mut self, name: Name) -> Result<(), NoMemory>
+        requires { 65536 ≤ length (entries (items_of self.old)) }
+        ensures { (m : Content) (x : Item) → Holds self.old m → get m name ≡ None → OnOk result (Holds self.new (insert m name x)) }
+    {
+        match self.beyond.insert(name) {
+            Ok(_) => Ok(()),
+            Err(refused) => Err(NoMemory::from(refused)),
+        }
+    }
+
+    /// The book, where it could take all keys.
+    pub(crate) fn finish(self) -> Result<Book, BookFault>
+        ensures { (m : Content) → Holds self m → Gives book_view (book_of m) result }
+    {
+        if self.beyond.is_empty() {
+            Ok(self.book)
+        } else {
+            Err(BookFault::Limit(Which::Keys, MOST_KEYS))
+        }
+    }
+}

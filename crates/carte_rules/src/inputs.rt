@@ -1,0 +1,57 @@
+ghost use Rattle.std.specs.Prelude.{◌≡◌};
+ghost use Rattle.toml.specs.View.{view, table_view};
+ghost use Rattle.carte_rules.specs.Drafts.{Holds};
+ghost use Rattle.carte_rules.specs.Reading.{Content, input_into, inputs_into, value_of};
+ghost use Rattle.carte_rules.specs.Steps.{Leaves};
+
+use crate::draft::Draft;
+use crate::names::name_at;
+use carte_book::BookFault;
+use carte_value::{Text, Value};
+use std::alloc::Global;
+use toml::Table;
+
+/// Puts all inputs into the draft.
+pub(crate) fn read_inputs(alloc: Global, table: Table, draft: &mut Draft) -> Result<(), BookFault>
+    ensures { (m : Content) → Holds draft.old m → Leaves (inputs_into (table_view table) m) draft.new result }
+{
+    for (key, value) in table {
+        if let Err(fault) = read_input(alloc, key.as_str(), value, draft) {
+            return Err(fault);
+        }
+    }
+    Ok(())
+}
+
+fn read_input(
+    alloc: Global,
+    key: &str,
+    value: toml::Value,
+    draft: &mut Draft,
+) -> Result<(), BookFault>
+    ensures { (m : Content) → Holds draft.old m → Leaves (input_into key.now (view value) m) draft.new result }
+{
+    match name_at(alloc, key, draft) {
+        Ok(name) => match value_of(value) {
+            Some(value) => match draft.add_input(name, value) {
+                Ok(()) => Ok(()),
+                Err(_) => Err(BookFault::NoMemory),
+            },
+            None => Err(BookFault::BadValue(name)),
+        },
+        Err(fault) => Err(fault),
+    }
+}
+
+fn value_of(value: toml::Value) -> Option<Value>
+    ensures { result ≡ value_of (view value) }
+{
+    match value {
+        toml::Value::Integer(number) => Some(Value::Number(number)),
+        toml::Value::String(text) => match Text::made(text) {
+            Some(text) => Some(Value::Text(text)),
+            None => None,
+        },
+        _ => None,
+    }
+}

@@ -1,0 +1,38 @@
+ghost use Rattle.std.specs.Prelude.{◌≡◌, IsTrue, IfOk};
+ghost use Rattle.carte_book.specs.declared.fault.BookFault.TheVariants.{BadName};
+ghost use Rattle.carte_value.specs.Names.{is_rule_name};
+ghost use Rattle.carte_rules.specs.Drafts.{Holds};
+ghost use Rattle.carte_rules.specs.Reading.{Content, name_at};
+ghost use Rattle.carte_rules.specs.Steps.{Gives, IsCause};
+
+use crate::draft::Draft;
+use carte_book::{BookFault, KeyText};
+use carte_value::{Name, NameFault};
+use std::alloc::Global;
+
+/// The name that a key is, where nothing stands at it yet.
+pub(crate) fn name_at(alloc: Global, key: &str, draft: &Draft) -> Result<Name, BookFault>
+    ensures gives { (m : Content) → Holds draft.now m → Gives (λ k. k) (name_at key.now m) result }
+    ensures name { IfOk result (λ k. IsTrue (is_rule_name k)) }
+{
+    match Name::rule(alloc, key) {
+        Ok(name) => {
+            if draft.has(&name) {
+                Err(BookFault::Twice(name))
+            } else {
+                Ok(name)
+            }
+        }
+        Err(NameFault::BadName(_)) => Err(bad_name(alloc, key)),
+        Err(NameFault::NoMemory) => Err(BookFault::NoMemory),
+    }
+}
+
+fn bad_name(alloc: Global, key: &str) -> BookFault
+    ensures { IsCause result → result ≡ BadName key.now }
+{
+    match KeyText::of(alloc, key) {
+        Ok(text) => BookFault::BadName(text),
+        Err(_) => BookFault::NoMemory,
+    }
+}

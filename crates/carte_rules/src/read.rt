@@ -1,0 +1,64 @@
+ghost use Rattle.toml.specs.View.{table_view};
+ghost use Rattle.carte_book.specs.Book.{book_view};
+ghost use Rattle.carte_rules.specs.Found.{tables_view};
+ghost use Rattle.carte_rules.specs.Reading.{Then, InTables, IsRead};
+ghost use Rattle.carte_rules.specs.Steps.{Answers};
+ghost use Rattle.carte_rules.specs.Tables.{tables_into, no_tables};
+
+use crate::draft::Draft;
+use crate::found::{Found, find_tables};
+use crate::inputs::read_inputs;
+use crate::rules::read_formulas;
+use carte_book::{Book, BookFault, Which};
+use std::alloc::Global;
+use toml::Table;
+
+const MOST_BYTES: usize = 16_777_216;
+
+/// Reads a rule file: a TOML document of at most 16,777,216 bytes, whose top keys are at most the tables `inputs`,
+/// of names with integers and texts, and `rules`, of names with formulas, with at most 65,536 keys in all.
+///
+/// The fault is the first of these: `Limit` of bytes; `NotToml`; `BadTable` of the first other top key in byte order,
+/// or that is no table; for each input in byte order `BadName`, then `BadValue` of what is neither an integer nor a
+/// text of at most 65,536 bytes; for each rule in byte order `BadName`, `Twice` where it is an input, `BadValue` of
+/// what is no text, `Formula`; `Limit` of keys.
+pub fn read_rules(alloc: Global, bytes: &[u8]) -> Result<Book, BookFault>
+    ensures { IsRead bytes.now result }
+{
+    if bytes.len() > MOST_BYTES {
+        return Err(BookFault::Limit(Which::Bytes, 16_777_216));
+    }
+    match toml::table_from_slice(alloc, bytes) {
+        Ok(document) => read_document(alloc, document),
+        Err(error) => {
+            if error.is_memory() {
+                Err(BookFault::NoMemory)
+            } else {
+                Err(BookFault::NotToml)
+            }
+        }
+    }
+}
+
+fn read_document(alloc: Global, document: Table) -> Result<Book, BookFault>
+    ensures { Answers (Then (tables_into (table_view document) no_tables) InTables) result }
+{
+    match find_tables(alloc, document) {
+        Ok(found) => read_tables(alloc, found),
+        Err(fault) => Err(fault),
+    }
+}
+
+fn read_tables(alloc: Global, found: Found) -> Result<Book, BookFault>
+    ensures { Answers (InTables (tables_view found)) result }
+{
+    let Found { inputs, rules } = found;
+    let mut draft = Draft::new(alloc);
+    if let Err(fault) = read_inputs(alloc, inputs, &mut draft) {
+        return Err(fault);
+    }
+    match read_formulas(alloc, rules, &mut draft) {
+        Ok(()) => draft.finish(),
+        Err(fault) => Err(fault),
+    }
+}
