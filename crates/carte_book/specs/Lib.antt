@@ -1,3 +1,5 @@
+pub mod Alike
+pub mod Fits
 pub mod Book
 pub mod Needs
 pub mod Reason
