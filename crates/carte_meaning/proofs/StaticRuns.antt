@@ -10,7 +10,7 @@ use Rattle.carte_value.specs.Once.{Answers, answer_in, once}
 use Rattle.carte_formula.specs.Tree.{Tree}
 use Rattle.carte_meaning.specs.Meaning.{asks, eval, fetched}
 use Rattle.carte_meaning.specs.InTurn.{AsksInTurn, Each, HasAll, KnowsAll, until, go_on}
-use Rattle.carte_meaning.specs.Static.{mentions, refs_of, is_static_tree}
+use Rattle.carte_formula.specs.Formula.{mentions, refs_of, is_static_tree}
 use Rattle.carte_meaning.proofs.Turns.{static_in_turn}
 
 -- it ends where each name has a value

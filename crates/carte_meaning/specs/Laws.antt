@@ -8,7 +8,7 @@ use Rattle.carte_value.specs.Once.{Answers, once}
 use Rattle.carte_formula.specs.Tree.{Tree}
 use Rattle.carte_meaning.specs.InTurn.{AsksInTurn, HasAll, KnowsAll, until}
 use Rattle.carte_meaning.specs.Meaning.{asks, eval, fetched}
-use Rattle.carte_meaning.specs.Static.{mentions, refs_of, is_static_tree}
+use Rattle.carte_formula.specs.Formula.{mentions, refs_of, is_static_tree}
 
 -- whatever is answered, a static formula asks for the names that it mentions, in the order of the text
 abbrev pub StaticAsks : Type 0

@@ -6,6 +6,5 @@ pub mod Found
 pub mod Applied
 pub mod Meaning
 pub mod Best
-pub mod Static
 pub mod InTurn
 pub mod Laws

@@ -1,0 +1,4 @@
+pub mod Orders
+pub mod Answers
+pub mod Walk
+pub mod Between
