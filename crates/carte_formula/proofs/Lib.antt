@@ -21,3 +21,4 @@ pub mod Taking
 pub mod Formulas
 pub mod ReadWhole
 pub mod Parts
+pub mod Once

@@ -1,11 +1,12 @@
 -- A chain and its parts.
 use Rattle.std.proofs.Common.{ℕ, List, ◌≡◌, ◌++◌, ◌∙◌, ap, sym, append_assoc, rules, Result, Ok, Err, OnOk}
-use Rattle.carte_formula.specs.Tree.{chain, rank, steps_of}
-use Rattle.carte_formula.specs.Parser.{terms_of}
+use Rattle.carte_formula.specs.Tree.{chain, rank, steps_of, args_of}
+use Rattle.carte_formula.specs.Parser.{terms_of, args_trees}
 use Rattle.carte_formula.specs.declared.expr.Rest.{Rest}
+use Rattle.carte_formula.specs.declared.expr.Args.{Args}
 use Rattle.carte_formula.specs.Print.{tight}
 use Rattle.carte_formula.specs.Printed.{in_brackets, printed, steps_printed}
-use Rattle.carte_formula.specs.Code.{tree_of, chain_tree, rest_steps}
+use Rattle.carte_formula.specs.Code.{tree_of, chain_tree, rest_steps, args_tree}
 use Rattle.carte_formula.specs.declared.expr.Chain.{Chain}
 use Rattle.carte_formula.specs.declared.expr.Arg.{the_lemmas}
 
@@ -25,3 +26,6 @@ chain_printed c n old out is h =
 
 pub rest_out : (r : Rest) → rest_steps r ≡ steps_of (terms_of r.items.items)
 rest_out r = search (rules, the_lemmas)
+
+pub args_out : (a : Args) → args_tree a ≡ args_of (args_trees a.items.items)
+args_out a = search (rules, the_lemmas)

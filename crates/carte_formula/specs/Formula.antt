@@ -47,6 +47,13 @@ abbrev mutual
   IsArg f (one e) = IsExpr e
   IsArg f (cells a) = (takes_ranges f ≡ true) × IsArea a
 
+-- they are arguments of some function
+abbrev pub AreCallArgs : Args → Type 0
+AreCallArgs xs = (f : Func) × AreArgs f xs
+
+abbrev pub IsCallArg : Arg → Type 0
+IsCallArg x = (f : Func) × IsArg f x
+
 abbrev mutual
   -- each reference is a name of the kind
   pub HasNames : Kind → Tree → Type 0

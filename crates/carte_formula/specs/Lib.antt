@@ -12,3 +12,4 @@ pub mod Runs
 pub mod Takes
 pub mod Formula
 pub mod Printed
+pub mod Firsts

@@ -1,6 +1,5 @@
-use Rattle.std.proofs.Common.{ℕ, ◌≡◌, ◌≤◌, ◌-◌, drop, length}
+use Rattle.std.proofs.Common.{◌≡◌, ◌-◌, drop, length}
 use Rattle.carte_formula.specs.Tree.{args_of}
-use Rattle.carte_formula.specs.Code.{args_tree}
 use Rattle.carte_formula.specs.Parser.{args_trees}
 use Rattle.carte_formula.specs.Formula.{args_free, branches_free}
 use Rattle.carte_formula.proofs.fixed.free_branches.Given as goal

@@ -1,4 +1,4 @@
-use Rattle.std.proofs.Common.{ℕ, ◌≡◌, ◌++◌, drop, string_bytes}
+use Rattle.std.proofs.Common.{◌≡◌, ◌++◌, drop, string_bytes}
 use Rattle.carte_formula.specs.Tree.{steps_of, args_of}
 use Rattle.carte_formula.specs.Parser.{terms_of, args_trees}
 use Rattle.carte_formula.specs.Formula.{AreSteps, AreArgs}
