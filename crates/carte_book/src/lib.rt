@@ -18,9 +18,15 @@
 
 mod access;
 mod book;
+mod digest;
+mod edits;
+mod fault;
+mod key_text;
 mod laws;
 mod reason;
 
 pub use book::{Book, Item, Looked};
-pub use laws::{clean_is_settled, clean_or_refused, reason_is_unique};
+pub use fault::{AddFault, BookFault, SetFault, Which};
+pub use key_text::KeyText;
+pub use laws::{clean_is_settled, clean_or_refused, one_digest, reason_is_unique};
 pub use reason::Reason;

@@ -1,0 +1,86 @@
+ghost use Rattle.std.specs.Prelude.{◌≡◌, IsTrue};
+ghost use Rattle.carte_value.specs.Kinds.{is_name_of};
+ghost use Rattle.carte_formula.specs.Code.{tree_of};
+ghost use Rattle.carte_formula.specs.Formula.{IsExpr, HasNames};
+ghost use Rattle.carte_book.specs.Fits.{FitsItem};
+ghost use Rattle.carte_book.specs.Book.{book_view, item_view, input, rule};
+ghost use Rattle.carte_book.specs.Edits.{keys_of, Adds, IsInput, Sets};
+
+use crate::{AddFault, Book, Item, Looked, SetFault};
+use carte_formula::Expr;
+use carte_value::{Name, Value};
+
+/// As many names as a book has at most.
+const MOST_KEYS: u64 = 65_536;
+
+impl Book {
+    /// How many inputs and rules it holds. It takes no memory.
+    pub fn keys(&self) -> u64
+        ensures { result ≡ keys_of (book_view self.now) }
+    {
+        self.items.len() as u64
+    }
+
+    /// Puts an input at a name of the book's kind that it hasn't yet. After a fault the book is as before.
+    pub fn add_input(&mut self, name: Name, value: Value) -> Result<(), AddFault>
+        requires { IsTrue (is_name_of (book_view self.old).kind name) }
+        ensures { Adds (book_view self.old) (book_view self.new) name (input value) result }
+    {
+        self.add(name, Item::Input(value))
+    }
+
+    /// Puts a rule at a name of the book's kind that it hasn't yet. After a fault the book is as before.
+    pub fn add_rule(&mut self, name: Name, expr: Expr) -> Result<(), AddFault>
+        requires name { IsTrue (is_name_of (book_view self.old).kind name) }
+        requires formula { IsExpr (tree_of expr) }
+        requires names { HasNames (book_view self.old).kind (tree_of expr) }
+        ensures { Adds (book_view self.old) (book_view self.new) name (rule (tree_of expr)) result }
+    {
+        self.add(name, Item::Rule(expr))
+    }
+
+    fn add(&mut self, name: Name, item: Item) -> Result<(), AddFault>
+        requires name { IsTrue (is_name_of (book_view self.old).kind name) }
+        requires item { FitsItem (book_view self.old).kind item }
+        ensures { Adds (book_view self.old) (book_view self.new) name (item_view item) result }
+    {
+        if self.has(&name) {
+            return Err(AddFault::Twice);
+        }
+        if self.keys() >= MOST_KEYS {
+            return Err(AddFault::Limit);
+        }
+        match self.put(name, item) {
+            Ok(()) => Ok(()),
+            Err(_) => Err(AddFault::NoMemory),
+        }
+    }
+    /// Gives an input, or a cell that holds nothing yet, another value. After a fault the book is as before.
+    pub fn set(&mut self, name: &Name, value: Value) -> Result<(), SetFault>
+        requires { IsTrue (is_name_of (book_view self.old).kind name.now) }
+        ensures { Sets (book_view self.old) (book_view self.new) name.now value result }
+    {
+        match self.lookup(name) {
+            Looked::Input(_) => self.put_input(name, value),
+            Looked::Rule(_) => Err(SetFault::NotInput),
+            Looked::None => Err(SetFault::NoSuchName),
+        }
+    }
+
+    fn put_input(&mut self, name: &Name, value: Value) -> Result<(), SetFault>
+        requires name { IsTrue (is_name_of (book_view self.old).kind name.now) }
+        requires input { IsInput (book_view self.old) name.now }
+        ensures { Sets (book_view self.old) (book_view self.new) name.now value result }
+    {
+        if !self.has(name) && self.keys() >= MOST_KEYS {
+            return Err(SetFault::Limit);
+        }
+        match name.copy(self.alloc) {
+            Ok(name) => match self.put(name, Item::Input(value)) {
+                Ok(()) => Ok(()),
+                Err(_) => Err(SetFault::NoMemory),
+            },
+            Err(_) => Err(SetFault::NoMemory),
+        }
+    }
+}
