@@ -18,5 +18,7 @@
 
 mod paths;
 mod search;
+#[cfg(test)]
+mod tests;
 
 pub use paths::dynamic_path;

@@ -1,13 +1,11 @@
-ghost use Rattle.std.specs.Prelude.{◌≡◌, IfOk};
-ghost use Rattle.carte_formula.specs.Code.{tree_of};
-ghost use Rattle.carte_formula.specs.Formula.{refs_of};
+ghost use Rattle.std.specs.Prelude.{IfOk};
 ghost use Rattle.carte_book.specs.Book.{book_view};
 ghost use Rattle.carte_book.specs.Needs.{IsRule};
 ghost use Rattle.carte_dynamic.specs.Search.{IsDynamicAnswer, AreRefs};
 
 use crate::search::Search;
 use carte_book::{Book, Looked};
-use carte_formula::{Expr, is_static};
+use carte_formula::{is_static, refs};
 use carte_value::{Name, Names, NoMemory};
 use std::alloc::Global;
 
@@ -17,7 +15,7 @@ use std::alloc::Global;
 pub fn dynamic_path(alloc: Global, book: &Book, targets: &[Name]) -> Result<Option<Names>, NoMemory>
     ensures { IfOk result (IsDynamicAnswer (book_view book.now) targets.now) }
 {
-    let mut search = Search::over(book.rule_names(alloc)?, alloc);
+    let mut search = Search::over(alloc, book.rule_names(alloc)?);
     search.meet(alloc, targets, None)?;
     let mut at = 0;
     'rules: while at < search.met.len() {
@@ -36,14 +34,8 @@ fn static_refs(alloc: Global, book: &Book, name: &Name) -> Result<Option<Names>,
     ensures { IfOk result (AreRefs (book_view book.now) name.now) }
 {
     match book.lookup(name) {
-        Looked::Rule(formula) if is_static(formula) => Ok(Some(references(alloc, formula)?)),
+        Looked::Rule(formula) if is_static(formula) => Ok(Some(refs(alloc, formula)?)),
         Looked::Rule(_) => Ok(None),
         _ => unreachable!(),
     }
-}
-
-fn references(_alloc: Global, _formula: &Expr) -> Result<Names, NoMemory>
-    ensures { IfOk result (λ ks. ks ≡ refs_of (tree_of _formula.now)) }
-{
-    Err(NoMemory)
 }

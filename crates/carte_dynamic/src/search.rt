@@ -20,7 +20,8 @@ pub(crate) struct Search {
 }
 
 impl Search {
-    pub(crate) fn over(fresh: BTreeSet<Name>, alloc: Global) -> Search
+    /// Before anything was met.
+    pub(crate) fn over(alloc: Global, fresh: BTreeSet<Name>) -> Search
         ensures fresh { result.fresh ≡ fresh }
         ensures met { result.met.items ≡ [] }
     {
@@ -68,6 +69,7 @@ impl Search {
         Ok(next)
     }
 
+    // Where the name is fresh, it goes over to the next ones.
     fn pick_one(&mut self, name: &Name, next: &mut BTreeSet<Name>) -> Result<(), NoMemory>
         ensures picks { OnOk result (PicksOne self.old.fresh self.new.fresh next.old next.new name.now) }
         ensures met { self.new.met ≡ self.old.met }
@@ -110,10 +112,9 @@ impl Search {
 }
 
 /// The names from the last to the first.
-fn turned(alloc: Global, names: Vec<Name>) -> Result<Names, NoMemory>
+fn turned(alloc: Global, mut names: Vec<Name>) -> Result<Names, NoMemory>
     ensures { IfOk result (λ path. path ≡ unwound names.items []) }
 {
-    let mut names = names;
     let mut path = Names::new(alloc);
     'turns: while let Some(name) = names.pop() {
         path.push(name)?;
