@@ -3,3 +3,4 @@ pub mod Reasons
 pub mod Books
 pub mod RuleNames
 pub mod Fitting
+pub mod Digests

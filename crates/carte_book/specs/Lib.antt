@@ -6,3 +6,4 @@ pub mod Reason
 pub mod Dynamic
 pub mod Looked
 pub mod Edits
+pub mod Digest

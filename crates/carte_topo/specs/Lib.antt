@@ -1,4 +1,3 @@
 pub mod Orders
-pub mod Answers
 pub mod Walk
 pub mod Between

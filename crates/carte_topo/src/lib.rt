@@ -23,7 +23,6 @@
 //! inputs and of what was done when it began to wait.
 #![tactic(auto)]
 
-mod dynamic;
 mod plan;
 #[cfg(test)]
 mod tests;

@@ -3,9 +3,9 @@ ghost use Rattle.carte_book.specs.Book.{book_view};
 ghost use Rattle.carte_topo.specs.Orders.{Orders};
 ghost use Rattle.carte_topo.specs.Between.{Walks, IsStop};
 
-use crate::dynamic::dynamic_path;
 use crate::walk::{Stop, Walk};
 use carte_book::{Book, Reason};
+use carte_dynamic::dynamic_path;
 use carte_value::{Name, Names, NoMemory};
 use indexmap::IndexSet;
 use std::alloc::Global;
