@@ -1,6 +1,7 @@
 // Laws of the definitions, each as the contract of a function that does nothing.
 ghost use Rattle.std.specs.Prelude.{◌≡◌, ℕ, List};
 ghost use Rattle.carte_book.specs.Book.{Book, settled, clean};
+ghost use Rattle.carte_book.specs.Digest.{OneDigest};
 ghost use Rattle.carte_book.specs.Reason.{AllClean, IsReason};
 ghost use Rattle.carte_book.specs.declared.reason.Reason.{Reason};
 
@@ -20,4 +21,9 @@ pub fn reason_is_unique()
 #[tactic(auto, using(crate::proofs::Reasons::no_reason))]
 pub fn clean_or_refused()
     ensures { (b : Book) (targets : List (List ℕ)) (reason : Reason) → IsReason b targets reason → AllClean b targets → ⊥ }
+{}
+
+/// Books of one kind with the same rules have one digest, whatever texts their formulas were read from.
+pub fn one_digest()
+    ensures { OneDigest }
 {}

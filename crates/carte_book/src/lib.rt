@@ -18,6 +18,7 @@
 
 mod access;
 mod book;
+mod digest;
 mod edits;
 mod fault;
 mod key_text;
@@ -27,5 +28,5 @@ mod reason;
 pub use book::{Book, Item, Looked};
 pub use fault::{AddFault, BookFault, SetFault, Which};
 pub use key_text::KeyText;
-pub use laws::{clean_is_settled, clean_or_refused, reason_is_unique};
+pub use laws::{clean_is_settled, clean_or_refused, one_digest, reason_is_unique};
 pub use reason::Reason;

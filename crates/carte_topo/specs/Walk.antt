@@ -1,0 +1,132 @@
+-- The ordering walk: its state, and what one turn does to it.
+use Rattle.std.specs.Prelude.{ℕ, ◌≡◌, ◌≤◌, ◌+◌, ◌⊎◌, Bool, true, false, List, [], ◌∷◌, map, length, take, slice_get, Option, Some, None, Result, Ok, Err, if◌then◌else◌}
+use Rattle.std.specs.List.{list_any}
+use Rattle.std.specs.BTreeSet.{BTreeSet, contains}
+use Rattle.std.specs.Ordering.{eq_by_cmp}
+use Rattle.indexmap.specs.IndexSet.{insert_key}
+use Rattle.carte_value.specs.Names.{name_cmp, name_eq}
+use Rattle.carte_value.specs.Truths.{Truth}
+use Rattle.carte_formula.specs.Tree.{Tree}
+use Rattle.carte_formula.specs.Formula.{refs_of, is_static_tree}
+use Rattle.carte_meaning.specs.InTurn.{Each}
+use Rattle.carte_book.specs.declared.reason.Reason.{Reason}
+use Rattle.carte_book.specs.declared.reason.Reason.TheVariants.{Cycle, Missing, Dynamic}
+use Rattle.carte_book.specs.Book.{Item, input, rule, Book, content, clean}
+use Rattle.carte_book.specs.Needs.{IsRule}
+use Rattle.carte_book.specs.Dynamic.{IsDynamicRule}
+use Rattle.carte_topo.specs.declared.walk.Frame.{Frame}
+use Rattle.carte_topo.specs.declared.walk.Stop.{Stop}
+use Rattle.carte_topo.specs.declared.walk.Stop.TheVariants.{Refused, NoMemory, Dynamic as MetDynamic}
+
+abbrev pub Fresh : Type 0
+Fresh = BTreeSet (List ℕ)
+
+-- the newest first
+abbrev pub Path : Type 0
+Path = List Frame
+
+-- the rules that are done, in order
+abbrev pub Done : Type 0
+Done = List (List ℕ)
+
+abbrev pub has : Done → List ℕ → Bool
+has done k = list_any (name_eq k) done
+
+abbrev pub ready_at : Option Item → Bool → Bool
+ready_at None d = false
+ready_at (Some (input v)) d = true
+ready_at (Some (rule e)) d = d
+
+-- an input, or a rule that is done
+abbrev pub is_ready : Book → Done → List ℕ → Bool
+is_ready b done k = ready_at (content b k) (has done k)
+
+abbrev pub AllReady : Book → Done → List (List ℕ) → Type 0
+AllReady b done ks = Each (λ k. is_ready b done k ≡ true) ks
+
+-- the clean values of what is ready
+abbrev pub part : Book → Done → Truth
+part b done k = if is_ready b done k then clean b k else None
+
+-- all names before the place are ready, and the one at it isn't, if there is one
+pub record OpensAt (b : Book) (done : Done) (ks : List (List ℕ)) (at : ℕ) : Type 0 where
+  pub within : at ≤ length ks
+  pub before : AllReady b done (take at ks)
+  pub open_there : (k : List ℕ) → slice_get ks at ≡ Some k → is_ready b done k ≡ false
+
+abbrev pub names : Path → List (List ℕ)
+names p = map (λ f. f.name) p
+
+-- the names from the oldest on, and then these
+abbrev pub unwound : List (List ℕ) → List (List ℕ) → List (List ℕ)
+unwound [] ks = ks
+unwound (j ∷ js) ks = unwound js (j ∷ ks)
+
+abbrev pub Takes : Fresh → Fresh → List ℕ → Type 0
+Takes old new k = (q : List ℕ) → contains name_cmp new q ≡ (if eq_by_cmp name_cmp k q then false else contains name_cmp old q)
+
+-- a static rule that wasn't met before is put on the path
+pub record Entered (b : Book) (fresh fresh' : Fresh) (path path' : Path) (k : List ℕ) : Type 0 where
+  pub formula : Tree
+  pub is_rule : content b k ≡ Some (rule formula)
+  pub is_static : is_static_tree formula ≡ true
+  pub was_fresh : contains name_cmp fresh k ≡ true
+  pub takes : Takes fresh fresh' k
+  pub fewer : length fresh'.keys + 1 ≡ length fresh.keys
+  pub on_path : path' ≡ record { name = k; refs = refs_of formula; at = 0 } ∷ path
+
+-- a name with nothing, or a rule that is neither fresh nor done, ends the walk
+abbrev pub Closes : Book → Fresh → List (List ℕ) → List ℕ → Reason → Type 0
+Closes b fresh js k (Missing path) = (content b k ≡ None) × (path ≡ unwound js (k ∷ []))
+Closes b fresh js k (Cycle path) = IsRule b k × (contains name_cmp fresh k ≡ false) × (path ≡ unwound js (k ∷ []))
+Closes b fresh js k (Dynamic path) = ⊥
+
+abbrev pub Enters : Book → Fresh → Fresh → Path → Path → List ℕ → Result (Unit {0}) Stop → Type 0
+Enters b fresh fresh' path path' k (Ok u) = Entered b fresh fresh' path path' k
+Enters b fresh fresh' path path' k (Err NoMemory) = Unit {0}
+Enters b fresh fresh' path path' k (Err MetDynamic) = IsDynamicRule b k
+Enters b fresh fresh' path path' k (Err (Refused reason)) = Closes b fresh (names path) k reason
+
+-- a frame's static rule, whose references before its place are ready
+pub record Stands (b : Book) (done : Done) (f : Frame) : Type 0 where
+  pub formula : Tree
+  pub is_rule : content b f.name ≡ Some (rule formula)
+  pub is_static : is_static_tree formula ≡ true
+  pub of_formula : f.refs ≡ refs_of formula
+  pub within : f.at ≤ length f.refs
+  pub before : AllReady b done (take f.at f.refs)
+
+-- the newest rule is done
+pub record Finishes (b : Book) (done done' : Done) (f : Frame) : Type 0 where
+  pub formula : Tree
+  pub is_rule : content b f.name ≡ Some (rule formula)
+  pub is_static : is_static_tree formula ≡ true
+  pub ready : AllReady b done (refs_of formula)
+  pub puts : done' ≡ insert_key name_eq done f.name
+
+-- the newest rule waits for its first reference that isn't ready
+pub record Waits (b : Book) (done : Done) (f : Frame) (at : ℕ) (k : List ℕ) : Type 0 where
+  pub formula : Tree
+  pub is_rule : content b f.name ≡ Some (rule formula)
+  pub is_static : is_static_tree formula ≡ true
+  pub of_formula : f.refs ≡ refs_of formula
+  pub opens : OpensAt b done f.refs at
+  pub here : slice_get f.refs at ≡ Some k
+
+-- either it is done, or the rule for which it waits is entered
+abbrev pub Turned : Book → Fresh → Fresh → Path → Path → Done → Done → Frame → Type 0
+Turned b fresh fresh' rest path' done done' f =
+    (Finishes b done done' f × (path' ≡ rest) × (fresh' ≡ fresh))
+    ⊎ ((at : ℕ) × (k : List ℕ) × Waits b done f at k × Entered b fresh fresh' (record { name = f.name; refs = f.refs; at = at } ∷ rest) path' k × (done' ≡ done))
+
+abbrev pub Turns : Book → Fresh → Fresh → Path → Path → Done → Done → Frame → Result (Unit {0}) Stop → Type 0
+Turns b fresh fresh' rest path' done done' f (Ok u) = Turned b fresh fresh' rest path' done done' f
+Turns b fresh fresh' rest path' done done' f (Err NoMemory) = Unit {0}
+Turns b fresh fresh' rest path' done done' f (Err MetDynamic) = (at : ℕ) × (k : List ℕ) × Waits b done f at k × IsDynamicRule b k
+Turns b fresh fresh' rest path' done done' f (Err (Refused reason)) = (at : ℕ) × (k : List ℕ) × Waits b done f at k × Closes b fresh (f.name ∷ names rest) k reason
+
+-- a stop for a reason has one that is so, and a stop at a dynamic rule comes only where this holds
+abbrev pub Refuses : Stop → Type 0 → (Reason → Type 0) → Type 0
+Refuses NoMemory D P = Unit {0}
+Refuses MetDynamic D P = D
+Refuses (Refused reason) D P = P reason

@@ -1,0 +1,219 @@
+ghost use Rattle.std.specs.Prelude.{◌≡◌, ◌<◌, ◌≤◌, ◌∷◌, ◌++◌, [], ℕ, List, length, take, slice_get, Some, true, false, IfOk, IfErr, OnOk};
+ghost use Rattle.indexmap.specs.IndexSet.{insert_key};
+ghost use Rattle.carte_value.specs.Names.{name_eq};
+ghost use Rattle.carte_formula.specs.Code.{tree_of};
+ghost use Rattle.carte_book.specs.Book.{rule, book_view, content};
+ghost use Rattle.carte_book.specs.declared.reason.Reason.TheVariants.{Cycle, Missing};
+ghost use Rattle.carte_topo.specs.Walk.{is_ready, AllReady, OpensAt, names, unwound, Refuses, Enters, Turns, Stands};
+ghost use Rattle.carte_topo.specs.Between.{IsBetween, Reaching};
+
+use carte_book::{Book, Looked, Reason};
+use carte_formula::{is_static, refs};
+use carte_value::{Name, Names, NoMemory};
+use indexmap::IndexSet;
+use std::alloc::Global;
+use std::collections::{BTreeSet, VecDeque};
+
+/// A rule that waits for another: its references, and the place of the one that it waits for.
+#[derive(Drop)]
+pub(crate) struct Frame {
+    pub(crate) name: Name,
+    pub(crate) refs: Names,
+    pub(crate) at: usize,
+}
+
+/// Why a walk ended before its end. `Dynamic` says that a dynamic rule was met.
+#[derive(Drop)]
+pub(crate) enum Stop {
+    Refused(Reason),
+    Dynamic,
+    NoMemory,
+}
+
+/// The walk that orders the rules: each rule is first fresh, then on the path, then done.
+#[derive(Drop)]
+pub(crate) struct Walk {
+    pub(crate) fresh: BTreeSet<Name>,
+    /// Its newest rule stands first.
+    pub(crate) path: VecDeque<Frame>,
+    /// In the order in which they were done.
+    pub(crate) done: IndexSet<Name>,
+}
+
+impl Walk {
+    /// Orders what a target needs, and the target.
+    pub(crate) fn reach(
+        &mut self,
+        alloc: Global,
+        book: &Book,
+        targets: &[Name],
+        at: usize,
+    ) -> Result<(), Stop>
+        requires within { at < length targets.now }
+        requires between { IsBetween (book_view book.now) targets.now self.old.fresh self.old.path.items self.old.done.keys }
+        ensures { (goal : List ℕ) → slice_get targets.now at ≡ Some goal
+            → Reaching (book_view book.now) targets.now goal self.new.fresh self.new.path.items self.old.done.keys self.new.done.keys result }
+    {
+        let target = &targets[at];
+        if self.is_ready(book, target) {
+            return Ok(());
+        }
+        match target.copy(alloc) {
+            Ok(target) => {
+                if let Err(stop) = self.enter(alloc, book, target) {
+                    return Err(stop);
+                }
+            }
+            Err(_) => return Err(Stop::NoMemory),
+        }
+        'turns: while let Some(frame) = self.path.pop_front() {
+            if let Err(stop) = self.turn(alloc, book, frame) {
+                return Err(stop);
+            }
+        }
+        Ok(())
+    }
+
+    // Whether rules may use the name by now: it is an input, or a rule that is done.
+    fn is_ready(&self, book: &Book, name: &Name) -> bool
+        ensures { result ≡ is_ready (book_view book.now) self.now.done.keys name.now }
+    {
+        match book.lookup(name) {
+            Looked::Input(_) => true,
+            Looked::Rule(_) => self.done.contains(name),
+            Looked::None => false,
+        }
+    }
+
+    /// Puts a rule that isn't done on the path.
+    fn enter(&mut self, alloc: Global, book: &Book, name: Name) -> Result<(), Stop>
+        requires { is_ready (book_view book.now) self.old.done.keys name ≡ false }
+        ensures enters { Enters (book_view book.now) self.old.fresh self.new.fresh self.old.path.items self.new.path.items name result }
+        ensures done { self.new.done ≡ self.old.done }
+    {
+        match book.lookup(&name) {
+            Looked::None => Err(self.missing(alloc, name)),
+            Looked::Rule(formula) => {
+                if !self.fresh.remove(&name) {
+                    return Err(self.cycle(alloc, name));
+                }
+                if !is_static(formula) {
+                    return Err(Stop::Dynamic);
+                }
+                match refs(alloc, formula) {
+                    Ok(refs) => self.push(Frame { name, refs, at: 0 }),
+                    Err(_) => Err(Stop::NoMemory),
+                }
+            }
+            Looked::Input(_) => unreachable!(),
+        }
+    }
+
+    fn push(&mut self, frame: Frame) -> Result<(), Stop>
+        ensures path { OnOk result (self.new.path.items ≡ frame ∷ self.old.path.items) }
+        ensures never { IfErr result (λ stop. Refuses stop ⊥ (λ reason. ⊥)) }
+        ensures fresh { self.new.fresh ≡ self.old.fresh }
+        ensures done { self.new.done ≡ self.old.done }
+    {
+        match self.path.push_front(frame) {
+            Ok(()) => Ok(()),
+            Err(_) => Err(Stop::NoMemory),
+        }
+    }
+
+    // The path ends with a name that has nothing.
+    fn missing(&mut self, alloc: Global, name: Name) -> Stop
+        ensures path { Refuses result ⊥ (λ reason. reason ≡ Missing (unwound (names self.old.path.items) (name ∷ []))) }
+        ensures done { self.new.done ≡ self.old.done }
+    {
+        match self.unwind(alloc, name) {
+            Ok(path) => Stop::Refused(Reason::Missing(path)),
+            Err(_) => Stop::NoMemory,
+        }
+    }
+
+    // The path ends with a name that stands on it already.
+    fn cycle(&mut self, alloc: Global, name: Name) -> Stop
+        ensures path { Refuses result ⊥ (λ reason. reason ≡ Cycle (unwound (names self.old.path.items) (name ∷ []))) }
+        ensures done { self.new.done ≡ self.old.done }
+    {
+        match self.unwind(alloc, name) {
+            Ok(path) => Stop::Refused(Reason::Cycle(path)),
+            Err(_) => Stop::NoMemory,
+        }
+    }
+
+    // The names of the path from the oldest on, and then the last.
+    fn unwind(&mut self, alloc: Global, last: Name) -> Result<Names, NoMemory>
+        ensures names { IfOk result (λ ks. ks ≡ unwound (names self.old.path.items) (last ∷ [])) }
+        ensures done { self.new.done ≡ self.old.done }
+    {
+        let mut path = Names::new(alloc);
+        while let Some(frame) = self.path.pop_back() {
+            let Frame { name, .. } = frame;
+            if let Err(refused) = path.push(name) {
+                return Err(refused);
+            }
+        }
+        match path.push(last) {
+            Ok(()) => Ok(path),
+            Err(refused) => Err(refused),
+        }
+    }
+
+    /// One turn for the newest rule, which was taken off the path: it goes back with the rule that it waits
+    /// for on it, or is done.
+    fn turn(&mut self, alloc: Global, book: &Book, frame: Frame) -> Result<(), Stop>
+        requires { Stands (book_view book.now) self.old.done.keys frame }
+        ensures { Turns (book_view book.now) self.old.fresh self.new.fresh self.old.path.items self.new.path.items self.old.done.keys self.new.done.keys frame result }
+    {
+        let Frame { name, refs, at } = frame;
+        let at = self.first_open(book, &refs, at);
+        match refs.get(at) {
+            None => self.finish(name),
+            Some(need) => match need.copy(alloc) {
+                Ok(need) => self.wait(alloc, book, Frame { name, refs, at }, need),
+                Err(_) => Err(Stop::NoMemory),
+            },
+        }
+    }
+
+    // The place of the first reference that isn't ready, or how many references there are.
+    fn first_open(&self, book: &Book, refs: &Names, from: usize) -> usize
+        requires within { from ≤ length refs.now }
+        requires before { AllReady (book_view book.now) self.now.done.keys (take from refs.now) }
+        ensures { OpensAt (book_view book.now) self.now.done.keys refs.now result }
+    {
+        let refs = refs.as_slice();
+        for at in from..refs.len() {
+            if !self.is_ready(book, &refs[at]) {
+                return at;
+            }
+        }
+        refs.len()
+    }
+
+    // The rule goes back on the path, and the one that it needs goes on top.
+    fn wait(&mut self, alloc: Global, book: &Book, frame: Frame, need: Name) -> Result<(), Stop>
+        requires { is_ready (book_view book.now) self.old.done.keys need ≡ false }
+        ensures enters { Enters (book_view book.now) self.old.fresh self.new.fresh (frame ∷ self.old.path.items) self.new.path.items need result }
+        ensures done { self.new.done ≡ self.old.done }
+    {
+        match self.push(frame) {
+            Ok(()) => self.enter(alloc, book, need),
+            Err(stop) => Err(stop),
+        }
+    }
+
+    fn finish(&mut self, name: Name) -> Result<(), Stop>
+        ensures done { OnOk result (self.new.done.keys ≡ insert_key name_eq self.old.done.keys name) }
+        ensures never { IfErr result (λ stop. Refuses stop ⊥ (λ reason. ⊥)) }
+        ensures fresh { self.new.fresh ≡ self.old.fresh }
+        ensures path { self.new.path ≡ self.old.path }
+    {
+        match self.done.insert(name) {
+            Ok(_) => Ok(()),
+            Err(_) => Err(Stop::NoMemory),
+        }
+    }
+}
