@@ -28,5 +28,8 @@ mod reason;
 pub use book::{Book, Item, Looked};
 pub use fault::{AddFault, BookFault, SetFault, Which};
 pub use key_text::KeyText;
-pub use laws::{clean_is_settled, clean_or_refused, one_digest, reason_is_unique};
+pub use laws::{
+    clean_is_evaluated, clean_is_settled, clean_or_refused, one_digest, order_clean_or_refused,
+    order_reason_is_unique, reason_is_unique,
+};
 pub use reason::Reason;
