@@ -1,11 +1,14 @@
 // Laws of the definitions, each as the contract of a function that does nothing.
-ghost use Rattle.std.specs.Prelude.{◌≡◌, ℕ, List, Some};
+ghost use Rattle.std.specs.Prelude.{◌≡◌, ℕ, List, Some, if◌then◌else◌};
+ghost use Rattle.std.specs.Ordering.{eq_by_cmp};
 ghost use Rattle.std.specs.Result.{result_ok};
+ghost use Rattle.carte_value.specs.Names.{name_cmp};
 ghost use Rattle.carte_formula.specs.Tree.{Tree};
 ghost use Rattle.carte_meaning.specs.Meaning.{eval};
-ghost use Rattle.carte_book.specs.Book.{Book, rule, content, settled, clean};
+ghost use Rattle.carte_book.specs.Book.{Item, Book, rule, content, settled, clean};
 ghost use Rattle.carte_book.specs.Digest.{OneDigest};
 ghost use Rattle.carte_book.specs.Dynamic.{NoDynamicPath, IsOrderReason};
+ghost use Rattle.carte_book.specs.Edits.{with_item};
 ghost use Rattle.carte_book.specs.Reason.{AllClean, IsReason};
 ghost use Rattle.carte_book.specs.declared.reason.Reason.{Reason};
 
@@ -13,6 +16,12 @@ ghost use Rattle.carte_book.specs.declared.reason.Reason.{Reason};
 
 pub fn clean_is_settled()
     ensures { (b : Book) → settled b (clean b) ≡ clean b }
+{}
+
+/// What was put at a name stands there, and all else is as before.
+#[tactic(auto, using(crate::proofs::Books::item_put))]
+pub fn put_stands()
+    ensures { (b : Book) (k : List ℕ) (x : Item) (q : List ℕ) → content (with_item b k x) q ≡ (if eq_by_cmp name_cmp q k then Some x else content b q) }
 {}
 
 /// Targets have one reason for a refusal at most.
