@@ -12,8 +12,8 @@ use Rattle.std.proofs.lemmas.Cmp.{nat_list_cmp_total}
 use Rattle.carte_value.specs.Names.{name_cmp}
 use Rattle.carte_book.specs.declared.book.Item.{Item as CodeItem}
 use Rattle.carte_book.specs.declared.book.Book.{Book as CodeBook}
-use Rattle.carte_book.specs.Book.{Item, item_view, entries_view, book_view}
-use Rattle.carte_book.specs.Edits.{keys_of as keys_of_book}
+use Rattle.carte_book.specs.Book.{Item, Book, default_of, or_default, content, item_view, entries_view, book_view}
+use Rattle.carte_book.specs.Edits.{keys_of as keys_of_book, with_item}
 
 abbrev pub Map : Type 0
 Map = BTreeMap (List ℕ) CodeItem
@@ -77,3 +77,11 @@ length_view (e ∷ es) = ap suc (length_view es)
 -- as many of them
 pub keys_held : (b : CodeBook) → tree.IsOrdered name_cmp b.items → keys_of_book (book_view b) ≡ length b.items.entries
 keys_held b ordered = ap length (entries_held b ordered) ∙ length_view b.items.entries
+
+chosen : (t : Bool) (x : Item) (o d : Option Item) → or_default (cond t (Some x) o) d ≡ cond t (Some x) (or_default o d)
+chosen true x o d = refl
+chosen false x o d = refl
+
+-- what was put at a name stands there, and all else is as before
+pub item_put : (b : Book) (k : List ℕ) (x : Item) (q : List ℕ) → content (with_item b k x) q ≡ cond (eq_by_cmp name_cmp q k) (Some x) (content b q)
+item_put b k x q = ap (λ o. or_default o (default_of b.kind q)) (get-insert nat_list_cmp_total b.items k x q) ∙ chosen (eq_by_cmp name_cmp q k) x (get b.items q) (default_of b.kind q)

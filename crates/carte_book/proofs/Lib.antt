@@ -4,3 +4,4 @@ pub mod Books
 pub mod RuleNames
 pub mod Fitting
 pub mod Digests
+pub mod Orders
