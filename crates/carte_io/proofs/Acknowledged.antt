@@ -36,3 +36,24 @@ pub steps_stand : {A : Type 0} (At : A → List ℕ → Type 0) (a : A) (front b
     → StepsThrough At a (front ++ back) s t → StandsFrom At (last_of a front) back t
 steps_stand At a [] back s t settled steps = record { mid = s; settled = settled; later = steps_leave At a back s t steps }
 steps_stand At a (b ∷ front) back s t settled (mid, (leaves, (there, rest))) = steps_stand At b front back mid t there rest
+
+one_of_more : {A : Type 0} (At : A → List ℕ → Type 0) (a b : A) (bs : List A) (c : List ℕ) → IsAtOneOf At a bs c → IsAtOneOf At a (bs ++ b ∷ []) c
+one_of_more At a b [] c at = inl at
+one_of_more At a b (x ∷ xs) c (inl at) = inl at
+one_of_more At a b (x ∷ xs) c (inr at) = inr (one_of_more At x b xs c at)
+
+last_of_more : {A : Type 0} (At : A → List ℕ → Type 0) (a b : A) (bs : List A) (c : List ℕ) → At (last_of a bs) c ⊎ At b c
+    → IsAtOneOf At a (bs ++ b ∷ []) c
+last_of_more At a b [] c at = at
+last_of_more At a b (x ∷ xs) c at = inr (last_of_more At x b xs c at)
+
+-- also while one more step is made, whether it ends or not
+pub stands_more : {A : Type 0} (At : A → List ℕ → Type 0) (a b : A) (bs : List A) (mid t : Story) → StandsFrom At a bs mid
+    → LeavesOnly mid t (λ file. At (last_of a bs) file ⊎ At b file) → StandsFrom At a (bs ++ b ∷ []) t
+stands_more At a b bs mid t so leaves = record {
+  mid = so.mid;
+  settled = so.settled;
+  later = leaves_then so.mid mid t (IsAtOneOf At a (bs ++ b ∷ []))
+      (leaves_more so.mid mid (IsAtOneOf At a bs) _ (λ c at. one_of_more At a b bs c at) so.later)
+      (leaves_more mid t (λ file. At (last_of a bs) file ⊎ At b file) _ (λ c at. last_of_more At a b bs c at) leaves);
+}

@@ -1,4 +1,5 @@
-//! The outside as traits: where bytes come from and where they go, each with what it means and a count of its failures.
+//! The outside as traits: where bytes come from, where they go and where they stay, each with what it means and a
+//! count of its failures.
 //!
 //! A `Source` has bytes left, a `Sink` has taken bytes. What a value means is a ghost member of its
 //! trait, so code over the trait is proved once, for memory and for files alike. Some types can't tell
@@ -10,8 +11,14 @@
 //! A failure has no reason that a caller could act on, so it is the one value `Failed`. What a caller
 //! may conclude from it is that the object's own count of failures rose in that call.
 //!
+//! A `Disk` tells a story: what a read gives now, what was there at the last sync, the ranges written since, the
+//! moments before this one, and how many writing calls passed. What a crash may leave is one definition over that,
+//! `IsImage`. So each call that passes is an equation between two stories, and calls one after another compose by
+//! themselves. Predicates as "may leave" would spread the model over the clauses of each call, and need a clock.
+//!
 //! The types in memory tell everything, and fail where a list of call numbers says so. Thus a test can
-//! make each call of a run fail in turn. The adapters over std's readers and writers tell nothing.
+//! make each call of a run fail in turn. The adapters over std's readers, writers and files tell
+//! nothing.
 #![tactic(auto)]
 
 mod absent;

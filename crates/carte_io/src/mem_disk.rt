@@ -2,7 +2,7 @@
 ghost use Rattle.std.specs.Prelude.{◌≡◌, ◌+◌, ◌<◌, ◌≤◌, ◌-◌, ◌^◌, ◌++◌, ◌∷◌, [], true, length, take, drop, Some, min, is_err, IfOk, OnOk, OnErr, IsErr};
 ghost use Rattle.carte_io.specs.Causes.{HasCause, counted};
 ghost use Rattle.carte_io.specs.Crashes.{IsPicked};
-ghost use Rattle.carte_io.specs.Disk.{IsImage, FailsToSync, FailsToWrite, did_sync, wrote};
+ghost use Rattle.carte_io.specs.Disk.{IsImage, IsSettled, FailsToSync, FailsToWrite, did_sync, wrote};
 ghost use Rattle.carte_io.specs.declared.passed.Passed.TheVariants.{Synced, Wrote};
 ghost use Rattle.carte_io.specs.MemDisks.{begun_disk, disk_failed, disk_passed, disk_read, is_refusing, is_stopped, story_of};
 
@@ -49,7 +49,8 @@ impl Model for MemDisk {
 impl MemDisk {
     /// A disk that has these bytes, all of them synced, and no call of which was made.
     pub fn of(alloc: Global, bytes: &[u8], failing: &[u64]) -> Result<MemDisk, NoMemory>
-        ensures { IfOk result (λ d. d ≡ begun_disk bytes.now failing.now) }
+        ensures begins { IfOk result (λ d. d ≡ begun_disk bytes.now failing.now) }
+        ensures settled { IfOk result (λ d. IsSettled (story_of d).now) }
     {
         Ok(MemDisk {
             alloc,
@@ -89,7 +90,8 @@ impl MemDisk {
     pub fn crash(&self, alloc: Global, pick: Pick) -> Result<MemDisk, NoMemory>
         ensures picked { IfOk result (λ d. IsPicked pick (story_of self.now).now d.first) }
         ensures image { IfOk result (λ d. IsImage (story_of self.now).now d.first) }
-        ensures settled { IfOk result (λ d. d ≡ begun_disk d.first []) }
+        ensures begins { IfOk result (λ d. d ≡ begun_disk d.first []) }
+        ensures settled { IfOk result (λ d. IsSettled (story_of d).now) }
     {
         let image = self.image(alloc, pick)?;
         let disk = MemDisk::of(alloc, &image, &[])?;

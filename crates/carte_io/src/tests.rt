@@ -35,6 +35,20 @@ impl Write for Stuck {
     }
 }
 
+// A writer that takes all of it, and can't hand it on.
+#[derive(Drop)]
+struct Unflushable;
+
+impl Write for Unflushable {
+    fn write(&mut self, buf: &[u8]) -> io::Result<usize> {
+        Ok(buf.len())
+    }
+
+    fn flush(&mut self) -> io::Result<()> {
+        Err(io::Error::from(ErrorKind::Other))
+    }
+}
+
 #[test]
 fn a_source_is_read_whole(rt: HostRuntime) -> Result<(), Fail> {
     let mut source = MemSource::of(rt.alloc(), b"abcdef", &[1])?;
@@ -86,6 +100,33 @@ fn a_sink_takes_it_all(rt: HostRuntime) -> Result<(), Fail> {
     let mut writer = WriteSink::of(Vec::new(rt.alloc()));
     assert!(rt; write_all(&mut writer, b"ab").is_ok());
     assert!(rt; writer.finish().is_ok());
+    Ok(())
+}
+
+#[test]
+fn what_cannot_hand_on_fails(rt: HostRuntime) -> Result<(), Fail> {
+    let mut sink = WriteSink::of(Unflushable);
+    assert!(rt; write_all(&mut sink, b"ab").is_ok());
+    assert!(rt; sink.finish().is_err(), "a writer that can't flush");
+    let null = OpenOptions::new()
+        .read(true)
+        .write(true)
+        .open(&rt, "/dev/null")?;
+    let mut disk = FileDisk::of(null);
+    assert!(rt; disk.write_at(0, b"ab").is_ok());
+    assert!(rt; disk.sync().is_err(), "a device that can't sync");
+    Ok(())
+}
+
+#[test]
+fn what_is_absent_fails(rt: HostRuntime) -> Result<(), Fail> {
+    let mut absent = Absent::of();
+    let mut into = [7; 1];
+    assert!(rt; absent.len().is_err());
+    assert!(rt; absent.read_at(0, &mut into).is_err());
+    assert!(rt; absent.write_at(0, b"a").is_err());
+    assert!(rt; absent.sync().is_err());
+    assert_eq!(rt; into, [7]);
     Ok(())
 }
 

@@ -8,7 +8,8 @@ use std::io::Write;
 use std::marker::Model;
 
 /// One of std's writers as a sink. It tells no bytes. Each error is a counted failure, and so is a call
-/// that takes no byte of a piece that has some. To finish is to flush.
+/// that takes no byte of a piece that has some. To finish is to flush, which a test alone shows: no clause of
+/// std's writers says what a flush does.
 #[derive(Drop)]
 pub struct WriteSink<W> {
     writer: W,

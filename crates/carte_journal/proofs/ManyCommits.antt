@@ -3,12 +3,12 @@ use Rattle.std.proofs.Common.{◌≡◌, ◌⊎◌, ℕ, ◌+◌, ◌<◌, false
 use Rattle.std.proofs.lemmas.List.{drop_more, take_more, take-append-drop}
 use Rattle.carte_io.specs.Disk.{IsSettled, LeavesOnly, Story}
 use Rattle.carte_io.specs.Stations.{StandsFrom, StepsThrough, last_of}
-use Rattle.carte_io.proofs.Acknowledged.{steps_more, steps_stand}
+use Rattle.carte_io.proofs.Acknowledged.{stands_more, steps_more, steps_stand}
 use Rattle.carte_io.proofs.Images.{leaves_more, settled_image}
 use Rattle.carte_journal.specs.Frames.{BodyAt, Ends, Reading, end_of, reading}
 use Rattle.carte_journal.specs.Journals.{IsAtRest, IsBeforeOrAfter, Standing, committed}
 use Rattle.carte_journal.proofs.Commits.{rest_moment}
-use Rattle.carte_journal.specs.Runs.{IsReadAs, committed_all, placed, stations, with_bodies, with_body}
+use Rattle.carte_journal.specs.Runs.{IsReadAs, RestsAfter, committed_all, placed, stations, with_bodies, with_body}
 
 committed_all-push : (j : Standing) (bs : List (List ℕ)) (b : List ℕ) → committed_all j (bs ++ b ∷ []) ≡ committed (committed_all j bs) b
 committed_all-push j [] b = refl
@@ -29,6 +29,10 @@ stations-append r (x ∷ bs) cs = ap (λ rs. with_body r x ∷ rs) (stations-app
 pub last_of-stations : (r : Reading) (bs : List (List ℕ)) → last_of r (stations r bs) ≡ with_bodies r bs
 last_of-stations r [] = refl
 last_of-stations r (x ∷ bs) = last_of-stations (with_body r x) bs
+
+with_bodies-append : (r : Reading) (bs cs : List (List ℕ)) → with_bodies r (bs ++ cs) ≡ with_bodies (with_bodies r bs) cs
+with_bodies-append r [] cs = refl
+with_bodies-append r (x ∷ bs) cs = with_bodies-append (with_body r x) bs cs
 
 with_bodies_is : (j : Standing) (bodies : List BodyAt) (bs : List (List ℕ))
     → with_bodies (Ends j.gate bodies) bs ≡ Ends (committed_all j bs).gate (bodies ++ placed j bs)
@@ -126,3 +130,30 @@ stands limit r bs front back s t is settled steps =
     subst (λ a. StandsFrom (IsReadAs limit) a (stations (with_bodies r front) back) t) (last_of-stations r front)
     (steps_stand (IsReadAs limit) r (stations r front) (stations (with_bodies r front) back) s t settled
     (subst (λ rs. StepsThrough (IsReadAs limit) r rs s t) (ap (stations r) is ∙ stations-append r front back) steps))
+
+-- also while the next one is committed
+pub stands_on : (limit : ℕ) (r : Reading) (done front back : List (List ℕ)) (next : List ℕ) (s mid t : Story) → done ≡ front ++ back → IsSettled s.now
+    → StepsThrough (IsReadAs limit) r (stations r done) s mid
+    → LeavesOnly mid t (λ file. IsReadAs limit (with_bodies r done) file ⊎ IsReadAs limit (with_body (with_bodies r done) next) file)
+    → StandsFrom (IsReadAs limit) (with_bodies r front) (stations (with_bodies r front) (back ++ next ∷ [])) t
+stands_on limit r done front back next s mid t is settled steps last =
+    let there = with_bodies r front in
+    subst (λ qs. StandsFrom (IsReadAs limit) there qs t) (sym (stations-push there back next))
+    (stands_more (IsReadAs limit) there (with_body (with_bodies there back) next) (stations there back) mid t
+    (stands limit r done front back s mid is settled steps)
+    (subst (λ q. LeavesOnly mid t (λ file. IsReadAs limit q file ⊎ IsReadAs limit (with_body (with_bodies there back) next) file))
+    (sym (last_of-stations there back))
+    (subst (λ q. LeavesOnly mid t (λ file. IsReadAs limit q file ⊎ IsReadAs limit (with_body q next) file))
+    (ap (with_bodies r) is ∙ with_bodies-append r front back) last)))
+
+-- a commit for which there is no room changes nothing
+pub rests_after : (j now new : Standing) (bodies : List BodyAt) (bs : List (List ℕ)) (i : ℕ) (s t u : Story) → SoFar j bodies (take i bs) now s t
+    → new ≡ now → u ≡ t → RestsAfter j bodies bs new u
+rests_after j now new bodies bs i s t u so is same = record {
+  done = take i bs;
+  rest = drop i bs;
+  all = sym (take-append-drop i bs);
+  place = is ∙ so.place;
+  at_rest = subst (λ k. IsAtRest k (bodies ++ placed j (take i bs)) u) (sym is)
+      (subst (IsAtRest now (bodies ++ placed j (take i bs))) (sym same) so.rest);
+}

@@ -1,9 +1,9 @@
 -- Commits one after another.
 use Rattle.std.specs.Prelude.{◌≡◌, ◌⊎◌, ℕ, ◌<◌, List, [], ◌∷◌, ◌++◌}
 use Rattle.carte_io.specs.Disk.{LeavesOnly, Story}
-use Rattle.carte_io.specs.Stations.{StepsThrough}
+use Rattle.carte_io.specs.Stations.{StandsFrom, StepsThrough}
 use Rattle.carte_journal.specs.Frames.{Bad, BodyAt, Ends, Reading, end_of, reading}
-use Rattle.carte_journal.specs.Journals.{Standing, committed, needed_for}
+use Rattle.carte_journal.specs.Journals.{IsAtRest, Standing, committed, needed_for}
 
 -- the file is read so
 abbrev pub IsReadAs : ℕ → Reading → List ℕ → Type 0
@@ -32,7 +32,7 @@ abbrev pub placed : Standing → List (List ℕ) → List BodyAt
 placed j [] = []
 placed j (body ∷ more) = (j.gate, body) ∷ placed (committed j body) more
 
--- some of the bodies were committed, and the next one perhaps
+-- some of the bodies were committed, and the next one perhaps; each front of them stands in every later image
 pub record StopsIn (limit : ℕ) (r : Reading) (bodies : List (List ℕ)) (s t : Story) : Type 0 where
   pub done : List (List ℕ)
   pub next : List ℕ
@@ -41,6 +41,16 @@ pub record StopsIn (limit : ℕ) (r : Reading) (bodies : List (List ℕ)) (s t :
   pub mid : Story
   pub steps : StepsThrough (IsReadAs limit) r (stations r done) s mid
   pub last : LeavesOnly mid t (λ file. IsReadAs limit (with_bodies r done) file ⊎ IsReadAs limit (with_body (with_bodies r done) next) file)
+  pub stand : (front back : List (List ℕ)) → done ≡ front ++ back
+      → StandsFrom (IsReadAs limit) (with_bodies r front) (stations (with_bodies r front) (back ++ next ∷ [])) t
+
+-- some of the bodies were committed, and all of the file is on the disk
+pub record RestsAfter (j : Standing) (bodies : List BodyAt) (more : List (List ℕ)) (new : Standing) (t : Story) : Type 0 where
+  pub done : List (List ℕ)
+  pub rest : List (List ℕ)
+  pub all : more ≡ done ++ rest
+  pub place : new ≡ committed_all j done
+  pub at_rest : IsAtRest new (bodies ++ placed j done) t
 
 -- some of the bodies were committed, and for the next one there is no room
 pub record FullIn (j : Standing) (bodies : List (List ℕ)) (new : Standing) (needed limit : ℕ) : Type 0 where

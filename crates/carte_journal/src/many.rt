@@ -4,7 +4,7 @@ ghost use Rattle.carte_io.specs.Causes.{Rose};
 ghost use Rattle.carte_io.specs.Stations.{StandsFrom, StepsThrough};
 ghost use Rattle.carte_journal.specs.Frames.{BodyAt, Ends};
 ghost use Rattle.carte_journal.specs.Journals.{IsAtRest};
-ghost use Rattle.carte_journal.specs.Runs.{FullIn, IsReadAs, StopsIn, committed_all, placed, stations, with_bodies};
+ghost use Rattle.carte_journal.specs.Runs.{FullIn, IsReadAs, RestsAfter, StopsIn, committed_all, placed, stations, with_bodies};
 
 use crate::{CommitFault, Frame, Journal};
 use carte_io::Disk;
@@ -31,8 +31,10 @@ pub fn commit_all<D: Disk>(
         StepsThrough (IsReadAs journal.old.limit) start (stations start frames.now) (D.story disk.old) (D.story disk.new)) }
     ensures stops { D.tells → (bodies : List BodyAt) → IsAtRest journal.old bodies (D.story disk.old)
         → OnErr result (StopsIn journal.old.limit (Ends journal.old.gate bodies) frames.now (D.story disk.old) (D.story disk.new)) }
+    ensures full_rest { D.tells → (bodies : List BodyAt) → IsAtRest journal.old bodies (D.story disk.old)
+        → (needed limit : ℕ) → result ≡ Err (CommitFault.Full needed limit) → RestsAfter journal.old bodies frames.now journal.new (D.story disk.new) }
 
-    // From the end of the commit of each front on, an image has that front.
+    // From the end of the commit of each front on, an image has that front; `stops` says so of a run that ends early.
     ensures stand { D.tells → (bodies : List BodyAt) → IsAtRest journal.old bodies (D.story disk.old)
         → (front back : List (List ℕ)) → frames.now ≡ front ++ back
         → OnOk result (let there = with_bodies (Ends journal.old.gate bodies) front in

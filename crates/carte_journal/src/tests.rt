@@ -15,10 +15,10 @@ const FRONTS: [u8; 28] = *b"0000000000BBBBBCCCCCCCDDDDD3";
 const FLIPS: [u8; 216] =
     *b"AAAAAAAAAAAAAAAAAAAAAAAAAAAAAAAAAAAAAAAAAAAAAAAAAAAAAAAAAAAAAAAA00000000BBBBBBBBBBBBBBBBBBBBBBBB1111BBBB3333333311111111CCCCCCCCCCCCCCCCCCCCCCCC222CCCCC333333333333333322222222DDDDDDDDDDDDDDDDDDDDDDDDDDDDDDDDE3333333";
 
-// How a file loads, in the letters of the tables.
-fn code(alloc: Global, bytes: &[u8]) -> Result<u8, NoMemory> {
+// How a file loads within a limit, in the letters of the tables.
+fn code(alloc: Global, bytes: &[u8], limit: u16) -> Result<u8, NoMemory> {
     let mut disk = MemDisk::of(alloc, bytes, &[])?;
-    match Journal::load(alloc, &mut disk, 1000) {
+    match Journal::load(alloc, &mut disk, limit as u64) {
         Ok((_journal, bodies)) => Ok(b'0' + bodies.len().min(9) as u8),
         Err(LoadFault::BadState(0)) => Ok(b'A'),
         Err(LoadFault::BadState(8)) => Ok(b'B'),
@@ -41,11 +41,11 @@ fn flipped(alloc: Global, bit: usize) -> Result<Vec<u8>, NoMemory> {
 fn damaged_files_load_by_the_format(rt: HostRuntime) -> Result<(), Fail> {
     for (len, want) in FRONTS.iter().enumerate() {
         let front = FILE.get(..len).unwrap_or(&FILE);
-        assert_eq!(rt; code(rt.alloc(), front)?, *want, "a front of {len}");
+        assert_eq!(rt; code(rt.alloc(), front, 1000)?, *want, "a front of {len}");
     }
     for (bit, want) in FLIPS.iter().enumerate() {
         let bytes = flipped(rt.alloc(), bit)?;
-        assert_eq!(rt; code(rt.alloc(), &bytes)?, *want, "bit {bit} turned");
+        assert_eq!(rt; code(rt.alloc(), &bytes, 1000)?, *want, "bit {bit} turned");
     }
     let cases = [
         (b"CARTE01\n\x01\0\0\0\x10\x01\0".as_slice(), b'B'),
@@ -53,14 +53,52 @@ fn damaged_files_load_by_the_format(rt: HostRuntime) -> Result<(), Fail> {
         ([0xff; 10].as_slice(), b'A'),
     ];
     for (bytes, want) in cases {
-        assert_eq!(rt; code(rt.alloc(), bytes)?, want);
+        assert_eq!(rt; code(rt.alloc(), bytes, 1000)?, want);
     }
     Ok(())
 }
 
+#[test]
+fn a_limit_cuts_frames_off(rt: HostRuntime) -> Result<(), Fail> {
+    // The gate bytes behind the three frames are at 14, 21 and 26.
+    let cases = [
+        (0, b'B'),
+        (14, b'B'),
+        (15, b'C'),
+        (21, b'C'),
+        (22, b'D'),
+        (26, b'D'),
+        (27, b'3'),
+    ];
+    for (limit, want) in cases {
+        assert_eq!(rt; code(rt.alloc(), &FILE, limit)?, want, "a limit of {limit}");
+    }
+    Ok(())
+}
+
+#[test]
+fn a_load_ends_at_a_failing_call(rt: HostRuntime) -> Result<(), Fail> {
+    // The length, the header, three reads for each frame, and the closed gate byte.
+    for call in 1..14 {
+        let mut disk = MemDisk::of(rt.alloc(), &FILE, [call].as_slice())?;
+        let loaded = Journal::load(rt.alloc(), &mut disk, 1000);
+        let failed = matches!(loaded, Err(LoadFault::DiskFault));
+        assert_eq!(rt; failed, call <= 12, "call {call}");
+    }
+    Ok(())
+}
+
+// A file of one body, `ab`.
+const ONE: [u8; 16] = *b"CARTE01\n\x01\0\0\0\x02ab\0";
+
 // A disk after a commit of `ab` that was let make so many calls in all but those of the list, and whether it was Ok.
-fn committed(alloc: Global, failing: &[u64], calls: u64) -> Result<(MemDisk, bool), NoMemory> {
-    let mut disk = MemDisk::of(alloc, b"", failing)?;
+fn committed(
+    alloc: Global,
+    bytes: &[u8],
+    failing: &[u64],
+    calls: u64,
+) -> Result<(MemDisk, bool), NoMemory> {
+    let mut disk = MemDisk::of(alloc, bytes, failing)?;
     let frame = Frame::of(alloc, b"ab")?;
     let Ok((mut journal, _bodies)) = Journal::load(alloc, &mut disk, 1000) else {
         return Ok((disk, false));
@@ -83,9 +121,21 @@ fn bodies_then(alloc: Global, disk: &mut MemDisk) -> Result<(usize, bool), NoMem
     }
 }
 
+// The numbers of bodies after a crash, for Lost, Kept, Fill 0x77 and Fill 0x01; 99 where one more commit adds none.
+fn after_crash(alloc: Global, disk: &MemDisk) -> Result<[usize; 4], NoMemory> {
+    let picks = [Pick::Lost, Pick::Kept, Pick::Fill(0x77), Pick::Fill(0x01)];
+    let mut counts = [99; 4];
+    for (pick, count) in picks.iter().zip(counts.iter_mut()) {
+        let mut image = disk.crash(alloc, *pick)?;
+        if let (bodies, true) = bodies_then(alloc, &mut image)? {
+            *count = bodies;
+        }
+    }
+    Ok(counts)
+}
+
 #[test]
 fn crashes_of_the_first_commit(rt: HostRuntime) -> Result<(), Fail> {
-    // For each number of writing calls: bodies after Lost, Kept, Fill 0x77 and Fill 0x01.
     let cases = [
         (0, [0, 0, 0, 0]),
         (1, [0, 0, 0, 0]),
@@ -95,15 +145,27 @@ fn crashes_of_the_first_commit(rt: HostRuntime) -> Result<(), Fail> {
         (5, [0, 1, 0, 1]),
         (6, [1, 1, 1, 1]),
     ];
-    let picks = [Pick::Lost, Pick::Kept, Pick::Fill(0x77), Pick::Fill(0x01)];
-    for (calls, wants) in cases {
-        let (disk, done) = committed(rt.alloc(), &[], calls)?;
+    for (calls, want) in cases {
+        let (disk, done) = committed(rt.alloc(), b"", &[], calls)?;
         assert_eq!(rt; done, calls == 6);
-        for (pick, want) in picks.iter().zip(&wants) {
-            let mut image = disk.crash(rt.alloc(), *pick)?;
-            let got = bodies_then(rt.alloc(), &mut image)?;
-            assert_eq!(rt; got, (*want, true), "{calls} calls and then {pick:?}");
-        }
+        assert_eq!(rt; after_crash(rt.alloc(), &disk)?, want, "{calls} calls");
+    }
+    Ok(())
+}
+
+#[test]
+fn crashes_of_a_later_commit(rt: HostRuntime) -> Result<(), Fail> {
+    let cases = [
+        (0, [1, 1, 1, 1]),
+        (1, [1, 1, 1, 1]),
+        (2, [1, 1, 1, 1]),
+        (3, [1, 2, 1, 2]),
+        (4, [2, 2, 2, 2]),
+    ];
+    for (calls, want) in cases {
+        let (disk, done) = committed(rt.alloc(), &ONE, &[], calls)?;
+        assert_eq!(rt; done, calls == 4);
+        assert_eq!(rt; after_crash(rt.alloc(), &disk)?, want, "{calls} calls");
     }
     Ok(())
 }
@@ -122,7 +184,7 @@ fn each_call_fails_in_turn(rt: HostRuntime) -> Result<(), Fail> {
         (8, 1),
     ];
     for (call, want) in cases {
-        let (disk, done) = committed(rt.alloc(), [call].as_slice(), 100)?;
+        let (disk, done) = committed(rt.alloc(), b"", [call].as_slice(), 100)?;
         assert_eq!(rt; done, call == 8);
         let mut image = disk.crash(rt.alloc(), Pick::Kept)?;
         assert_eq!(rt;
@@ -136,9 +198,9 @@ fn each_call_fails_in_turn(rt: HostRuntime) -> Result<(), Fail> {
 
 #[test]
 fn a_commit_has_its_bytes(rt: HostRuntime) -> Result<(), Fail> {
-    let (mut disk, done) = committed(rt.alloc(), &[], 100)?;
+    let (mut disk, done) = committed(rt.alloc(), b"", &[], 100)?;
     assert!(rt; done);
-    assert_eq!(rt; disk.bytes(), b"CARTE01\n\x01\0\0\0\x02ab\0".as_slice());
+    assert_eq!(rt; disk.bytes(), ONE.as_slice());
     assert_eq!(rt; disk.passed(), 6);
     let Ok((journal, bodies)) = Journal::load(rt.alloc(), &mut disk, 1000) else {
         return Err(Fail::from("it loads"));
@@ -148,6 +210,18 @@ fn a_commit_has_its_bytes(rt: HostRuntime) -> Result<(), Fail> {
     assert_eq!(rt; copy.len(), 1);
     let first = copy.get(0).ok_or("a body")?;
     assert_eq!(rt; (first.offset(), first.bytes()), (8, b"ab".as_slice()));
+    Ok(())
+}
+
+#[test]
+fn bodies_are_a_list(rt: HostRuntime) -> Result<(), Fail> {
+    let mut bodies = Bodies::new(rt.alloc());
+    let body = Body::of(rt.alloc(), 8, b"ab")?;
+    bodies.push(body.copy(rt.alloc())?)?;
+    bodies.push(body)?;
+    let second = bodies.get(1).ok_or("a body")?;
+    assert_eq!(rt; (second.offset(), second.bytes()), (8, b"ab".as_slice()));
+    assert!(rt; bodies.get(2).is_none());
     Ok(())
 }
 

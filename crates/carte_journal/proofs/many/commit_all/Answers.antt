@@ -6,7 +6,7 @@ use Rattle.carte_journal.specs.Frames.{Ends}
 use Rattle.carte_journal.specs.Runs.{IsReadAs, placed, stations}
 use Rattle.carte_io.specs.Stations.{StepsThrough}
 use Rattle.carte_journal.specs.declared.faults.CommitFault.TheVariants.{DiskFault, Full}
-use Rattle.carte_journal.proofs.ManyCommits.{SoFar, cut_at, limit_kept, next_moment, none_yet, one_further, one_more, place_further, stands}
+use Rattle.carte_journal.proofs.ManyCommits.{SoFar, cut_at, limit_kept, next_moment, none_yet, one_further, one_more, place_further, rests_after, stands, stands_on}
 use Rattle.carte_journal.proofs.many.commit_all.Goals as goal
 
 pub loop-frame-init : goal.loop-frame-init
@@ -49,6 +49,9 @@ returns-in-Err-clause-full g c needed limit is =
 pub returns-in-Err-clause-stops : goal.returns-in-Err-clause-stops
 returns-in-Err-clause-stops g c told bodies rest =
     let so = c.loop-frame.invariant.so_far told bodies rest in
+    let start = Ends c.args.journal.now.gate bodies in
+    let last = next_moment c.args.journal.now bodies _ c.loop-frame.journal _ (g.D.Disk.story c.loop-frame.disk) so c.frame-item.result _
+    (c.commit.ensures.any_moment told _ so.rest) in
     record {
       done = take c.loop-frame.frame-index c.args.frames.now;
       next = c.frame-item.result;
@@ -56,9 +59,25 @@ returns-in-Err-clause-stops g c told bodies rest =
       all = cut_at c.args.frames.now c.loop-frame.frame-index c.frame-item.result c.loop-frame-test.true c.frame-item.is;
       mid = g.D.Disk.story c.loop-frame.disk;
       steps = so.steps;
-      last = next_moment c.args.journal.now bodies _ c.loop-frame.journal _ (g.D.Disk.story c.loop-frame.disk) so c.frame-item.result _
-          (c.commit.ensures.any_moment told _ so.rest);
+      last = last;
+      stand = λ front back is. stands_on c.args.journal.now.limit start (take c.loop-frame.frame-index c.args.frames.now) front back c.frame-item.result
+          (g.D.Disk.story c.args.disk.now) (g.D.Disk.story c.loop-frame.disk) _ is rest.settled so.steps last;
     }
+
+pub returns-in-Err-clause-full_rest : goal.returns-in-Err-clause-full_rest
+returns-in-Err-clause-full_rest g c told bodies rest needed limit is =
+    let body = c.frame-item.result in
+    let j = c.loop-frame.journal in
+    let so = c.loop-frame.invariant.so_far told bodies rest in
+    elim (cases_lt j.limit (needed_for j body)) [
+      | inl over ↦
+          let f = c.in-Err.ensures.full over in
+          rests_after c.args.journal.now j _ bodies c.args.frames.now c.loop-frame.frame-index _ _ _ so f.1 (ap g.D.Disk.story f.2)
+      | inr room ↦
+          absurd (let fault_is : c.in-Err.fault ≡ Full needed limit = cc in
+          let other : c.in-Err.fault ≡ DiskFault = c.in-Err.ensures.room room in
+          let both : Full needed limit ≡ DiskFault = sym fault_is ∙ other in cc)
+    ]
 
 pub loop-frame-preserved : goal.loop-frame-preserved
 loop-frame-preserved g c = record {

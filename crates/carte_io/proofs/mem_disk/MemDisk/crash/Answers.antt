@@ -7,5 +7,5 @@ use Rattle.carte_io.proofs.mem_disk.MemDisk.crash.Goals as goal
 pub returns-clause-image : goal.returns-clause-image
 returns-clause-image c =
     subst (λ image. IsImage (story_of c.args.self.now).now image)
-    (sym (ap (λ (d : MemoryOfDisk). d.first) c.in_ok-disk.ensures ∙ c.deref.ensures.value))
+    (sym (ap (λ (d : MemoryOfDisk). d.first) c.in_ok-disk.ensures.begins ∙ c.deref.ensures.value))
     (picked_image c.args.pick (story_of c.args.self.now).now c.in_ok-image.image.items (image_of c.args.self.now) c.in_ok-image.ensures)
