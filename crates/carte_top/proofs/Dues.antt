@@ -4,7 +4,7 @@ use Rattle.carte_book.specs.Book.{Book}
 use Rattle.carte_book.specs.declared.fault.BookFault.{BookFault}
 use Rattle.carte_book.specs.declared.fault.BookFault.TheVariants.{Limit, NotToml, BadTable, BadName, BadValue, Formula, Twice, NotUtf8, NoMemory as BookNoMemory}
 use Rattle.carte_book.specs.Dynamic.{IsOrderReason}
-use Rattle.carte_book.proofs.OrderReasons.{one_order_reason, no_order_reason}
+use Rattle.carte_book.proofs.Orders.{one_order_reason, no_order_reason}
 use Rattle.carte_rules.specs.Reading.{BookOf}
 use Rattle.carte_rules.proofs.Unique.{one_book}
 use Rattle.carte_top.specs.declared.status.Status.{Status}
@@ -66,7 +66,7 @@ module _ (words : List (List ℕ)) (s : OverSource) (k : OverSink) where
       let held = ran.2.0 is.2.0 in
       let ts = same_targets words is.0 ran.0 is.1 ran.1 in
       let b = same_book s.left is.2.1 held.0 is.2.2 held.1 in
-      absurd (no_order_reason held.0 ran.0 r held.2 (rw (b, ts) at is.2.3) (rw (b, ts) at is.2.4))
+      absurd (no_order_reason held.0 ran.0 r held.2 (rw (b, ts) at is.2.3.0) (rw (b, ts) at is.2.3.1))
   due_comes (BuildRefused r) (BookRefused f) ran is = let held = ran.2.0 is.2.0 in absurd (not_both s.left held.0 f held.1 is.2.1)
   due_comes (BuildRefused r) (Usage f) ran is = let e = ran.1 in cc
   due_comes (BuildRefused r) (BuildRefused q) ran is =

@@ -1,14 +1,21 @@
 -- One rule after the other is worked out.
-use Rattle.std.proofs.Common.{◌≡◌, ℕ, zero, suc, ◌+◌, List, [], ◌∷◌, ◌++◌, length, take, slice_get, Option, Some, None, Ok, refl, ap, sym, ◌∙◌, inl, inr, ◌⊎◌, arith, append_assoc, add-one}
+use Rattle.std.proofs.Common.{◌≡◌, ℕ, Bool, zero, suc, ◌+◌, List, [], ◌∷◌, ◌++◌, length, take, slice_get, get_or, Option, Some, None, Result, Ok, Err, IfOk, ◌<◌, refl, ap, sym, ◌∙◌, inl, inr, ◌⊎◌, arith, append_assoc, add-one}
 use Rattle.std.specs.Result.{result_ok}
 use Rattle.std.specs.BTreeMap.{get}
+use Rattle.carte_value.specs.declared.NoMemory.{NoMemory}
 use Rattle.carte_value.specs.declared.value.Value.{Value}
 use Rattle.carte_value.specs.Names.{name_cmp}
 use Rattle.carte_value.specs.Truths.{Truth, Among, NoneTwice}
 use Rattle.carte_formula.specs.Tree.{Tree}
 use Rattle.carte_formula.specs.Formula.{refs_of}
 use Rattle.carte_meaning.specs.InTurn.{Each, HasAll}
+use Rattle.carte_value.specs.declared.kind.Kind.{Kind}
+use Rattle.carte_meaning.specs.Meaning.{eval}
 use Rattle.carte_task.specs.Ledger.{Ledger}
+use Rattle.carte_task.specs.Outcomes.{Outcome}
+use Rattle.carte_task.specs.Statics.{Reads}
+use Rattle.carte_task.specs.declared.effect.Halt.{Halt}
+use Rattle.carte_task.specs.declared.effect.Halt.TheVariants.{Stop}
 use Rattle.carte_book.specs.Book.{Item, input, rule, Book, content, clean}
 use Rattle.carte_book.proofs.Clean.{eval_kept, clean_rule}
 use Rattle.carte_topo.specs.Orders.{IsReady, IsNext, InOrder}
@@ -133,3 +140,34 @@ at_start b ks done runs none started = rw (no_front ks) (record {
 
 pub one_further : (b : Book) (ks : List (List ℕ)) (i : ℕ) (k : List ℕ) (done : Done) (runs : Ledger) → slice_get ks i ≡ Some k → IsEvaluated b (take i ks ++ k ∷ []) done runs → IsEvaluated b (take (i + 1) ks) done runs
 one_further b ks i k done runs at so = rw (add-one, take_more ks i k at) so
+
+-- a value that was copied
+pub copied : (r : Result Value NoMemory) (v : Value) (x : Result Value (List ℕ)) → x ≡ Ok v → IfOk r (λ w. w ≡ v) → IfOk r (λ w. x ≡ Ok w)
+copied (Ok w) v x is same = is ∙ ap (λ u. Ok u) (sym same)
+copied (Err e) v x is same = tt
+
+pub has_goal : (ks : List (List ℕ)) (i : ℕ) → i < length ks → (k : List ℕ) × (slice_get ks i ≡ Some k)
+has_goal [] i below = absurd (omega arith)
+has_goal (k ∷ ks) zero below = (k, refl)
+has_goal (k ∷ ks) (suc i) below = has_goal ks i (omega arith)
+
+same_goal : (ks : List (List ℕ)) (i : ℕ) (k read : List ℕ) → i < length ks → read ≡ get_or ks i read → slice_get ks i ≡ Some k → read ≡ k
+same_goal [] i k read below is at = absurd (omega arith)
+same_goal (j ∷ js) zero k read below is at = let e : j ≡ k = cc in is ∙ e
+same_goal (j ∷ js) (suc i) k read below is at = same_goal js i k read (omega arith) is at
+
+-- what was read at a place stands there
+pub read_at : (ks : List (List ℕ)) (i : ℕ) (read : List ℕ) → i < length ks → read ≡ get_or ks i read → slice_get ks i ≡ Some read
+read_at ks i read below is = let some = has_goal ks i below in some.1 ∙ ap (λ k. Some k) (sym (same_goal ks i some.0 read below is some.1))
+
+-- the value with which a run ended
+pub read_value : {S : Type 0} (kind : Kind) (t : Truth) (own : List ℕ → S → Type 0) (withholds : Bool) (k : List ℕ) (e : Tree) (r0 r : Ledger) (o : Option Outcome) (x : Outcome) → o ≡ Some x → Reads kind t own withholds k e r0 r (Ok o) → eval kind t e ≡ Ok x.value
+read_value kind t own withholds k e r0 r o x is reads = (rw is at reads).0.value
+
+-- the name at which it stopped
+pub read_stop : {S : Type 0} (kind : Kind) (t : Truth) (own : List ℕ → S → Type 0) (withholds : Bool) (k : List ℕ) (e : Tree) (r0 r : Ledger) (h : Halt S) (s : S) → h ≡ Stop s → Reads kind t own withholds k e r0 r (Err h) → (j : List ℕ) × (eval kind t e ≡ Err j)
+read_stop kind t own withholds k e r0 r h s is reads = let stuck = (rw is at reads).0 in (stuck.0, stuck.1)
+
+-- what ends doesn't stop
+pub apart : (r : Result Value (List ℕ)) → ((v : Value) × (r ≡ Ok v)) → ((j : List ℕ) × (r ≡ Err j)) → ⊥
+apart r ends stops = let value = ends.1 in let stop = stops.1 in cc

@@ -30,7 +30,7 @@ all_clean b done [] more known = tt
 all_clean b done (k ∷ ks) more known = let here = known k (inl refl) in ((here.0, more k here.0 here.1), all_clean b done ks more (λ j among. known j (inr among)))
 
 reply_same : (b : Book) (ts : List (List ℕ)) (done : DoneMap) (runs : Ledger) → IsBuilt b ts done runs → answer_text b done runs ts ≡ reply b ts (keys done)
-reply_same b ts done runs built = rw (lines_same b done ts built.is_clean built.known, built.count, built.none_given_up) refl
+reply_same b ts done runs built = rw (lines_same b done ts built.is_clean built.known, built.none_given_up, built.count) refl
 
 replies : (Takes : OverSink → List ℕ → Type 0) (k : OverSink) (b : Book) (ts : List (List ℕ)) (done : DoneMap) (runs : Ledger) → IsBuilt b ts done runs → (k.tells → Takes k (answer_text b done runs ts)) → Replies Takes k ts b
 replies Takes k b ts done runs built takes = (built.no_dynamic, all_clean b done ts built.is_clean built.known, keys done, built.reached, λ tells. subst (λ (bytes : List ℕ). Takes k bytes) (reply_same b ts done runs built) (takes tells))

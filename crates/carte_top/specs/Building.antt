@@ -7,8 +7,8 @@ use Rattle.carte_book.specs.Book.{Book, clean}
 use Rattle.carte_book.specs.Needs.{IsReachedRule}
 use Rattle.carte_book.specs.Dynamic.{NoDynamicPath, IsOrderReason}
 use Rattle.carte_task.specs.Ledger.{Ledger, given_up}
-use Rattle.carte_topo.specs.declared.PlanFault.{PlanFault}
-use Rattle.carte_topo.specs.declared.PlanFault.TheVariants.{Refused, NoMemory}
+use Rattle.carte_topo.specs.declared.plan.PlanFault.{PlanFault}
+use Rattle.carte_topo.specs.declared.plan.PlanFault.TheVariants.{Refused, NoMemory}
 use Rattle.carte_top.specs.declared.evaluate.Evaluated.{Evaluated}
 use Rattle.carte_top.specs.Known.{Done, part}
 

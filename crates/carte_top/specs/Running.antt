@@ -12,8 +12,8 @@ use Rattle.carte_io.specs.declared.whole.ReadEnd.TheVariants.{TooLong, Failed, N
 use Rattle.carte_top.specs.declared.words.WordsEnd.{WordsEnd}
 use Rattle.carte_top.specs.declared.words.WordsEnd.TheVariants.{Fault, NoMemory as WordsNoMemory}
 use Rattle.carte_rules.specs.Reading.{BookOf}
-use Rattle.carte_topo.specs.declared.PlanFault.{PlanFault}
-use Rattle.carte_topo.specs.declared.PlanFault.TheVariants.{Refused, NoMemory as PlanNoMemory}
+use Rattle.carte_topo.specs.declared.plan.PlanFault.{PlanFault}
+use Rattle.carte_topo.specs.declared.plan.PlanFault.TheVariants.{Refused, NoMemory as PlanNoMemory}
 use Rattle.carte_top.specs.declared.status.Status.{Status}
 use Rattle.carte_top.specs.declared.status.Status.TheVariants.{Done, BookRefused, Usage, BuildRefused, ReadFault, WriteFault, NoMemory}
 use Rattle.carte_top.specs.Around.{OverSource, OverSink, IsUntouched, TakesAll, TakesFront}

@@ -1,4 +1,5 @@
 ghost use Rattle.std.specs.Prelude.{◌≡◌, ◌++◌, ◌∷◌, [], codes, IfOk, OnOk, length, string_bytes, unwrap_or};
+ghost use Rattle.std.specs.Fmt.{decimal};
 ghost use Rattle.carte_value.specs.Printed.{printed};
 ghost use Rattle.carte_book.specs.Book.{book_view};
 ghost use Rattle.carte_top.specs.Known.{part};
@@ -98,12 +99,18 @@ fn push_counts(alloc: Global, text: &mut String, runs: &Runs) -> Result<(), NoMe
     ensures { OnOk result (string_bytes text.new
         ≡ string_bytes text.old ++ counts_line (length runs.now.ends) (given_up runs.now) 0) }
 {
-    let ran = runs.ended().len().to_string(alloc)?;
-    let given_up = runs.given_up().to_string(alloc)?;
-    text.push_str("ran ")?;
-    text.push_str(ran.as_str())?;
-    text.push_str(", given up ")?;
-    text.push_str(given_up.as_str())?;
-    text.push_str(", reused 0\n")?;
+    push_count(alloc, text, "ran ", runs.ended().len() as u64)?;
+    push_count(alloc, text, ", given up ", runs.given_up())?;
+    push_count(alloc, text, ", reused ", 0)?;
+    text.push_str("\n")?;
+    Ok(())
+}
+
+fn push_count(alloc: Global, text: &mut String, front: &str, count: u64) -> Result<(), NoMemory>
+    ensures { OnOk result (string_bytes text.new ≡ string_bytes text.old ++ (front.now ++ decimal count)) }
+{
+    let count = count.to_string(alloc)?;
+    text.push_str(front)?;
+    text.push_str(count.as_str())?;
     Ok(())
 }

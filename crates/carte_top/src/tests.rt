@@ -255,11 +255,7 @@ fn the_whole_language_is_built(rt: HostRuntime) -> Result<(), Fail> {
             ("build b s a", BRANCHES, "3\ncarte: dynamic: a\n"),
             ("build b s r", BRANCHES, "3\ncarte: dynamic: r\n"),
             ("build b s k", BRANCHES, "3\ncarte: missing: k -> gone\n"),
-            (
-                "build b s k far",
-                BRANCHES,
-                "3\ncarte: dynamic: far -> r\n",
-            ),
+            ("build b s k far", BRANCHES, "3\ncarte: dynamic: far -> r\n"),
             (
                 "build b s turn mid far",
                 BRANCHES,
