@@ -148,9 +148,9 @@ def refuse_dynamic(rules, targets):
                 raise Refused("dynamic", path_to(name, before))
         round_of = []
         for name in ruled:
-            for need in sorted(refs(rules[name]) - before.keys()):
-                before[need] = name
-                round_of.append(need)
+            needs = [need for need in sorted(refs(rules[name])) if need not in before]
+            before.update(dict.fromkeys(needs, name))
+            round_of += needs
 
 
 def compute(inputs, rules, values, target):
