@@ -28,12 +28,9 @@ def instructions(words, folder):
 
 
 def memory(words):
-    """The greatest memory of a run, in bytes; this program's own is the least that can be seen."""
-    quiet = [(os.POSIX_SPAWN_OPEN, 1, "/dev/null", os.O_WRONLY, 0)]
-    child = os.posix_spawn(words[0], words, os.environ, file_actions=quiet)
-    _, status, usage = os.wait4(child, 0)
-    assert status == 0, words
-    return usage.ru_maxrss * 1024
+    """The greatest memory of a run, in KB."""
+    done = subprocess.run(["/usr/bin/time", "-f", "%M", *words], capture_output=True, check=True, text=True)
+    return int(done.stderr)
 
 
 def write_book(path, keys, size):
@@ -50,7 +47,7 @@ def measure(program, plain, keys, size, folder):
     counts = [instructions(words, folder) / keys for words in (proved, bare)]
     most = [memory(words) for words in (proved, bare)]
     print(f"{keys} keys, {os.path.getsize(book)} bytes: {counts[0]:.0f} and {counts[1]:.0f} instructions a key, "
-          f"ratio {counts[0] / counts[1]:.2f}; {most[0] >> 10} and {most[1] >> 10} KB", flush=True)
+          f"ratio {counts[0] / counts[1]:.2f}; {most[0]} and {most[1]} KB", flush=True)
 
 
 def main(program):
