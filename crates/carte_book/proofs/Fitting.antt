@@ -1,19 +1,17 @@
 -- What a book holds fits its kind.
-use Rattle.std.proofs.Common.{◌≡◌, ℕ, true, false, cond, IsTrue, List, [], ◌∷◌, Option, Some, None, Ordering, Less, Equal, Greater, Result, Ok, Err, OnOk, OnErr, refl}
+use Rattle.std.proofs.Common.{◌≡◌, ℕ, true, false, cond, IsTrue, List, [], ◌∷◌, Option, Some, None, Less, Equal, Greater, Result, Ok, Err, OnOk, OnErr, refl}
 use Rattle.std.specs.BTreeMap as tree
 use Rattle.std.specs.BTreeMap.{insert_entry}
 use Rattle.std.specs.Map.{lookup}
 use Rattle.std.specs.Ordering.{eq_by_cmp, match_ordering}
-use Rattle.std.specs.Option.{option_map}
 use Rattle.carte_value.specs.declared.kind.Kind.{Kind}
 use Rattle.carte_value.specs.declared.kind.Kind.TheVariants.{Rules, Sheet}
-use Rattle.carte_value.specs.declared.value.Value.TheVariants.{Empty}
 use Rattle.carte_value.specs.Kinds.{is_name_of}
-use Rattle.carte_value.specs.Names.{name_cmp, is_cell_name}
+use Rattle.carte_value.specs.Names.{name_cmp}
 use Rattle.carte_book.specs.declared.book.Item.{Item as CodeItem}
 use Rattle.carte_book.specs.declared.book.Book.{Book as CodeBook}
 use Rattle.carte_book.specs.Fits.{FitsItem, Fits}
-use Rattle.carte_book.specs.Book.{Item, input, item_view, default_of, or_default, content, book_view}
+use Rattle.carte_book.specs.Book.{default_of, content, book_view}
 use Rattle.carte_book.specs.Looked.{HasNoOthers}
 use Rattle.carte_book.proofs.Books.{Map, item_found}
 use Rattle.carte_book.proofs.Clean.{tied_name}
