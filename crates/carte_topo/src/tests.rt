@@ -8,6 +8,7 @@ use carte_formula::read;
 use carte_value::{Kind, Name, Names, Value};
 use std::alloc::Global;
 use std::process::Abort;
+use std::rt::HostRuntime;
 use std::test::Fail;
 
 /// A name of this book.
@@ -103,10 +104,10 @@ const DIAMOND: &[&str] = &[
 
 /// Each worked out by hand, depth first with references in their order.
 #[test]
-fn rules_stand_behind_their_references(rt: &impl Abort, alloc: Global) -> Result<(), Fail> {
+fn rules_stand_behind_their_references(rt: HostRuntime) -> Result<(), Fail> {
     orders(
-        rt,
-        alloc,
+        &rt,
+        rt.alloc(),
         &[
             (DIAMOND, &["top"], "order base left right top"),
             (DIAMOND, &["right"], "order base right"),
@@ -122,7 +123,7 @@ fn rules_stand_behind_their_references(rt: &impl Abort, alloc: Global) -> Result
 }
 
 #[test]
-fn paths_lead_from_the_first_stuck_target(rt: &impl Abort, alloc: Global) -> Result<(), Fail> {
+fn paths_lead_from_the_first_stuck_target(rt: HostRuntime) -> Result<(), Fail> {
     const STUCK: &[&str] = &[
         "good: x",
         "one: two",
@@ -134,8 +135,8 @@ fn paths_lead_from_the_first_stuck_target(rt: &impl Abort, alloc: Global) -> Res
         "both: self + one",
     ];
     orders(
-        rt,
-        alloc,
+        &rt,
+        rt.alloc(),
         &[
             (STUCK, &["one"], "cycle one two three one"),
             (STUCK, &["self"], "cycle self self"),
@@ -150,7 +151,7 @@ fn paths_lead_from_the_first_stuck_target(rt: &impl Abort, alloc: Global) -> Res
 
 /// The shortest path, and of equally short ones the first in byte order.
 #[test]
-fn dynamic_rules_come_before_other_reasons(rt: &impl Abort, alloc: Global) -> Result<(), Fail> {
+fn dynamic_rules_come_before_other_reasons(rt: HostRuntime) -> Result<(), Fail> {
     const DYNAMIC: &[&str] = &[
         "pick: IF(x, y, 1)",
         "way: pick",
@@ -159,8 +160,8 @@ fn dynamic_rules_come_before_other_reasons(rt: &impl Abort, alloc: Global) -> Re
         "later: y + way",
     ];
     orders(
-        rt,
-        alloc,
+        &rt,
+        rt.alloc(),
         &[
             (DYNAMIC, &["pick"], "dynamic pick"),
             (DYNAMIC, &["gone"], "dynamic gone way pick"),
@@ -172,10 +173,11 @@ fn dynamic_rules_come_before_other_reasons(rt: &impl Abort, alloc: Global) -> Re
 }
 
 #[test]
-fn cells_stand_behind_their_ranges(rt: &impl Abort, alloc: Global) -> Result<(), Fail> {
+fn cells_stand_behind_their_ranges(rt: HostRuntime) -> Result<(), Fail> {
+    let alloc = rt.alloc();
     let rules = ["C1: SUM(A1:B2)", "B1: B2 + A1", "B2: A2"];
     let book = book_of(alloc, Kind::Sheet, &["A1"], &rules)?;
     let text = ordered(alloc, &book, &["C1", "D9"])?;
-    assert_eq!(rt; text.as_str(), "order B2 B1 C1");
+    assert_eq!(&rt; text.as_str(), "order B2 B1 C1");
     Ok(())
 }
