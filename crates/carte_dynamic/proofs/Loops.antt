@@ -1,5 +1,5 @@
 -- The loop over the rules met.
-use Rattle.std.proofs.Common.{◌≡◌, ℕ, zero, suc, ◌+◌, ◌≤◌, ◌<◌, List, [], ◌∷◌, ◌++◌, map, length, slice_get, get_or, Option, Some, None, refl, ap, sym, ◌∙◌, subst, inl, inr, arith, append_assoc, ◌-◌}
+use Rattle.std.proofs.Common.{◌≡◌, ℕ, zero, suc, ◌+◌, ◌≤◌, ◌<◌, List, [], ◌∷◌, ◌++◌, length, slice_get, get_or, Option, Some, None, refl, ap, sym, ◌∙◌, subst, inl, inr, arith, append_assoc, ◌-◌}
 use Rattle.std.proofs.lemmas.List.{length-append, length-map, append-nil}
 use Rattle.std.proofs.lemmas.Option.{slice_get_within, slice_get-get_or, slice_get_read}
 use Rattle.carte_book.specs.Book.{Book}
@@ -7,7 +7,7 @@ use Rattle.carte_book.specs.Needs.{IsRule}
 use Rattle.carte_book.specs.Dynamic.{refs, IsStaticRule, IsDynamicRule, NoDynamicPath, IsFirstDynamicPath}
 use Rattle.carte_book.specs.Looked.{HasRules}
 use Rattle.carte_dynamic.specs.declared.search.Met.{Met}
-use Rattle.carte_dynamic.specs.Search.{Fresh, Trail, Picks, Meets, place, trails, met_from, LinksBack, AreRefs, IsDynamicAnswer, unwound}
+use Rattle.carte_dynamic.specs.Search.{Fresh, Trail, Picks, Meets, place, trails, met_from, LinksBack, unwound}
 use Rattle.carte_dynamic.proofs.Places.{in_either, each_before}
 use Rattle.carte_dynamic.proofs.Searching.{IsSearch, at_first, step}
 use Rattle.carte_dynamic.proofs.First.{no_path, first_path}
