@@ -1,14 +1,14 @@
 -- The first dynamic rule that the search comes to has the first of all paths.
-use Rattle.std.proofs.Common.{◌≡◌, ℕ, zero, suc, ◌+◌, ◌≤◌, ◌<◌, true, false, List, [], ◌∷◌, ◌++◌, length, slice_get, get_or, Some, None, refl, sym, ◌∙◌, ap, subst, inl, inr, ◌⊎◌, arith, Less}
+use Rattle.std.proofs.Common.{◌≡◌, ℕ, zero, suc, ◌≤◌, ◌<◌, true, List, [], ◌∷◌, length, slice_get, Some, refl, sym, subst, inl, inr, ◌⊎◌, arith, Less}
 use Rattle.std.proofs.Math.Nat.{eq-or-lt_of_le}
 use Rattle.std.proofs.lemmas.Option.{slice_get_within}
 use Rattle.carte_value.specs.Truths.{Among}
 use Rattle.carte_formula.specs.Formula.{is_static_tree}
 use Rattle.carte_book.specs.Book.{Book}
 use Rattle.carte_book.specs.Needs.{IsRule}
-use Rattle.carte_book.specs.Dynamic.{refs, IsStaticRule, IsDynamicRule, LeadsToDynamic, IsDynamicPath, NoDynamicPath, path_cmp, IsFirstDynamicPath}
+use Rattle.carte_book.specs.Dynamic.{IsStaticRule, IsDynamicRule, LeadsToDynamic, IsDynamicPath, NoDynamicPath, path_cmp, IsFirstDynamicPath}
 use Rattle.carte_dynamic.specs.Search.{Fresh, Trail, unwound}
-use Rattle.carte_dynamic.proofs.Trails.{Before, UpTo, up_to_trans, up_to_not_after, up_to_also, up_to_longer, unwound_back, before_by_path}
+use Rattle.carte_dynamic.proofs.Trails.{UpTo, up_to_trans, up_to_not_after, up_to_also, up_to_longer, unwound_back, before_by_path}
 use Rattle.carte_dynamic.proofs.Searching.{nexts, Found, IsSearch}
 
 not_both : (b : Book) (k : List ℕ) → IsStaticRule b k → IsDynamicRule b k → ⊥

@@ -1,13 +1,13 @@
 -- The loop over the rules met.
-use Rattle.std.proofs.Common.{◌≡◌, ℕ, zero, suc, ◌+◌, ◌≤◌, ◌<◌, List, [], ◌∷◌, ◌++◌, map, length, slice_get, get_or, Option, Some, None, refl, ap, sym, ◌∙◌, subst, inl, inr, arith, append_assoc, ◌-◌}
-use Rattle.std.proofs.lemmas.List.{length-append, length-map, append-nil}
+use Rattle.std.proofs.Common.{◌≡◌, ℕ, zero, suc, ◌+◌, ◌≤◌, List, [], ◌∷◌, ◌++◌, length, slice_get, get_or, Option, Some, None, refl, ap, sym, ◌∙◌, subst, inl, inr, arith, append_assoc}
+use Rattle.std.proofs.lemmas.List.{append-nil}
 use Rattle.std.proofs.lemmas.Option.{slice_get_within, slice_get-get_or, slice_get_read}
 use Rattle.carte_book.specs.Book.{Book}
 use Rattle.carte_book.specs.Needs.{IsRule}
 use Rattle.carte_book.specs.Dynamic.{refs, IsStaticRule, IsDynamicRule, NoDynamicPath, IsFirstDynamicPath}
 use Rattle.carte_book.specs.Looked.{HasRules}
 use Rattle.carte_dynamic.specs.declared.search.Met.{Met}
-use Rattle.carte_dynamic.specs.Search.{Fresh, Trail, Picks, Meets, place, trails, met_from, LinksBack, AreRefs, IsDynamicAnswer, unwound}
+use Rattle.carte_dynamic.specs.Search.{Fresh, Trail, Picks, Meets, place, trails, met_from, LinksBack, unwound}
 use Rattle.carte_dynamic.proofs.Places.{in_either, each_before}
 use Rattle.carte_dynamic.proofs.Searching.{IsSearch, at_first, step}
 use Rattle.carte_dynamic.proofs.First.{no_path, first_path}
@@ -78,17 +78,6 @@ starts b targets fresh fresh' met met' rules none g = record {
 
 pub none_left : (b : Book) (targets : List (List ℕ)) (fresh : Fresh) (met : List Met) (at : ℕ) → IsSearching b targets fresh met at → length met ≤ at → NoDynamicPath b targets
 none_left b targets fresh met at s past = no_path b targets fresh (trails met) (at + 1) s.search (omega arith) (omega (arith, length_trails met))
-
--- a rule is gone on from, and each fresh rule is met but once
-pub fewer_left : (fresh fresh' : Fresh) (met met' : List Met) (ks : List (List ℕ)) (from : Option ℕ) (at : ℕ) → Meets fresh fresh' met met' ks from → at < length met → length fresh'.keys + length met' - (at + 1) < length fresh.keys + length met - at
-fewer_left fresh fresh' met met' ks from at g below =
-    let more : length met' ≡ length met + length g.next.keys = ap length g.behind ∙ length-append met (met_from from g.next.keys) ∙ ap (λ n. length met + n) (length-map g.next.keys _) in
-    omega (arith, g.picks.count)
-
--- the rules that are left to put behind those met
-pub put_more : (met met' all : List Met) (from : Option ℕ) (k : List ℕ) (left left' : List (List ℕ)) → left ≡ k ∷ left' → met' ≡ met ++ record { name = k; from = from } ∷ [] → met ++ met_from from left ≡ all → met' ++ met_from from left' ≡ all
-put_more met met' all from k left left' is grown so =
-    rw grown (append_assoc met (record { name = k; from = from } ∷ []) (met_from from left') ∙ ap (λ ks. met ++ met_from from ks) (sym is) ∙ so)
 
 -- one step back
 pub step_back : (met : List Met) (next : Option ℕ) (at : ℕ) (m : Met) (k : List ℕ) (names names' : List (List ℕ)) (all : Trail) → LinksBack met → next ≡ Some at → m ≡ get_or met at m → k ≡ m.name → names' ≡ names ++ k ∷ [] → place next ≤ length met → names ++ get_or (trails met) (place next) [] ≡ all → (place m.from ≤ length met) × (names' ++ get_or (trails met) (place m.from) [] ≡ all)

@@ -1,11 +1,11 @@
 -- Taking fresh names, one by one.
-use Rattle.std.proofs.Common.{◌≡◌, ℕ, ◌+◌, ◌≤◌, ◌<◌, Bool, true, false, cond, List, [], ◌∷◌, ◌++◌, length, take, get_or, Some, None, Ordering, Equal, refl, ap, sym, ◌∙◌, subst, inl, inr, ◌⊎◌, arith}
+use Rattle.std.proofs.Common.{◌≡◌, ℕ, ◌+◌, ◌≤◌, ◌<◌, Bool, true, false, cond, List, [], ◌∷◌, ◌++◌, length, take, get_or, Equal, refl, ap, sym, ◌∙◌, subst, inl, inr, ◌⊎◌, arith}
 use Rattle.std.specs.Ordering.{eq_by_cmp}
 use Rattle.std.specs.BTreeSet.{contains}
 use Rattle.std.specs.Cmp.{eq_by_cmp_equiv}
 use Rattle.std.specs.FinMap.{slice_cmp-IsAntisymmetric, nat_cmp-IsAntisymmetric}
 use Rattle.std.proofs.lemmas.Cmp.{nat_list_cmp_total}
-use Rattle.std.proofs.lemmas.List.{take_more, take_all}
+use Rattle.std.proofs.lemmas.List.{take_more}
 use Rattle.carte_value.specs.Names.{name_cmp}
 use Rattle.carte_value.specs.Truths.{Among}
 use Rattle.carte_book.proofs.Clean.{tied_name}
@@ -35,22 +35,6 @@ moves fresh fresh' next next' k j added tied was takes puts fewer more = record 
     at_most : (b : Bool) → length next'.keys ≡ length next.keys + cond b 1 0 → length next'.keys ≤ length next.keys + 1
     at_most true is = omega arith
     at_most false is = omega arith
-
-pub none_picked : (fresh next : Fresh) (names : List (List ℕ)) → next.keys ≡ [] → Picks fresh fresh next (take 0 names)
-none_picked fresh next names none = record {
-  only = λ k has. absurd (empty k has);
-  each = λ k among is_fresh. absurd (nothing names k among);
-  left = λ k has. has;
-  kept = λ k has. inr has;
-  count = rw none (omega arith);
-}
-  where
-    empty : (k : List ℕ) → contains name_cmp next k ≡ true → ⊥
-    empty k has = let e : contains name_cmp next k ≡ false = rw none refl in cc
-
-    nothing : (names : List (List ℕ)) (k : List ℕ) → Among (take 0 names) k → ⊥
-    nothing [] k among = among
-    nothing (j ∷ js) k among = among
 
 module _ (fresh now now' next next' : Fresh) (before : List (List ℕ)) (k : List ℕ) (p : Picks fresh now next before) where
   moved : Moves now now' next next' k → Picks fresh now' next' (before ++ k ∷ [])
@@ -120,6 +104,3 @@ module _ (fresh now now' next next' : Fresh) (before : List (List ℕ)) (k : Lis
 pub one_picked : (fresh now now' next next' : Fresh) (names : List (List ℕ)) (i : ℕ) (k : List ℕ) → i < length names → k ≡ get_or names i k → Picks fresh now next (take i names) → PicksOne now now' next next' k → Picks fresh now' next' (take (i + 1) names)
 one_picked fresh now now' next next' names i k below is p one =
     subst (λ (ks : List (List ℕ)). Picks fresh now' next' ks) (sym (take_more names i k below ∙ ap (λ j. take i names ++ j ∷ []) (sym is))) (picked fresh now now' next next' (take i names) k p one)
-
-pub all_picked : (fresh now next : Fresh) (names : List (List ℕ)) (i : ℕ) → length names ≤ i → Picks fresh now next (take i names) → Picks fresh now next names
-all_picked fresh now next names i past p = subst (λ (ks : List (List ℕ)). Picks fresh now next ks) (take_all i names past) p

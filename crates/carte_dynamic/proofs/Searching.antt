@@ -1,5 +1,5 @@
 -- What holds of the search before each of its steps, and that a step keeps it.
-use Rattle.std.proofs.Common.{◌≡◌, ℕ, zero, suc, ◌+◌, ◌≤◌, ◌<◌, true, List, [], ◌∷◌, ◌++◌, length, slice_get, get_or, Some, None, refl, sym, ◌∙◌, subst, inl, inr, ◌⊎◌, arith, Ordering, Less}
+use Rattle.std.proofs.Common.{◌≡◌, ℕ, zero, suc, ◌<◌, true, List, [], ◌∷◌, ◌++◌, slice_get, Some, refl, sym, subst, inl, inr, ◌⊎◌, arith, Less}
 use Rattle.std.proofs.Math.Nat.{eq-or-lt_of_le}
 use Rattle.std.specs.BTreeSet.{contains, IsOrdered}
 use Rattle.std.proofs.lemmas.Option.{slice_get_within, get_or_from_slice_get}

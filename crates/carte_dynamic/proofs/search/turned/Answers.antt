@@ -1,4 +1,3 @@
-use Rattle.std.proofs.Common.{ap, ◌∙◌}
 use Rattle.carte_dynamic.proofs.Loops.{one_turned}
 use Rattle.carte_dynamic.proofs.search.turned.Goals as goal
 

@@ -1,5 +1,4 @@
-use Rattle.std.proofs.Common.{inl, sym, subst, OnOk}
-use Rattle.carte_dynamic.specs.Search.{PicksOne}
+use Rattle.std.proofs.Common.{inl, sym}
 use Rattle.carte_dynamic.proofs.Picking.{moves}
 use Rattle.carte_dynamic.proofs.search.Search.pick_one.Goals as goal
 use Rattle.carte_dynamic.proofs.search.Search.pick_one.Goals.{in-Ok, in-Err}

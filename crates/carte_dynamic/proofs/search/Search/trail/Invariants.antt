@@ -1,4 +1,4 @@
-use Rattle.std.proofs.Common.{◌≡◌, ◌<◌, ◌≤◌, ◌++◌, [], length, get_or, ◌+◌}
+use Rattle.std.proofs.Common.{◌≡◌, ◌≤◌, ◌++◌, [], length, get_or, ◌+◌}
 use Rattle.carte_dynamic.specs.Search.{place, trails}
 use Rattle.carte_dynamic.proofs.search.Search.trail.Given as goal
 
