@@ -45,7 +45,7 @@ abbrev pub Then : {A B : Type 0} → Result A BookFault → (A → Result B Book
 Then (Ok a) P o = P a o
 Then (Err fault) P o = o ≡ Err fault
 
--- a rule's key is a name at which no input stands
+-- a rule's key is a name at which nothing stands yet, so that of no input
 abbrev pub new_name : List ℕ → Content → Result (List ℕ) BookFault
 new_name k m = if is_rule_name k then (if is_some (get m k) then Err (Twice k) else Ok k) else Err (BadName k)
 
