@@ -1,12 +1,15 @@
 -- What a look-up answers.
-use Rattle.std.specs.Prelude.{ℕ, ◌≡◌, ◌↔◌, List, Option, Some, None, true, if◌then◌else◌}
+use Rattle.std.specs.Prelude.{ℕ, ◌≡◌, ◌↔◌, List, Option, Some, None, true, false, ⊤, if◌then◌else◌}
 use Rattle.std.specs.BTreeSet.{BTreeSet, contains}
 use Rattle.std.specs.Ordering.{eq_by_cmp}
 use Rattle.carte_formula.specs.Code.{tree_of}
+use Rattle.carte_formula.specs.Formula.{IsExpr, HasNames}
 use Rattle.carte_book.specs.declared.book.Item.{Item as CodeItem}
 use Rattle.carte_book.specs.declared.book.Item.TheVariants.{Input as InputItem, Rule as RuleItem}
+use Rattle.carte_value.specs.declared.kind.Kind.{Kind}
+use Rattle.carte_value.specs.Kinds.{is_name_of}
 use Rattle.carte_value.specs.Names.{name_cmp}
-use Rattle.carte_book.specs.Book.{Item, input, rule, Book}
+use Rattle.carte_book.specs.Book.{Item, input, rule, Book, content}
 use Rattle.carte_book.specs.Needs.{IsRule}
 use Rattle.carte_book.specs.declared.book.Looked.{Looked}
 use Rattle.carte_book.specs.declared.book.Looked.TheVariants.{Input as FoundInput, Rule as FoundRule, None as FoundNone}
@@ -15,6 +18,16 @@ abbrev pub Answers : Option Item → Looked → Type 0
 Answers o (FoundInput v) = o ≡ Some (input v.now)
 Answers o (FoundRule e) = o ≡ Some (rule (tree_of e.now))
 Answers o FoundNone = o ≡ None
+
+-- a rule's formula is as reading makes one, and its names are of the kind
+abbrev pub IsFormula : Kind → Looked → Type 0
+IsFormula q (FoundInput v) = ⊤
+IsFormula q (FoundRule e) = IsExpr (tree_of e.now) × HasNames q (tree_of e.now)
+IsFormula q FoundNone = ⊤
+
+-- a name of the other kind has nothing
+abbrev pub HasNoOthers : Book → Type 0
+HasNoOthers b = (k : List ℕ) → is_name_of b.kind k ≡ false → content b k ≡ None
 
 -- the set has the names of all rules, and no other
 abbrev pub HasRules : Book → BTreeSet (List ℕ) → Type 0

@@ -1,8 +1,10 @@
-ghost use Rattle.std.specs.Prelude.{◌≡◌, None, is_some, IfOk, OnOk, OnErr};
+ghost use Rattle.std.specs.Prelude.{◌≡◌, None, is_some, IsTrue, IfOk, OnOk, OnErr};
 ghost use Rattle.std.specs.FinMap.{empty, get};
+ghost use Rattle.carte_value.specs.Kinds.{is_name_of};
+ghost use Rattle.carte_book.specs.Fits.{FitsItem};
 ghost use Rattle.carte_book.specs.Book.{book_view, item_view, content, default_of};
 ghost use Rattle.carte_book.specs.Edits.{with_item};
-ghost use Rattle.carte_book.specs.Looked.{Answers, HasRules, AddsRule};
+ghost use Rattle.carte_book.specs.Looked.{Answers, IsFormula, HasNoOthers, HasRules, AddsRule};
 
 use crate::{Book, Item, Looked};
 use carte_value::{Kind, Name, NoMemory, Value};
@@ -30,9 +32,12 @@ impl Book {
         self.kind
     }
 
-    /// What stands at a name; in a sheet a cell that the book doesn't hold is an input without content. It takes no memory.
+    /// What stands at a name; in a sheet a cell that the book doesn't hold is an input without content.
+    /// A name of the other kind has nothing. It takes no memory.
     pub fn lookup(&self, name: &Name) -> Looked<'_>
-        ensures { Answers (content (book_view self.now) name.now) result }
+        ensures answer { Answers (content (book_view self.now) name.now) result }
+        ensures formula { IsFormula (book_view self.now).kind result }
+        ensures others { HasNoOthers (book_view self.now) }
     {
         match self.items.get(name) {
             Some(Item::Input(value)) => Looked::Input(value),
@@ -71,6 +76,8 @@ impl Book {
     }
 
     pub(crate) fn put(&mut self, name: Name, item: Item) -> Result<(), NoMemory>
+        requires name { IsTrue (is_name_of (book_view self.old).kind name) }
+        requires item { FitsItem (book_view self.old).kind item }
         ensures ok { OnOk result (book_view self.new ≡ with_item (book_view self.old) name (item_view item)) }
         ensures absent { OnErr result (get (book_view self.old).items name ≡ None) }
         ensures unchanged { OnErr result (book_view self.new ≡ book_view self.old) }

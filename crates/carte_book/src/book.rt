@@ -1,5 +1,6 @@
 ghost use Rattle.std.specs.Prelude.{◌≡◌};
 ghost use Rattle.carte_value.specs.declared.value.Value.TheVariants.{Empty};
+ghost use Rattle.carte_book.specs.Fits.{Fits, Fits-prop};
 
 use carte_formula::Expr;
 use carte_value::{Kind, Name, Value};
@@ -13,7 +14,7 @@ pub enum Item {
     Rule(Expr),
 }
 
-/// A rule file or a sheet in memory.
+/// A rule file or a sheet in memory. Its names are of its kind, and its formulas are as reading makes them.
 #[derive(Debug, Drop)]
 pub struct Book {
     pub(crate) alloc: Global,
@@ -22,6 +23,7 @@ pub struct Book {
     /// What each cell of a sheet holds that nothing was put in.
     pub(crate) nothing: Value,
     ghost is_nothing: { nothing ≡ Empty },
+    ghost fits: { Fits kind items.entries } by { Fits-prop kind items.entries },
 }
 
 /// What a book has at a name.

@@ -2,6 +2,7 @@ ghost use Rattle.std.specs.Prelude.{◌≡◌, IsTrue};
 ghost use Rattle.carte_value.specs.Kinds.{is_name_of};
 ghost use Rattle.carte_formula.specs.Code.{tree_of};
 ghost use Rattle.carte_formula.specs.Formula.{IsExpr, HasNames};
+ghost use Rattle.carte_book.specs.Fits.{FitsItem};
 ghost use Rattle.carte_book.specs.Book.{book_view, item_view, input, rule};
 ghost use Rattle.carte_book.specs.Edits.{keys_of, Adds, IsInput, Sets};
 
@@ -39,6 +40,8 @@ impl Book {
     }
 
     fn add(&mut self, name: Name, item: Item) -> Result<(), AddFault>
+        requires name { IsTrue (is_name_of (book_view self.old).kind name) }
+        requires item { FitsItem (book_view self.old).kind item }
         ensures { Adds (book_view self.old) (book_view self.new) name (item_view item) result }
     {
         if self.has(&name) {
@@ -65,7 +68,8 @@ impl Book {
     }
 
     fn put_input(&mut self, name: &Name, value: Value) -> Result<(), SetFault>
-        requires { IsInput (book_view self.old) name.now }
+        requires name { IsTrue (is_name_of (book_view self.old).kind name.now) }
+        requires input { IsInput (book_view self.old) name.now }
         ensures { Sets (book_view self.old) (book_view self.new) name.now value result }
     {
         if !self.has(name) && self.keys() >= MOST_KEYS {

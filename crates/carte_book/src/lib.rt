@@ -1,31 +1,46 @@
 //! Books: names with inputs and rules, what each name's clean value is, and why a build may be refused.
 //!
-//! A book in memory is an ordered map. Contracts see it as a finite map `Book` of the specs, and reach
-//! what stands at a name by `content` alone, so that another kind of book has one place for its default.
+//! A book is a rule file or a sheet, and its names and those in its formulas are of its kind. The type keeps this, and
+//! that each formula is as reading makes one, so that what is looked up can be run and printed without a test. In
+//! memory a book is an ordered map. Contracts see it as a finite map `Book` of the specs, with formulas as trees, and
+//! reach what stands at a name by `content` alone: in a sheet each cell that the map doesn't hold is an empty input, and
+//! this default has one place. Two types for the two kinds would have doubled every layer above.
+//!
+//! Names are added, and inputs are set. Each call says exactly when each fault comes, and after one the book is as
+//! before. That there are 65,536 names at most is tested where one is added, so no reader of bytes counts. The faults of
+//! the readers stand here too, since both share them.
 //!
 //! The clean values are defined by rounds of evaluation, as many as there are rules and one more. That is
 //! a function without order, trace or file in it; that one more round changes nothing is proved once, and
 //! every layer above uses only that. A least fixpoint as a relation would need no rounds, but then "has a
 //! clean value" would be no test. What is reached is a relation, which is least by nature.
 //!
-//! A formula is a sum of names and numbers. What it means is a computation that asks for names (`Asks`),
-//! so that its laws on growing truths are those of every other formula. The reader and the formulas'
-//! texts are private: a later formula language replaces them.
+//! A build is refused for a path from a target: round to a name on it, or astray to a name that has nothing. Where rules
+//! are ordered before any is worked out, it is first of all refused for a path of written references to a dynamic rule,
+//! one whose references its text doesn't tell. There may be many such paths; the first by length and then by names is
+//! told, so that there is one answer.
 //!
-//! Bytes are a book by one function, `book_of`, so a fault comes exactly where that function gives it.
-//! The laws of the definitions are contracts of functions that do nothing: only a contract is proved.
+//! The digest of the rules is fed from the printed formulas and not from the texts that were read, so blanks and needless
+//! brackets aren't part of it. The laws of the definitions are contracts of functions that do nothing: only a contract
+//! is proved.
 #![tactic(auto)]
 
 mod access;
 mod book;
+mod digest;
 mod edits;
 mod fault;
 mod key_text;
 mod laws;
 mod reason;
+#[cfg(test)]
+mod tests;
 
 pub use book::{Book, Item, Looked};
 pub use fault::{AddFault, BookFault, SetFault, Which};
 pub use key_text::KeyText;
-pub use laws::{clean_is_settled, clean_or_refused, reason_is_unique};
+pub use laws::{
+    clean_is_evaluated, clean_is_settled, clean_or_refused, one_digest, order_clean_or_refused,
+    order_reason_is_unique, put_stands, reason_is_unique,
+};
 pub use reason::Reason;

@@ -4,19 +4,34 @@ use Rattle.carte_value.specs.Names.{name_cmp}
 use Rattle.carte_book.specs.Book.{item_view, default_of, or_default}
 use Rattle.carte_book.specs.declared.book.Item.TheVariants.{Input as InputItem, Rule as RuleItem}
 use Rattle.carte_book.proofs.Books.{item_found}
+use Rattle.carte_book.proofs.Fitting.{found_fits, no_others}
 use Rattle.carte_book.proofs.book.Book.lookup.Goals as goal
 
-pub returns-in-Some-Input : goal.returns-in-Some-Input
-returns-in-Some-Input c =
+pub returns-in-Some-Input-clause-answer : goal.returns-in-Some-Input-clause-answer
+returns-in-Some-Input-clause-answer c =
     let found : tree.get name_cmp c.args.self.now.items c.args.name.now ≡ Some (InputItem c.in-Some-Input.value) = cc (c.in-Some-Input.ensures.value) in
     ap (λ o. or_default o (default_of c.args.self.now.kind c.args.name.now)) (item_found c.args.self.now c.args.name.now ∙ ap (option_map item_view) found)
 
-pub returns-in-Some-Rule : goal.returns-in-Some-Rule
-returns-in-Some-Rule c =
+pub returns-in-Some-Rule-clause-answer : goal.returns-in-Some-Rule-clause-answer
+returns-in-Some-Rule-clause-answer c =
     let found : tree.get name_cmp c.args.self.now.items c.args.name.now ≡ Some (RuleItem c.in-Some-Rule.formula) = cc (c.in-Some-Rule.ensures.value) in
     ap (λ o. or_default o (default_of c.args.self.now.kind c.args.name.now)) (item_found c.args.self.now c.args.name.now ∙ ap (option_map item_view) found)
 
-pub returns-in-None : goal.returns-in-None
-returns-in-None c =
+pub returns-in-None-clause-answer : goal.returns-in-None-clause-answer
+returns-in-None-clause-answer c =
     let found : tree.get name_cmp c.args.self.now.items c.args.name.now ≡ None = cc (c.in-None.ensures.value) in
     rw (item_found c.args.self.now c.args.name.now ∙ ap (option_map item_view) found) c.unheld.ensures
+
+pub returns-in-Some-Rule-clause-formula : goal.returns-in-Some-Rule-clause-formula
+returns-in-Some-Rule-clause-formula c =
+    let found : tree.get name_cmp c.args.self.now.items c.args.name.now ≡ Some (RuleItem c.in-Some-Rule.formula) = cc (c.in-Some-Rule.ensures.value) in
+    found_fits c.args.self.now c.args.name.now (RuleItem c.in-Some-Rule.formula) found
+
+pub returns-in-Some-Input-clause-others : goal.returns-in-Some-Input-clause-others
+returns-in-Some-Input-clause-others c = no_others c.args.self.now
+
+pub returns-in-Some-Rule-clause-others : goal.returns-in-Some-Rule-clause-others
+returns-in-Some-Rule-clause-others c = no_others c.args.self.now
+
+pub returns-in-None-clause-others : goal.returns-in-None-clause-others
+returns-in-None-clause-others c = no_others c.args.self.now
