@@ -80,7 +80,7 @@ fn a_book_is_read(rt: HostRuntime) -> Result<(), Fail> {
         ("b", "9223372036854775807"),
         ("c", "\"it's é\""),
         ("d", "\"\""),
-        ("total", "1 + b"),
+        ("total", "1+b"),
         ("e", "nothing"),
     ];
     for (name, item) in items {
