@@ -11,7 +11,7 @@ use Rattle.carte_book.specs.Book.{Book, input, rule}
 use Rattle.carte_book.specs.declared.fault.BookFault.{BookFault}
 use Rattle.carte_book.specs.declared.fault.BookFault.TheVariants.{BadValue}
 use Rattle.carte_rules.specs.Tables.{◌>>=◌, Tables, table_into, tables_into, no_tables, tables_in, tables_of, document}
-use Rattle.carte_rules.specs.Reading.{Content, Then, name_at, or_fault, value_of, input_into, inputs_into, text_at, at_rule, FormulaOf, RuleAt, RulesInto, book_of, WithRules, InTables, BookOf}
+use Rattle.carte_rules.specs.Reading.{Content, Then, name_of, new_name, or_fault, value_of, input_into, inputs_into, text_at, at_rule, FormulaOf, RuleAt, RulesInto, book_of, WithRules, InTables, BookOf}
 use Rattle.carte_rules.specs.Steps.{IsOfBytes}
 
 abbrev Fine : {A : Type 0} → Result A BookFault → Type 0
@@ -52,21 +52,24 @@ fine_of : (bytes : List ℕ) → Fine (tables_of bytes)
 fine_of bytes = either (nat_lt 16777216 (length bytes)) _ _ tt (fine_in (document bytes))
 
 -- the inputs
-fine_name : (k : List ℕ) (m : Content) → Fine (name_at k m)
-fine_name k m = either (is_rule_name k) _ _ (either (is_some (get m k)) _ _ tt tt) tt
+fine_name : (k : List ℕ) → Fine (name_of k)
+fine_name k = either (is_rule_name k) _ _ tt tt
 
 fine_value : {A : Type 0} (k : List ℕ) (o : Option A) → Fine (or_fault o (BadValue k))
 fine_value k None = tt
 fine_value k (Some a) = tt
 
 fine_input : (k : List ℕ) (d : Data) (m : Content) → Fine (input_into k d m)
-fine_input k d m = bound (name_at k m >>= (λ j. or_fault (value_of d) (BadValue j))) (λ v. Ok (insert m k (input v))) (bound (name_at k m) (λ j. or_fault (value_of d) (BadValue j)) (fine_name k m) (λ j. fine_value j (value_of d))) (λ v. tt)
+fine_input k d m = bound (name_of k >>= (λ j. or_fault (value_of d) (BadValue j))) (λ v. Ok (insert m k (input v))) (bound (name_of k) (λ j. or_fault (value_of d) (BadValue j)) (fine_name k) (λ j. fine_value j (value_of d))) (λ v. tt)
 
 fine_inputs : (ms : Members) (m : Content) → Fine (inputs_into ms m)
 fine_inputs no_members m = tt
 fine_inputs (member k d ms) m = bound (input_into k d m) (inputs_into ms) (fine_input k d m) (fine_inputs ms)
 
 -- the rules
+fine_new_name : (k : List ℕ) (m : Content) → Fine (new_name k m)
+fine_new_name k m = either (is_rule_name k) _ _ (either (is_some (get m k)) _ _ tt tt) tt
+
 fine_read : (k : List ℕ) (r : Result Tree FormulaFault) → IsTold r → Fine (at_rule k r)
 fine_read k (Ok e) t = tt
 fine_read k (Err (BadToken place)) t = tt
@@ -80,7 +83,7 @@ fine_formula : (k text : List ℕ) (o : Result Tree BookFault) → FormulaOf k t
 fine_formula k text o (r, h, t, is) = subst Fine (sym is) (fine_read k r t)
 
 fine_rule : (k : List ℕ) (d : Data) (m : Content) (o : Result Tree BookFault) → RuleAt k d m o → Fine o
-fine_rule k d m o h = then (text_at k d m) (FormulaOf k) (bound (name_at k m) (λ j. or_fault (as_str d) (BadValue j)) (fine_name k m) (λ j. fine_value j (as_str d))) (fine_formula k) o h
+fine_rule k d m o h = then (text_at k d m) (FormulaOf k) (bound (new_name k m) (λ j. or_fault (as_str d) (BadValue j)) (fine_new_name k m) (λ j. fine_value j (as_str d))) (fine_formula k) o h
 
 fine_rules : (ms : Members) (m : Content) (o : Result Content BookFault) → RulesInto ms m o → Fine o
 fine_rules no_members m o h = subst Fine (sym h) tt

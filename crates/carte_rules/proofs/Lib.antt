@@ -3,4 +3,5 @@ pub mod Drafts
 pub mod Documents
 pub mod Keys
 pub mod Turns
+pub mod Fresh
 pub mod Causes

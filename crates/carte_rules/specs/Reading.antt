@@ -19,9 +19,9 @@ use Rattle.carte_rules.specs.Tables.{◌>>=◌, Tables, tables_of}
 abbrev pub Content : Type 0
 Content = FinMap name_cmp Item
 
--- a key is a name at which nothing stands yet
-abbrev pub name_at : List ℕ → Content → Result (List ℕ) BookFault
-name_at k m = if is_rule_name k then (if is_some (get m k) then Err (Twice k) else Ok k) else Err (BadName k)
+-- a key is a name
+abbrev pub name_of : List ℕ → Result (List ℕ) BookFault
+name_of k = if is_rule_name k then Ok k else Err (BadName k)
 
 abbrev pub or_fault : {A : Type 0} → Option A → BookFault → Result A BookFault
 or_fault (Some a) fault = Ok a
@@ -34,7 +34,7 @@ value_of (string s) = if nat_le (length s) 65536 then Some (Text s) else None
 value_of _ = None
 
 abbrev pub input_into : List ℕ → Data → Content → Result Content BookFault
-input_into k d m = name_at k m >>= (λ j. or_fault (value_of d) (BadValue j)) >>= (λ v. Ok (insert m k (input v)))
+input_into k d m = name_of k >>= (λ j. or_fault (value_of d) (BadValue j)) >>= (λ v. Ok (insert m k (input v)))
 
 abbrev pub inputs_into : Members → Content → Result Content BookFault
 inputs_into no_members m = Ok m
@@ -45,9 +45,13 @@ abbrev pub Then : {A B : Type 0} → Result A BookFault → (A → Result B Book
 Then (Ok a) P o = P a o
 Then (Err fault) P o = o ≡ Err fault
 
--- the text of a rule
+-- a rule's key is a name at which nothing stands yet, so that of no input
+abbrev pub new_name : List ℕ → Content → Result (List ℕ) BookFault
+new_name k m = if is_rule_name k then (if is_some (get m k) then Err (Twice k) else Ok k) else Err (BadName k)
+
+-- and its value is a text
 abbrev pub text_at : List ℕ → Data → Content → Result (List ℕ) BookFault
-text_at k d m = name_at k m >>= (λ j. or_fault (as_str d) (BadValue j))
+text_at k d m = new_name k m >>= (λ j. or_fault (as_str d) (BadValue j))
 
 abbrev pub at_rule : List ℕ → Result Tree FormulaFault → Result Tree BookFault
 at_rule k (Ok e) = Ok e

@@ -1,4 +1,4 @@
-ghost use Rattle.std.specs.Prelude.{◌≡◌, ◌≤◌, None, is_some, length, IsTrue, OnOk};
+ghost use Rattle.std.specs.Prelude.{◌≡◌, ◌↔◌, ◌≤◌, None, is_some, length, IsTrue, OnOk};
 ghost use Rattle.std.specs.FinMap.{empty, get, insert, entries};
 ghost use Rattle.carte_value.specs.declared.kind.Kind.TheVariants.{Rules};
 ghost use Rattle.carte_value.specs.Names.{is_rule_name};
@@ -10,7 +10,7 @@ ghost use Rattle.carte_rules.specs.Reading.{Content, book_of};
 ghost use Rattle.carte_rules.specs.Steps.{Gives};
 
 use crate::draft::Draft;
-use carte_book::{Book, BookFault, Looked, Which};
+use carte_book::{AddFault, Book, BookFault, Looked, Which};
 use carte_formula::Expr;
 use carte_value::{Kind, Name, NoMemory, Value};
 use std::alloc::Global;
@@ -43,12 +43,13 @@ impl Draft {
         requires { IsTrue (is_rule_name name) }
         ensures { (m : Content) → Holds self.old m → get m name ≡ None → OnOk result (Holds self.new (insert m name (input value))) }
     {
-        if self.book.keys() >= MOST_KEYS {
+        if self.is_full() {
             return self.add_beyond(name);
         }
         match self.book.add_input(name, value) {
             Ok(()) => Ok(()),
-            Err(_) => Err(NoMemory),
+            Err(AddFault::Limit) => unreachable!(),
+            Err(AddFault::Twice | AddFault::NoMemory) => Err(NoMemory),
         }
     }
 
@@ -59,13 +60,20 @@ impl Draft {
         requires names { HasNames Rules (tree_of expr) }
         ensures { (m : Content) → Holds self.old m → get m name ≡ None → OnOk result (Holds self.new (insert m name (rule (tree_of expr)))) }
     {
-        if self.book.keys() >= MOST_KEYS {
+        if self.is_full() {
             return self.add_beyond(name);
         }
         match self.book.add_rule(name, expr) {
             Ok(()) => Ok(()),
-            Err(_) => Err(NoMemory),
+            Err(AddFault::Limit) => unreachable!(),
+            Err(AddFault::Twice | AddFault::NoMemory) => Err(NoMemory),
         }
+    }
+
+    fn is_full(&self) -> bool
+        ensures { IsTrue result ↔ (65536 ≤ length (entries (items_of self.now))) }
+    {
+        self.book.keys() >= MOST_KEYS
     }
 
     // Keeps the name of a key for which the book has no room.

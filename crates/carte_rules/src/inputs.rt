@@ -1,19 +1,20 @@
-ghost use Rattle.std.specs.Prelude.{◌≡◌};
+ghost use Rattle.std.specs.Prelude.{◌≡◌, None};
+ghost use Rattle.std.specs.FinMap.{empty, get};
 ghost use Rattle.toml.specs.View.{view, table_view};
 ghost use Rattle.carte_rules.specs.Drafts.{Holds};
 ghost use Rattle.carte_rules.specs.Reading.{Content, input_into, inputs_into, value_of};
 ghost use Rattle.carte_rules.specs.Steps.{Leaves};
 
 use crate::draft::Draft;
-use crate::names::name_at;
+use crate::names::name_of;
 use carte_book::BookFault;
 use carte_value::{Text, Value};
 use std::alloc::Global;
 use toml::Table;
 
-/// Puts all inputs into the draft.
+/// Puts all inputs into a draft without keys.
 pub(crate) fn read_inputs(alloc: Global, table: Table, draft: &mut Draft) -> Result<(), BookFault>
-    ensures { (m : Content) → Holds draft.old m → Leaves (inputs_into (table_view table) m) draft.new result }
+    ensures { Holds draft.old empty → Leaves (inputs_into (table_view table) empty) draft.new result }
 {
     for (key, value) in table {
         if let Err(fault) = read_input(alloc, key.as_str(), value, draft) {
@@ -29,9 +30,9 @@ fn read_input(
     value: toml::Value,
     draft: &mut Draft,
 ) -> Result<(), BookFault>
-    ensures { (m : Content) → Holds draft.old m → Leaves (input_into key.now (view value) m) draft.new result }
+    ensures { (m : Content) → Holds draft.old m → get m key.now ≡ None → Leaves (input_into key.now (view value) m) draft.new result }
 {
-    match name_at(alloc, key, draft) {
+    match name_of(alloc, key) {
         Ok(name) => match value_of(value) {
             Some(value) => match draft.add_input(name, value) {
                 Ok(()) => Ok(()),

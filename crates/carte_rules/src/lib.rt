@@ -11,9 +11,6 @@
 //! then keeps the names alone, without values and formulas, since a rule may still stand at the name of an
 //! input. To count the keys first would have needed a second reader for documents of too many. To ask the
 //! document's own table for the name would have kept all inputs twice.
-//!
-//! A name stands at a key only where nothing stands yet, for inputs as for rules. TOML lets no key stand twice
-//! in one table, so only a rule at an input's name is told `Twice`.
 #![tactic(auto)]
 
 mod draft;
@@ -24,6 +21,8 @@ mod laws;
 mod names;
 mod read;
 mod rules;
+#[cfg(test)]
+mod tests;
 
 pub use laws::{book_is_unique, fault_is_of_bytes};
 pub use read::read_rules;

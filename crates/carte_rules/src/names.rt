@@ -2,7 +2,7 @@ ghost use Rattle.std.specs.Prelude.{◌≡◌, IsTrue, IfOk};
 ghost use Rattle.carte_book.specs.declared.fault.BookFault.TheVariants.{BadName};
 ghost use Rattle.carte_value.specs.Names.{is_rule_name};
 ghost use Rattle.carte_rules.specs.Drafts.{Holds};
-ghost use Rattle.carte_rules.specs.Reading.{Content, name_at};
+ghost use Rattle.carte_rules.specs.Reading.{Content, name_of, new_name};
 ghost use Rattle.carte_rules.specs.Steps.{Gives, IsCause};
 
 use crate::draft::Draft;
@@ -10,12 +10,24 @@ use carte_book::{BookFault, KeyText};
 use carte_value::{Name, NameFault};
 use std::alloc::Global;
 
-/// The name that a key is, where nothing stands at it yet.
-pub(crate) fn name_at(alloc: Global, key: &str, draft: &Draft) -> Result<Name, BookFault>
-    ensures gives { (m : Content) → Holds draft.now m → Gives (λ k. k) (name_at key.now m) result }
+/// The name that a key is.
+pub(crate) fn name_of(alloc: Global, key: &str) -> Result<Name, BookFault>
+    ensures gives { Gives (λ k. k) (name_of key.now) result }
     ensures name { IfOk result (λ k. IsTrue (is_rule_name k)) }
 {
     match Name::rule(alloc, key) {
+        Ok(name) => Ok(name),
+        Err(NameFault::BadName(_)) => Err(bad_name(alloc, key)),
+        Err(NameFault::NoMemory) => Err(BookFault::NoMemory),
+    }
+}
+
+/// The name that the key of a rule is, where no input has it.
+pub(crate) fn new_name(alloc: Global, key: &str, draft: &Draft) -> Result<Name, BookFault>
+    ensures gives { (m : Content) → Holds draft.now m → Gives (λ k. k) (new_name key.now m) result }
+    ensures name { IfOk result (λ k. IsTrue (is_rule_name k)) }
+{
+    match name_of(alloc, key) {
         Ok(name) => {
             if draft.has(&name) {
                 Err(BookFault::Twice(name))
@@ -23,8 +35,7 @@ pub(crate) fn name_at(alloc: Global, key: &str, draft: &Draft) -> Result<Name, B
                 Ok(name)
             }
         }
-        Err(NameFault::BadName(_)) => Err(bad_name(alloc, key)),
-        Err(NameFault::NoMemory) => Err(BookFault::NoMemory),
+        Err(fault) => Err(fault),
     }
 }
 

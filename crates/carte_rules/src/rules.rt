@@ -7,7 +7,7 @@ ghost use Rattle.carte_rules.specs.Reading.{Content};
 ghost use Rattle.carte_rules.specs.Steps.{LeavesFormula, LeavesRule, LeavesRules};
 
 use crate::draft::Draft;
-use crate::names::name_at;
+use crate::names::new_name;
 use carte_book::BookFault;
 use carte_formula::{FormulaFault, read};
 use carte_value::{Kind, Name};
@@ -29,7 +29,7 @@ pub(crate) fn read_formulas(alloc: Global, table: Table, draft: &mut Draft) -> R
 fn read_rule(alloc: Global, key: &str, value: &Value, draft: &mut Draft) -> Result<(), BookFault>
     ensures { (m : Content) → Holds draft.old m → LeavesRule key.now (view value.now) m draft.new result }
 {
-    match name_at(alloc, key, draft) {
+    match new_name(alloc, key, draft) {
         Ok(name) => match value.as_str() {
             Some(text) => read_formula(alloc, name, text, draft),
             None => Err(BookFault::BadValue(name)),

@@ -1,12 +1,13 @@
-use Rattle.std.specs.FinMap.{insert}
+use Rattle.std.proofs.Common.{◌∙◌, ap}
+use Rattle.std.specs.FinMap.{get, insert}
 use Rattle.toml.specs.View.{view}
 use Rattle.carte_book.specs.Book.{input}
-use Rattle.carte_rules.proofs.Keys.{fresh_name, input_put}
+use Rattle.carte_rules.proofs.Keys.{same_name, input_put}
 use Rattle.carte_rules.proofs.inputs.read_input.Goals as goal
 
 pub returns-in-Ok-add_input : goal.returns-in-Ok-add_input
-returns-in-Ok-add_input c = λ m h.
+returns-in-Ok-add_input c = λ m h new.
     let k = c.args.key.now in
     let j = c.in-Ok.name in
-    let is = c.in-Ok.ensures.gives m h in
-    (insert m j (input c.in-Some.value), input_put k j (view c.args.value) c.in-Some.value m is c.in-Some.ensures, c.in-Ok-add_input.ensures m h (fresh_name k j m is))
+    let is = c.in-Ok.ensures.gives in
+    (insert m j (input c.in-Some.value), input_put k j (view c.args.value) c.in-Some.value m is c.in-Some.ensures, c.in-Ok-add_input.ensures m h (ap (get m) (same_name k j is) ∙ new))
