@@ -25,10 +25,18 @@
 
 mod areas;
 mod check;
+#[cfg(test)]
+mod check_tests;
 mod code;
 mod each;
 mod effect;
+#[cfg(test)]
+mod effect_tests;
 mod ended;
+#[cfg(test)]
+mod formula_rows;
+#[cfg(test)]
+mod formula_tests;
 mod job;
 mod list;
 mod look;
@@ -39,9 +47,15 @@ mod postfix;
 mod progress;
 mod refs_only;
 mod runs;
+#[cfg(test)]
+mod shown;
 mod static_run;
 mod static_task;
 mod task;
+#[cfg(test)]
+mod task_tests;
+#[cfg(test)]
+mod told;
 mod tracked;
 mod turns;
 
