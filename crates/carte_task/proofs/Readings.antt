@@ -1,5 +1,5 @@
 -- What a run of a static task is for its formula.
-use Rattle.std.proofs.Common.{◌≡◌, ℕ, Bool, true, List, [], ◌∷◌, map, Option, Some, None, Result, Ok, Err, refl, ap, sym, ◌∙◌, subst, inl, inr}
+use Rattle.std.proofs.Common.{◌≡◌, ℕ, Bool, true, false, List, [], ◌∷◌, map, Option, Some, None, Result, Ok, Err, refl, ap, sym, ◌∙◌, subst, inl, inr}
 use Rattle.carte_value.specs.declared.kind.Kind.{Kind}
 use Rattle.carte_value.specs.declared.value.Value.{Value}
 use Rattle.carte_value.specs.Truths.{Truth, Among}
@@ -7,9 +7,9 @@ use Rattle.carte_value.specs.Asks.{Asks, done, ask, run, asked, asked_on, answer
 use Rattle.carte_value.proofs.Firsts.{among_firsts}
 use Rattle.carte_formula.specs.Tree.{Tree}
 use Rattle.carte_formula.specs.Formula.{refs_of, is_static_tree}
-use Rattle.carte_meaning.specs.InTurn.{until, go_on}
+use Rattle.carte_meaning.specs.InTurn.{HasAll, until, go_on}
 use Rattle.carte_meaning.specs.Meaning.{asks, eval, fetched}
-use Rattle.carte_meaning.specs.Laws.{StaticNeeds}
+use Rattle.carte_meaning.specs.Laws.{StaticEnds, StaticNeeds}
 use Rattle.carte_task.specs.declared.effect.Halt.{Halt}
 use Rattle.carte_task.specs.declared.effect.Halt.TheVariants.{Stop, NoMemory}
 use Rattle.carte_task.specs.declared.static_task.StaticTask.{StaticTask}
@@ -17,7 +17,7 @@ use Rattle.carte_task.specs.Effects.{paired}
 use Rattle.carte_task.specs.Ledger.{Ledger}
 use Rattle.carte_task.specs.Lists.{ValuesOf, StopsAmong}
 use Rattle.carte_task.specs.Outcomes.{Outcome, links_of}
-use Rattle.carte_task.specs.Statics.{static_refs, IsStaticTaskOf, StaticRan, Reads, with_run}
+use Rattle.carte_task.specs.Statics.{static_refs, IsStaticTaskOf, StaticRan, Reads, IsReadFrom, with_run}
 
 -- it is stuck at a name that it asks for and that has no value
 asked_stuck : {A : Type 0} (t : Truth) (m : Asks A) (j : List ℕ) → t j ≡ None → Among (asked t m) j → run t m ≡ Err j
@@ -67,3 +67,12 @@ reads t own withholds log0 log s runs0 runs (Err (Stop stop)) needs ran kind k e
     let among : Among (fetched kind t e) stuck.0 = subst (λ ks. Among ks stuck.0) (sym (needs kind t e of.fixed)) stuck.3 in
     ((stuck.0, asked_stuck t (asks kind e) stuck.0 stuck.1 (among_firsts (asked t (asks kind e)) stuck.0 among), stuck.2), ran.2)
 reads t own withholds log0 log s runs0 runs (Err NoMemory) needs ran kind k e of = ran.1
+
+-- over values that stand it comes to an end
+pub read_whole : {S : Type 0} (F : Type 0) (kind : Kind) (t : Truth) (own : List ℕ → S → Type 0) (k : List ℕ) (e : Tree) (runs0 runs : Ledger) (o : Option Outcome) → Reads {S = S} kind t own false k e runs0 runs (Ok o) → IsReadFrom {F = F} kind t k e runs0 runs (Ok o)
+read_whole F kind t own k e runs0 runs (Some o) ran = ran
+read_whole F kind t own k e runs0 runs None ran = cc
+
+-- and doesn't stop
+pub read_on : {S : Type 0} (kind : Kind) (t : Truth) (own : List ℕ → S → Type 0) (k : List ℕ) (e : Tree) (runs0 runs : Ledger) (stop : S) → StaticEnds → is_static_tree e ≡ true → HasAll t (refs_of e) → Reads kind t own false k e runs0 runs (Err (Stop stop)) → ⊥
+read_on kind t own k e runs0 runs stop ends fixed has ran = let value = (ends kind t e fixed has).1 in let stuck = ran.0.1 in cc

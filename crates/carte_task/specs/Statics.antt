@@ -79,6 +79,12 @@ Reads kind t own withholds k e runs0 runs (Ok None) = (withholds ≡ true) × (r
 Reads kind t own withholds k e runs0 runs (Err (Stop stop)) = ((j : List ℕ) × (eval kind t e ≡ Err j) × own j stop) × (runs ≡ runs0)
 Reads kind t own withholds k e runs0 runs (Err NoMemory) = runs ≡ runs0
 
+-- over values that stand: it is read with one run, unless there is no memory
+abbrev pub IsReadFrom : {F : Type 0} → Kind → Truth → List ℕ → Tree → Ledger → Ledger → Result (Option Outcome) F → Type 0
+IsReadFrom kind t k e runs0 runs (Ok (Some o)) = IsRead kind t k e o × (runs ≡ with_run runs0 k)
+IsReadFrom kind t k e runs0 runs (Ok None) = ⊥
+IsReadFrom kind t k e runs0 runs (Err refused) = runs ≡ runs0
+
 -- what it comes to over these values of its references
 pub record EndsOver (s : StaticTask) (vs : List Value) (o : Outcome) : Type 0 where
   pub key : o.key ≡ static_key s

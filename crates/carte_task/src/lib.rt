@@ -45,6 +45,8 @@ mod made;
 mod mentioned;
 mod postfix;
 mod progress;
+#[cfg(test)]
+mod read_tests;
 mod refs_only;
 mod runs;
 #[cfg(test)]
