@@ -5,10 +5,11 @@
 //! sink took, and that a status which is due comes, but for want of memory and failing devices. One
 //! clause by cases can't forget a status, as one clause for each status could.
 //!
-//! A build walks the book: a rule is first fresh, then on the path, then done. The path is a deque in
-//! memory whose newest rule stands first, since a chain may be as long as the book: recursion would need
-//! as much stack. A frame keeps the place of the term that it waits for, so a rule of many references is
-//! never begun anew, and each rule is evaluated once, when all that it looks up is done.
+//! A build takes the order of its rules from `carte_topo` and works each out once, as a static task over
+//! a snapshot of the inputs and the values so far. The values stand in an ordered map, and the ledger of
+//! the tasks has the counts that are printed. Turned down: working rules out in the walk that orders
+//! them, where the proof of the order carries values that it doesn't need; and an evaluator of formulas
+//! here, beside that of the tasks, which could differ from it.
 //!
 //! The reply is made as one text before its first byte is written, so want of memory never leaves half of
 //! one. The error line is made as a text too; where there is no memory for it, that is the status. All
@@ -16,10 +17,14 @@
 #![tactic(auto)]
 
 mod build;
+#[cfg(test)]
+mod device_tests;
 mod evaluate;
 mod known;
 mod reply;
 mod status;
+#[cfg(test)]
+mod test_runs;
 #[cfg(test)]
 mod tests;
 mod texts;
