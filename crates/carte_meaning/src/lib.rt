@@ -31,4 +31,6 @@ pub use found::{name_in, names_in};
 pub use laws::{static_asks, static_ends, static_looks, static_needs, static_runs};
 
 #[cfg(test)]
+mod meaning_rows;
+#[cfg(test)]
 mod tests;

@@ -40,6 +40,9 @@ fn fault(alloc: Global, book: &Book, targets: &[Name], stop: Stop) -> PlanFault
     requires { IsStop (book_view book.now) targets.now stop }
     ensures { Orders (book_view book.now) targets.now (Err result) }
 {
+    if matches!(stop, Stop::NoMemory) {
+        return PlanFault::NoMemory;
+    }
     match dynamic_path(alloc, book, targets) {
         Ok(Some(path)) => PlanFault::Refused(Reason::Dynamic(path)),
         Ok(None) => match stop {
