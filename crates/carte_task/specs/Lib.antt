@@ -19,5 +19,4 @@ pub mod Fitting
 pub mod Compared
 pub mod Checking
 pub mod Checks
-pub mod Firsts
 pub mod Statics
