@@ -1,5 +1,5 @@
 -- No fault of bytes is the want of memory.
-use Rattle.std.proofs.Common.{◌≡◌, ℕ, Bool, true, false, cond, List, length, nat_lt, Option, Some, None, is_some, codes, Result, Ok, Err, sym, subst}
+use Rattle.std.proofs.Common.{ℕ, Bool, true, false, cond, List, length, nat_lt, Option, Some, None, is_some, codes, Result, Ok, Err, sym, subst}
 use Rattle.std.specs.FinMap.{get, insert, empty, entries}
 use Rattle.toml.specs.Data.{Data, string, integer, float, boolean, datetime, array, table, Members, no_members, member, as_str}
 use Rattle.carte_value.specs.Names.{is_rule_name, name_eq}

@@ -5,12 +5,11 @@ use Rattle.toml.specs.Data.{Data, as_str}
 use Rattle.carte_value.specs.declared.value.Value.{Value}
 use Rattle.carte_value.specs.Names.{is_rule_name}
 use Rattle.carte_formula.specs.Tree.{Tree}
-use Rattle.carte_book.specs.Book.{Item, input, rule}
+use Rattle.carte_book.specs.Book.{Item, input}
 use Rattle.carte_book.specs.declared.fault.BookFault.{BookFault}
 use Rattle.carte_book.specs.declared.fault.BookFault.TheVariants.{BadName, BadValue, Twice}
 use Rattle.carte_rules.specs.Tables.{◌>>=◌}
 use Rattle.carte_rules.specs.Reading.{Content, name_of, new_name, or_fault, value_of, input_into, text_at, Then, FormulaOf, RuleAt}
-use Rattle.carte_rules.specs.Drafts.{Holds}
 use Rattle.carte_rules.specs.Steps.{LeavesFormula, LeavesRule}
 use Rattle.carte_rules.specs.declared.draft.Draft.{Draft}
 

@@ -1,12 +1,9 @@
 -- Bytes have one outcome at most, and it is none of memory.
-use Rattle.std.proofs.Common.{ℕ, List, ◌≡◌, Result, Ok, Err, Option, Some, None, true, false, cond, is_some, nat_lt, length, refl, sym, ◌∙◌, ap, subst}
-use Rattle.std.specs.FinMap.{get, insert, empty, entries}
-use Rattle.toml.specs.Data.{Data, string, integer, float, boolean, datetime, array, table, Members, no_members, member, as_str}
+use Rattle.std.proofs.Common.{ℕ, List, ◌≡◌, Result, Ok, Err, sym, ◌∙◌, ap, subst}
+use Rattle.std.specs.FinMap.{insert, empty}
+use Rattle.toml.specs.Data.{Data, Members, no_members, member}
 use Rattle.carte_value.specs.declared.kind.Kind.TheVariants.{Rules}
-use Rattle.carte_value.specs.Names.{is_rule_name}
 use Rattle.carte_formula.specs.Tree.{Tree}
-use Rattle.carte_formula.specs.declared.fault.FormulaFault.{FormulaFault}
-use Rattle.carte_formula.specs.Whole.{Reads, IsTold}
 use Rattle.carte_formula.proofs.Round.{one_reading}
 use Rattle.carte_book.specs.Book.{Book, rule}
 use Rattle.carte_book.specs.declared.fault.BookFault.{BookFault}

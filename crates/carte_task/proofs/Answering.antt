@@ -1,18 +1,18 @@
 -- A computation that asks each name once, one answer further.
-use Rattle.std.proofs.Common.{◌≡◌, ℕ, List, [], ◌∷◌, ◌++◌, Option, Some, None, Result, Ok, Err, refl, ap, sym, ◌∙◌, subst, inl, inr, ◌⊎◌, append_assoc, append-nil, length, ◌<◌, get_or, drop, suc, add-one, ◌+◌}
+use Rattle.std.proofs.Common.{◌≡◌, ℕ, List, [], ◌∷◌, ◌++◌, Option, Some, None, Err, refl, ap, sym, ◌∙◌, subst, inl, inr, append_assoc, append-nil}
 use Rattle.carte_value.specs.declared.value.Value.{Value}
 use Rattle.carte_value.specs.Truths.{Truth}
-use Rattle.carte_value.specs.Asks.{Asks, done, ask}
-use Rattle.carte_value.specs.Once.{Answers, answer_in, once_on, once, Went, AnswersOf}
-use Rattle.carte_value.proofs.Once.{went_end, went_on, answers_end, answers_on}
+use Rattle.carte_value.specs.Asks.{Asks, ask}
+use Rattle.carte_value.specs.Once.{Answers, answer_in, once_on, once}
+use Rattle.carte_value.proofs.Once.{went_end, answers_end}
 use Rattle.carte_value.proofs.Laws.{answer_new}
 use Rattle.indexmap.specs.IndexMap.{insert_entry}
 use Rattle.indexmap.proofs.MapLemmas.{insert_entry-absent, absent_from_lookup}
 use Rattle.carte_value.specs.Names.{name_eq}
 use Rattle.carte_task.specs.declared.effect.Halt.{Halt}
 use Rattle.carte_task.specs.declared.effect.Halt.TheVariants.{Stop, NoMemory}
-use Rattle.carte_task.specs.Effects.{more, SameOwn}
-use Rattle.carte_task.specs.Answered.{IsAnswer, Answered, Led, Along, StopsAt, Halted}
+use Rattle.carte_task.specs.Effects.{more}
+use Rattle.carte_task.specs.Answered.{IsAnswer, Answered, Along, Halted}
 
 pub more_none : (log : Option Answers) → more log [] ≡ log
 more_none None = refl

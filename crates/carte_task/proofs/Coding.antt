@@ -3,8 +3,7 @@ use Rattle.std.proofs.Common.{◌≡◌, ℕ, ◌+◌, Bool, true, false, List, 
 use Rattle.std.proofs.Math.Seq.{drop-append-add}
 use Rattle.carte_value.specs.declared.kind.Kind.{Kind}
 use Rattle.carte_value.specs.declared.value.Value.{Value}
-use Rattle.carte_value.specs.declared.value.Value.TheVariants.{Number, Text}
-use Rattle.carte_value.specs.Asks.{Asks, done, ask, and_then}
+use Rattle.carte_value.specs.Asks.{Asks, done, and_then}
 use Rattle.carte_formula.specs.Tree.{Tree, number, text, ref, neg, chain, call, Steps, no_step, step, Args, no_arg, arg, Arg, one, cells}
 use Rattle.carte_formula.specs.declared.expr.Func.{Func}
 use Rattle.carte_formula.specs.declared.expr.Func.TheVariants as f
@@ -15,7 +14,7 @@ use Rattle.carte_meaning.specs.Texts.{joined}
 use Rattle.carte_meaning.specs.Meaning.{asks, asks_steps, asks_args, asks_arg, asks_all, branched, looked_up, gathered}
 use Rattle.carte_task.specs.declared.code.Instr.{Instr}
 use Rattle.carte_task.specs.declared.code.Instr.TheVariants as i
-use Rattle.carte_task.specs.Code.{newest, below, put, first_of, top, pushed, tested, indirected, gathering, exec}
+use Rattle.carte_task.specs.Code.{newest, below, put, first_of, top, tested, indirected, gathering, exec}
 use Rattle.carte_task.specs.Coding.{count_arg, count, choice, code_of, code_of_steps, code_of_args, code_of_arg}
 use Rattle.carte_task.proofs.Binding.{and_then_assoc, and_then_done, and_then_same, and_then_where, Always, always_then, always_any}
 use Rattle.carte_task.proofs.Stack.{newest_on, below_on, put_on, pushed_all, all_counted}

@@ -1,10 +1,10 @@
 -- A task on its way: names that are looked up, and instructions that are passed over.
-use Rattle.std.proofs.Common.{◌≡◌, ℕ, ◌+◌, ◌<◌, ◌≤◌, Bool, true, false, List, [], ◌∷◌, ◌++◌, Option, Some, None, Result, Ok, Err, refl, ap, sym, ◌∙◌, subst, zero, suc, length, get_or, drop, add-one, append_assoc}
+use Rattle.std.proofs.Common.{◌≡◌, ℕ, ◌+◌, ◌<◌, Bool, true, false, List, [], ◌∷◌, ◌++◌, Option, Result, Ok, Err, refl, ap, sym, ◌∙◌, subst, zero, suc, length, get_or, drop, add-one, append_assoc}
 use Rattle.std.proofs.Math.Seq.{drop-cons, drop-nil}
 use Rattle.carte_value.specs.declared.kind.Kind.{Kind}
 use Rattle.carte_value.specs.declared.value.Value.{Value}
 use Rattle.carte_value.specs.Truths.{Truth}
-use Rattle.carte_value.specs.Asks.{Asks, done, ask}
+use Rattle.carte_value.specs.Asks.{Asks, done}
 use Rattle.carte_value.specs.Once.{Answers, once}
 use Rattle.carte_task.specs.declared.effect.Halt.{Halt}
 use Rattle.carte_task.specs.declared.effect.Halt.TheVariants.{Stop, NoMemory}
@@ -12,7 +12,7 @@ use Rattle.carte_task.specs.declared.code.Instr.{Instr}
 use Rattle.carte_task.specs.declared.code.Next.{Next}
 use Rattle.carte_task.specs.declared.code.Next.TheVariants.{Behind}
 use Rattle.carte_task.specs.Effects.{more, SameOwn}
-use Rattle.carte_task.specs.Answered.{IsAnswer, Answered, Along, StopsAt, Halted}
+use Rattle.carte_task.specs.Answered.{IsAnswer, Answered, Along, Halted}
 use Rattle.carte_task.specs.Code.{pushed, exec, top}
 use Rattle.carte_task.specs.Turns.{goes}
 use Rattle.carte_value.proofs.Once.{went_on, answers_on}

@@ -1,5 +1,5 @@
 -- Answers that are there before the start.
-use Rattle.std.proofs.Common.{◌≡◌, ℕ, ◌+◌, ◌<◌, Bool, true, false, not, cond, List, [], ◌∷◌, ◌++◌, Option, Some, None, Result, Ok, Err, length, take, drop, get_or, suc, add-one, refl, ap, sym, ◌∙◌, subst, append_assoc, append-nil, filter, inl, inr}
+use Rattle.std.proofs.Common.{◌≡◌, ℕ, ◌+◌, ◌<◌, Bool, true, false, not, cond, List, [], ◌∷◌, ◌++◌, Option, Some, None, Ok, length, drop, get_or, suc, add-one, refl, ap, sym, ◌∙◌, subst, append_assoc, append-nil, filter, inl, inr}
 use Rattle.std.proofs.Math.Seq.{drop-cons}
 use Rattle.std.specs.Cmp.Lexicographic.{bytes_decides, nat_list_eq_equiv}
 use Rattle.indexmap.specs.IndexMap.{insert_entry}
@@ -17,7 +17,6 @@ use Rattle.carte_task.specs.declared.code.Instr.{Instr}
 use Rattle.carte_task.specs.declared.progress.Progress.{Progress}
 use Rattle.carte_task.specs.declared.refs_only.Never.{Never}
 use Rattle.carte_task.specs.declared.static_task.StaticTask.{StaticTask}
-use Rattle.carte_task.specs.Answered.{Along}
 use Rattle.carte_task.specs.Code.{top}
 use Rattle.carte_task.specs.State.{answers_in, rest_in, Proceeds}
 use Rattle.carte_task.specs.Outcomes.{Outcome}

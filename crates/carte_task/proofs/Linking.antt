@@ -1,5 +1,5 @@
 -- Links, compared one after the other.
-use Rattle.std.proofs.Common.{◌≡◌, ℕ, ◌+◌, ◌-◌, ◌<◌, ◌≤◌, Bool, true, false, not, List, [], ◌∷◌, ◌++◌, Option, Some, None, Result, Ok, Err, length, take, drop, get_or, suc, add-one, zero, refl, ap, sym, ◌∙◌, subst, append_assoc, append-nil, arith}
+use Rattle.std.proofs.Common.{◌≡◌, ℕ, ◌+◌, ◌-◌, ◌<◌, ◌≤◌, Bool, true, false, List, [], ◌∷◌, ◌++◌, Option, Some, None, Result, Ok, Err, length, drop, get_or, suc, add-one, refl, ap, sym, ◌∙◌, subst, arith}
 use Rattle.std.specs.Prelude.{IfOk}
 use Rattle.std.proofs.Math.Seq.{drop-cons}
 use Rattle.std.proofs.Math.ListN.{drop_of_length-le}
@@ -7,18 +7,18 @@ use Rattle.carte_value.specs.declared.value.Value.{Value}
 use Rattle.carte_value.specs.declared.link.Link.{Link}
 use Rattle.carte_value.specs.Truths.{Truth}
 use Rattle.carte_value.specs.Asks.{Asks, done, ask, run, answered}
-use Rattle.carte_value.specs.Once.{Answers, Went, AnswersOf}
+use Rattle.carte_value.specs.Once.{Answers}
 use Rattle.carte_value.specs.Spelling.{digest_of}
 use Rattle.carte_value.proofs.Once.{went_end, answers_end, went_run}
 use Rattle.carte_task.specs.declared.effect.Halt.{Halt}
 use Rattle.carte_task.specs.declared.effect.Halt.TheVariants.{Stop, NoMemory}
 use Rattle.carte_task.specs.declared.check.Verdict.{Verdict}
 use Rattle.carte_task.specs.declared.check.Verdict.TheVariants.{Same, Differs}
-use Rattle.carte_task.specs.Effects.{more, Fetched, Logged, SameOwn}
-use Rattle.carte_task.specs.Answered.{Led, StopsAt}
+use Rattle.carte_task.specs.Effects.{more, SameOwn}
+use Rattle.carte_task.specs.Answered.{Led}
 use Rattle.carte_task.specs.Checking.{Checking}
 use Rattle.carte_task.specs.Compared.{same_digest, Compared}
-use Rattle.carte_task.specs.Checks.{compared, compares, rest_from, found_by, Checked, IsSame, IsOther, AllSame, FirstOther, Judges, Gives}
+use Rattle.carte_task.specs.Checks.{compared, compares, rest_from, Checked, AllSame, FirstOther, Judges, Gives}
 use Rattle.carte_task.proofs.Answering.{more_none, more_more}
 
 -- the check at a place

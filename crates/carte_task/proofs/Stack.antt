@@ -1,12 +1,12 @@
 -- The stack as a list, and names looked up onto it.
-use Rattle.std.proofs.Common.{◌≡◌, ℕ, ◌+◌, ◌-◌, List, [], ◌∷◌, ◌++◌, length, take, drop, refl, ap, sym, ◌∙◌, append_assoc, append-nil, length-append, arith}
+use Rattle.std.proofs.Common.{◌≡◌, ℕ, ◌-◌, List, [], ◌∷◌, ◌++◌, length, refl, ap, sym, ◌∙◌, append_assoc, append-nil, length-append, arith}
 use Rattle.std.proofs.Math.Path.{fun_ext}
 use Rattle.std.proofs.Math.Seq.{drop-append_seam, take-append_seam}
 use Rattle.carte_value.specs.declared.value.Value.{Value}
 use Rattle.carte_value.specs.Asks.{Asks, done, ask, and_then}
 use Rattle.carte_meaning.specs.Meaning.{asks_all}
-use Rattle.carte_task.specs.Code.{newest, below, put, top, pushed}
-use Rattle.carte_task.proofs.Binding.{and_then_assoc, and_then_same, Always, always_then, always_any}
+use Rattle.carte_task.specs.Code.{newest, below, put, pushed}
+use Rattle.carte_task.proofs.Binding.{and_then_assoc, and_then_same, Always, always_then}
 
 height : (vs us : List Value) (n : ℕ) → length us ≡ n → length (vs ++ us) - n ≡ length vs
 height vs us n is = omega (arith, length-append vs us)

@@ -3,16 +3,15 @@ use Rattle.std.proofs.Common.{◌≡◌, ℕ, List, [], ◌∷◌, ◌++◌, Opt
 use Rattle.carte_value.specs.declared.value.Value.{Value}
 use Rattle.carte_value.specs.declared.link.Link.{Link}
 use Rattle.carte_value.specs.Truths.{Truth}
-use Rattle.carte_value.specs.Asks.{Asks, done, ask, run, asked, asked_on, answered, firsts}
+use Rattle.carte_value.specs.Asks.{Asks, done, ask, run, asked, asked_on, answered}
 use Rattle.carte_value.specs.Once.{Answers, answer_in, once_on, once, Went, or_else, and_answers, AnswersOf, names_of}
-use Rattle.carte_value.proofs.Once.{went_on, went_asked, names_on}
-use Rattle.carte_value.proofs.Laws.{answer_on, answer_new, and_known, machine_runs, machine_fetches}
+use Rattle.carte_value.proofs.Once.{went_on}
+use Rattle.carte_value.proofs.Laws.{answer_new, and_known, machine_runs, machine_fetches}
 use Rattle.carte_value.proofs.Fetches.{fetches}
 use Rattle.carte_task.specs.declared.effect.Halt.{Halt}
 use Rattle.carte_task.specs.declared.effect.Halt.TheVariants.{Stop, NoMemory}
-use Rattle.carte_task.specs.Answered.{Along, StopsAt, Halted}
 use Rattle.carte_task.specs.Outcomes.{Outcome, links_of}
-use Rattle.carte_task.specs.Machines.{State, GoesOn, IsEnd, Drove}
+use Rattle.carte_task.specs.Machines.{State, GoesOn, Drove}
 use Rattle.carte_task.specs.Laws.{IsSound, looks_up, Steps}
 
 -- further answers that the truth gives anyhow change nothing

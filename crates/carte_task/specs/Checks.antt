@@ -11,7 +11,6 @@ use Rattle.carte_task.specs.declared.effect.Halt.TheVariants.{Stop, NoMemory}
 use Rattle.carte_task.specs.declared.check.Verdict.{Verdict}
 use Rattle.carte_task.specs.declared.check.Verdict.TheVariants.{Same, Differs}
 use Rattle.carte_task.specs.Answered.{Led, StopsAt}
-use Rattle.carte_task.specs.Outcomes.{Outcome}
 use Rattle.carte_task.specs.Compared.{same_digest}
 use Rattle.carte_task.specs.Checking.{Checking}
 

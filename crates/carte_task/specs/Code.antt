@@ -10,8 +10,6 @@ use Rattle.carte_meaning.specs.Found.{name_in, names_in}
 use Rattle.carte_meaning.specs.Texts.{joined}
 use Rattle.carte_task.specs.declared.code.Instr.{Instr}
 use Rattle.carte_task.specs.declared.code.Instr.TheVariants as i
-use Rattle.carte_task.specs.declared.code.Next.{Next}
-use Rattle.carte_task.specs.declared.code.Next.TheVariants.{Behind, Joined}
 
 -- the stack has its newest value last
 abbrev pub newest : ℕ → List Value → List Value

@@ -1,13 +1,12 @@
 -- A machine that fits ends with its value, or stops at a need and fits on.
-use Rattle.std.proofs.Common.{◌≡◌, ℕ, List, [], ◌∷◌, ◌++◌, Option, Some, None, Result, Ok, Err, refl, ap, sym, ◌∙◌, subst, inl, inr, ◌⊎◌}
+use Rattle.std.proofs.Common.{◌≡◌, ℕ, List, [], ◌∷◌, ◌++◌, Option, None, refl, ap, sym, ◌∙◌, subst, inl, inr}
 use Rattle.carte_value.specs.declared.value.Value.{Value}
 use Rattle.carte_value.specs.Truths.{Truth, Extends, Among}
-use Rattle.carte_value.specs.Asks.{Asks, done, ask, run, asked}
+use Rattle.carte_value.specs.Asks.{run, asked}
 use Rattle.carte_value.specs.Once.{Answers, AnswersOf, names_of}
 use Rattle.carte_value.proofs.Once.{went_run, went_asked, answers_on}
-use Rattle.carte_task.specs.declared.made.Made.{Made}
 use Rattle.carte_task.specs.declared.made.Made.TheVariants.{Ran, Reused}
-use Rattle.carte_task.specs.Machines.{State, GoesOn, IsEnd}
+use Rattle.carte_task.specs.Machines.{State, GoesOn}
 use Rattle.carte_task.specs.Jobs.{Step, came, stopped, StepFits, MachineGives, FitsMachine}
 
 known_more : (t u : Truth) (a : Answers) → Extends t u → AnswersOf t a → AnswersOf u a

@@ -1,10 +1,8 @@
 -- What a drive is for the formula of a machine.
 use Rattle.std.specs.Prelude.{ℕ, List, [], ◌∷◌, ◌++◌, ◌≡◌, map, Result, Ok, Err}
-use Rattle.carte_value.specs.declared.value.Value.{Value}
-use Rattle.carte_value.specs.declared.link.Link.{Link}
 use Rattle.carte_value.specs.Truths.{Truth}
-use Rattle.carte_value.specs.Asks.{Asks, run, asked, firsts}
-use Rattle.carte_value.specs.Once.{Answers, once, Went, and_answers, names_of}
+use Rattle.carte_value.specs.Asks.{run, asked, firsts}
+use Rattle.carte_value.specs.Once.{once, Went, and_answers, names_of}
 use Rattle.carte_task.specs.declared.effect.Halt.{Halt}
 use Rattle.carte_task.specs.declared.effect.Halt.TheVariants.{Stop, NoMemory}
 use Rattle.carte_task.specs.Outcomes.{Outcome}

@@ -1,16 +1,12 @@
 -- Machines, and what a drive leaves of one.
-use Rattle.std.specs.Prelude.{ℕ, Bool, false, ◌||◌, is_ok, List, [], ◌∷◌, ◌++◌, ◌≡◌, Option, Result}
-use Rattle.carte_value.specs.declared.kind.Kind.{Kind}
+use Rattle.std.specs.Prelude.{ℕ, Bool, false, ◌||◌, is_ok, List, [], ◌≡◌, Option, Result}
 use Rattle.carte_value.specs.declared.value.Value.{Value}
 use Rattle.carte_value.specs.Truths.{Truth}
-use Rattle.carte_value.specs.Asks.{Asks, done, run, asked, firsts}
-use Rattle.carte_value.specs.Once.{Answers, once, Went, and_answers, names_of}
-use Rattle.carte_formula.specs.Tree.{Tree}
-use Rattle.carte_meaning.specs.Meaning.{eval, fetched}
+use Rattle.carte_value.specs.Asks.{Asks, done}
+use Rattle.carte_value.specs.Once.{Answers, once}
 use Rattle.carte_task.specs.declared.effect.Halt.{Halt}
-use Rattle.carte_task.specs.declared.effect.Halt.TheVariants.{Stop, NoMemory}
 use Rattle.carte_task.specs.declared.machine.Machine.{Machine}
-use Rattle.carte_task.specs.Answered.{Led, Along, Halted}
+use Rattle.carte_task.specs.Answered.{Along, Halted}
 use Rattle.carte_task.specs.Code.{top}
 use Rattle.carte_task.specs.Outcomes.{Outcome, links_of}
 use Rattle.carte_task.specs.State.{answers_in, rest_in}

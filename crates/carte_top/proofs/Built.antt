@@ -2,15 +2,15 @@
 use Rattle.std.proofs.Common.{◌≡◌, ℕ, suc, Bool, true, false, cond, ◌-◌, List, [], ◌∷◌, length, Some, refl, ap, sym, ◌∙◌, inl, inr, ◌⊎◌, arith}
 use Rattle.std.specs.Ordering.{eq_by_cmp}
 use Rattle.std.specs.Map.{lookup, keys_of}
-use Rattle.std.specs.BTreeMap.{get, keys, IsOrdered, is_at}
+use Rattle.std.specs.BTreeMap.{IsOrdered, is_at}
 use Rattle.carte_value.specs.declared.value.Value.{Value}
 use Rattle.carte_value.specs.Names.{name_cmp}
 use Rattle.carte_value.specs.Truths.{Among}
-use Rattle.carte_task.specs.Ledger.{Ledger, given_up}
+use Rattle.carte_task.specs.Ledger.{Ledger}
 use Rattle.carte_book.specs.Book.{Book}
 use Rattle.carte_book.proofs.Clean.{tied_name}
 use Rattle.carte_topo.specs.Orders.{IsOrder}
-use Rattle.carte_top.specs.Known.{Done, part}
+use Rattle.carte_top.specs.Known.{Done}
 use Rattle.carte_top.specs.Evaluated.{IsEvaluated}
 use Rattle.carte_top.specs.Building.{IsBuilt}
 use Rattle.carte_top.proofs.Parts.{tied_itself, part_clean}

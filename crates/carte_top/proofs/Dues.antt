@@ -1,9 +1,8 @@
 -- The status that is due is the one that comes.
-use Rattle.std.proofs.Common.{◌≡◌, ℕ, List, Result, Ok, Err, refl, ap, inl, inr, ◌⊎◌}
+use Rattle.std.proofs.Common.{◌≡◌, ℕ, List, Ok, Err, refl, ap, inl, inr, ◌⊎◌}
 use Rattle.carte_book.specs.Book.{Book}
 use Rattle.carte_book.specs.declared.fault.BookFault.{BookFault}
 use Rattle.carte_book.specs.declared.fault.BookFault.TheVariants.{Limit, NotToml, BadTable, BadName, BadValue, Formula, Twice, NotUtf8, NoMemory as BookNoMemory}
-use Rattle.carte_book.specs.Dynamic.{IsOrderReason}
 use Rattle.carte_book.proofs.Orders.{one_order_reason, no_order_reason}
 use Rattle.carte_rules.specs.Reading.{BookOf}
 use Rattle.carte_rules.proofs.Unique.{one_book}

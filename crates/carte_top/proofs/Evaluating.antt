@@ -16,7 +16,7 @@ use Rattle.carte_task.specs.Outcomes.{Outcome}
 use Rattle.carte_task.specs.Statics.{Reads}
 use Rattle.carte_task.specs.declared.effect.Halt.{Halt}
 use Rattle.carte_task.specs.declared.effect.Halt.TheVariants.{Stop}
-use Rattle.carte_book.specs.Book.{Item, input, rule, Book, content, clean}
+use Rattle.carte_book.specs.Book.{Book, clean}
 use Rattle.carte_book.proofs.Clean.{eval_kept, clean_rule}
 use Rattle.carte_topo.specs.Orders.{IsReady, IsNext, InOrder}
 use Rattle.carte_top.specs.Known.{Done, part}

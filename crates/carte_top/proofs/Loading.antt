@@ -1,5 +1,5 @@
 -- What a reply's counts are, and why a book isn't read.
-use Rattle.std.proofs.Common.{◌≡◌, ℕ, true, ◌<◌, nat_lt, List, ◌∷◌, ◌++◌, [], length, Err, refl, ap, ◌∙◌, arith, append_assoc}
+use Rattle.std.proofs.Common.{◌≡◌, ℕ, true, ◌<◌, nat_lt, List, ◌++◌, length, Err, refl, ap, ◌∙◌, arith, append_assoc}
 use Rattle.std.proofs.lemmas.Bool.Decides.{nat_tests}
 use Rattle.carte_io.specs.Causes.{Rose}
 use Rattle.carte_io.specs.declared.whole.ReadEnd.{ReadEnd}

@@ -1,18 +1,18 @@
 -- What a build has done, from what its parts have done.
-use Rattle.std.proofs.Common.{◌≡◌, ℕ, List, [], ◌∷◌, ◌++◌, length, Some, Ok, refl, ap, subst, inl, inr}
+use Rattle.std.proofs.Common.{◌≡◌, ℕ, List, [], ◌∷◌, Some, Ok, refl, subst, inl, inr}
 use Rattle.std.specs.BTreeMap.{keys}
 use Rattle.carte_value.specs.Truths.{Extends, Among}
 use Rattle.carte_book.specs.Book.{Book, book_view, clean}
 use Rattle.carte_book.specs.Reason.{AllClean}
 use Rattle.carte_book.specs.declared.book.Book.{Book as CodeBook}
 use Rattle.carte_rules.specs.Reading.{BookOf}
-use Rattle.carte_task.specs.Ledger.{Ledger, given_up}
+use Rattle.carte_task.specs.Ledger.{Ledger}
 use Rattle.carte_top.specs.declared.status.Status.{Status}
 use Rattle.carte_top.specs.declared.status.Status.TheVariants.{Done, BookRefused, Usage, BuildRefused, ReadFault, WriteFault, NoMemory}
 use Rattle.carte_top.specs.Known.{Done as DoneMap, part}
 use Rattle.carte_top.specs.Building.{IsBuilt, IsKnownAt}
 use Rattle.carte_top.specs.Words.{targets_of}
-use Rattle.carte_top.specs.Reply.{target_lines, counts_line, reply}
+use Rattle.carte_top.specs.Reply.{target_lines, reply}
 use Rattle.carte_top.specs.Replied.{answer_text}
 use Rattle.carte_top.specs.Around.{OverSource, OverSink, TakesAll, TakesFront}
 use Rattle.carte_top.specs.Outcome.{Replies, Built, Ran}

@@ -33,6 +33,6 @@ mod word;
 mod words;
 
 pub use status::{Status, WordsFault};
-pub use top::carte;
+pub use top::{carte, out_of_memory};
 pub use word::Word;
 pub use words::book_word;

@@ -1,6 +1,7 @@
 ghost use Rattle.std.specs.Prelude.{◌≡◌};
 ghost use Rattle.carte_book.specs.Book.{book_view};
 ghost use Rattle.carte_top.specs.Replied.{answer_text};
+ghost use Rattle.carte_top.specs.declared.status.Status.TheVariants.{NoMemory};
 ghost use Rattle.carte_top.specs.Around.{Says};
 ghost use Rattle.carte_top.specs.Outcome.{IsOutcome, Ran, Built, Ended};
 ghost use Rattle.carte_top.specs.Running.{Parses, Loads, Prints, Answers, Reports, refusal_of, usage_of, unread_of, unparsed_of, is_spoken};
@@ -273,11 +274,28 @@ fn report<E: Sink>(alloc: Global, err: &mut E, status: Status) -> Status
             say(err, text.as_str().as_bytes());
             status
         }
-        Err(_) => {
-            say(err, memory_line().as_bytes());
-            Status::NoMemory
-        }
+        Err(_) => out_of_memory(err),
     }
+}
+
+/// Ends a run for which there was no memory before the top call could be made: for the words, or for opening what they
+/// name. The error line is written, which takes no memory.
+pub fn out_of_memory<E: Sink>(err: &mut E) -> Status
+    ensures status { result ≡ NoMemory }
+    ensures ended { Ended
+        (record {
+          tells = E.tells;
+          taken = E.taken err.old;
+          taken' = E.taken err.new;
+          handed = E.handed err.old;
+          handed' = E.handed err.new;
+          faults = E.faults err.old;
+          faults' = E.faults err.new;
+        })
+        result }
+{
+    say(err, memory_line().as_bytes());
+    Status::NoMemory
 }
 
 fn spoken(status: &Status) -> bool

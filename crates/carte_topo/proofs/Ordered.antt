@@ -1,23 +1,19 @@
 -- The end of a walk: the rules that the targets reach, in order, or why the walk ended early.
-use Rattle.std.proofs.Common.{◌≡◌, ℕ, true, List, [], ◌∷◌, slice_get, take, suc, zero, ◌+◌, ◌≤◌, length, Option, Some, None, Err, refl, sym, ◌∙◌, subst, inl, inr, ◌⊎◌, add-one, arith}
-use Rattle.std.specs.BTreeSet.{contains}
+use Rattle.std.proofs.Common.{◌≡◌, ℕ, List, [], ◌∷◌, slice_get, take, suc, zero, ◌+◌, ◌≤◌, length, Option, Some, None, Err, refl, sym, ◌∙◌, subst, inl, inr, ◌⊎◌, add-one, arith}
 use Rattle.std.proofs.lemmas.List.{take_all}
-use Rattle.carte_value.specs.declared.value.Value.{Value}
-use Rattle.carte_value.specs.Names.{name_cmp}
 use Rattle.carte_value.specs.Truths.{Among}
-use Rattle.carte_value.specs.Asks.{asked}
 use Rattle.carte_formula.specs.Formula.{refs_of}
 use Rattle.carte_meaning.specs.Meaning.{fetched}
 use Rattle.carte_book.specs.Book.{Item, input, rule, Book, content, clean}
-use Rattle.carte_book.specs.Needs.{IsRule, Reaches, target, need, needs, needs_of}
+use Rattle.carte_book.specs.Needs.{Reaches, target, need, needs, needs_of}
 use Rattle.carte_book.specs.Looked.{HasRules}
 use Rattle.carte_book.specs.Reason.{IsReason, Begins, IsClean, AllClean}
-use Rattle.carte_book.specs.Dynamic.{LeadsToDynamic, IsDynamicPath, NoDynamicPath, refs}
+use Rattle.carte_book.specs.Dynamic.{LeadsToDynamic, NoDynamicPath, refs}
 use Rattle.carte_book.specs.declared.reason.Reason.{Reason}
 use Rattle.carte_book.specs.declared.reason.Reason.TheVariants.{Cycle, Missing, Dynamic}
 use Rattle.carte_topo.specs.declared.walk.Stop.{Stop}
 use Rattle.carte_topo.specs.declared.walk.Stop.TheVariants.{Refused, NoMemory, Dynamic as MetDynamic}
-use Rattle.carte_topo.specs.Orders.{IsReady, IsNext, IsOrder}
+use Rattle.carte_topo.specs.Orders.{IsReady, IsOrder}
 use Rattle.carte_topo.specs.Walk.{Fresh, Path, Done}
 use Rattle.carte_topo.specs.Between.{IsWalk, IsPathFrom, IsBetween, Reached, Reaching, IsStop}
 use Rattle.carte_meaning.proofs.StaticRuns.{static_fetched}

@@ -1,16 +1,16 @@
 -- A walk that ends early has found why.
-use Rattle.std.proofs.Common.{◌≡◌, ℕ, false, List, [], ◌∷◌, None, refl, sym, ◌∙◌, subst, inl, inr, ◌⊎◌}
+use Rattle.std.proofs.Common.{◌≡◌, ℕ, false, List, [], ◌∷◌, None, ◌∙◌, subst, inl, inr, ◌⊎◌}
 use Rattle.std.specs.BTreeSet.{contains}
 use Rattle.carte_value.specs.Names.{name_cmp}
 use Rattle.carte_value.specs.Truths.{Among}
-use Rattle.carte_book.specs.Book.{Book, content, clean}
+use Rattle.carte_book.specs.Book.{Book, clean}
 use Rattle.carte_book.specs.Needs.{IsRule}
-use Rattle.carte_book.specs.Dynamic.{IsDynamicRule, IsDynamicPath, LeadsToDynamic}
+use Rattle.carte_book.specs.Dynamic.{IsDynamicRule, LeadsToDynamic}
 use Rattle.carte_book.proofs.Clean.{clean_nothing}
 use Rattle.carte_book.specs.declared.reason.Reason.{Reason}
 use Rattle.carte_book.specs.declared.reason.Reason.TheVariants.{Cycle, Missing, Dynamic}
 use Rattle.carte_topo.specs.declared.walk.Frame.{Frame}
-use Rattle.carte_topo.specs.Walk.{Fresh, Path, Done, names, unwound, is_ready, Closes, Waits}
+use Rattle.carte_topo.specs.Walk.{Fresh, Path, Done, names, is_ready, Closes, Waits}
 use Rattle.carte_topo.specs.Between.{Chain, IsWalk, IsPathFrom, MeetsDynamic}
 use Rattle.carte_topo.proofs.Ready.{is_ready_so}
 use Rattle.carte_topo.proofs.Paths.{none_clean, round_unwound, astray_unwound, leads_unwound, unwound_from, oldest_among}

@@ -1,5 +1,5 @@
 -- The loops of the walk: from one turn to the next, and from one target to the next.
-use Rattle.std.proofs.Common.{◌≡◌, ℕ, ◌+◌, ◌*◌, ◌<◌, List, [], ◌∷◌, ◌++◌, length, Some, refl, sym, ◌∙◌, subst, inl, inr, arith}
+use Rattle.std.proofs.Common.{◌≡◌, ℕ, ◌+◌, ◌*◌, ◌<◌, List, [], ◌∷◌, ◌++◌, length, refl, sym, inl, inr, arith}
 use Rattle.carte_value.specs.Truths.{Among}
 use Rattle.carte_value.specs.Asks.{asked}
 use Rattle.carte_value.proofs.Asks.{stop_asked}

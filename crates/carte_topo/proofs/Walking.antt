@@ -1,20 +1,18 @@
 -- What a turn keeps.
-use Rattle.std.proofs.Common.{◌≡◌, ℕ, zero, suc, true, false, List, [], ◌∷◌, ◌++◌, take, slice_get, Some, None, Ok, refl, ap, sym, ◌∙◌, subst, inl, inr, arith, append_assoc, append-nil}
+use Rattle.std.proofs.Common.{◌≡◌, ℕ, zero, suc, true, List, [], ◌∷◌, ◌++◌, take, slice_get, Some, Ok, refl, ap, sym, ◌∙◌, subst, inl, inr, arith, append_assoc, append-nil}
 use Rattle.std.specs.Result.{result_ok}
-use Rattle.std.specs.BTreeSet.{contains}
 use Rattle.carte_value.specs.declared.value.Value.{Value}
-use Rattle.carte_value.specs.Names.{name_cmp}
-use Rattle.carte_value.specs.Truths.{Among, NoneTwice}
+use Rattle.carte_value.specs.Truths.{Among}
 use Rattle.carte_formula.specs.Formula.{refs_of}
-use Rattle.carte_meaning.specs.InTurn.{Each, HasAll}
+use Rattle.carte_meaning.specs.InTurn.{HasAll}
 use Rattle.carte_meaning.specs.Meaning.{eval}
-use Rattle.carte_book.specs.Book.{rule, Book, content, clean}
-use Rattle.carte_book.specs.Needs.{IsRule, Reaches}
+use Rattle.carte_book.specs.Book.{Book, clean}
+use Rattle.carte_book.specs.Needs.{Reaches}
 use Rattle.carte_book.specs.Reason.{IsClean}
 use Rattle.carte_book.proofs.Clean.{clean_rule}
 use Rattle.carte_topo.specs.declared.walk.Frame.{Frame}
 use Rattle.carte_topo.specs.Orders.{IsReady, IsNext, InOrder}
-use Rattle.carte_topo.specs.Walk.{Fresh, Path, Done, names, is_ready, AllReady, part, Entered, Stands, Finishes, Waits}
+use Rattle.carte_topo.specs.Walk.{Fresh, Path, Done, names, is_ready, part, Entered, Stands, Finishes, Waits}
 use Rattle.carte_topo.specs.Between.{Finished, StopsAt, Chain, Linked, AllStand, EndsWith, IsWalk}
 use Rattle.carte_meaning.proofs.StaticRuns.{static_ends}
 use Rattle.carte_topo.proofs.Stopping.{stops_there}

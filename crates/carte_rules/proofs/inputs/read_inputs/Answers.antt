@@ -1,7 +1,7 @@
 use Rattle.std.proofs.Common.{◌≡◌, ◌∙◌, ◌∷◌, ℕ, List, String, Global, Ok, string_bytes, ap, sym, subst, rules}
 use Rattle.std.specs.FinMap.{empty, get}
-use Rattle.toml.specs.Data.{no_members, member}
-use Rattle.toml.specs.View.{view, table_view, members_view}
+use Rattle.toml.specs.Data.{no_members}
+use Rattle.toml.specs.View.{view, members_view}
 use Rattle.toml.specs.declared.value.Value.{Value}
 use Rattle.carte_rules.specs.Reading.{input_into, inputs_into}
 use Rattle.carte_rules.proofs.Fresh.{AllFresh, all_fresh, next_fresh, rest_fresh}

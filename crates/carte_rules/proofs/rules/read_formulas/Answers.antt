@@ -1,4 +1,4 @@
-use Rattle.std.proofs.Common.{◌≡◌, ◌∙◌, sym, subst, Ok, rules}
+use Rattle.std.proofs.Common.{◌≡◌, subst, Ok, rules}
 use Rattle.std.specs.FinMap.{insert}
 use Rattle.toml.specs.Data.{Members, no_members, member}
 use Rattle.toml.specs.View.{view, table_view, members_view}

@@ -1,4 +1,3 @@
-use Rattle.std.proofs.Common.{◌≡◌, ◌<◌, length, get_or, ap, ◌∙◌, arith}
 use Rattle.carte_formula.proofs.Once.{seen_more}
 use Rattle.carte_task.proofs.mentioned.all.Goals as goal
 

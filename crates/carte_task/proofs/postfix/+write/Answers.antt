@@ -1,4 +1,4 @@
-use Rattle.std.proofs.Common.{◌≡◌, ◌<◌, ◌≤◌, ◌++◌, ◌∷◌, [], length, get_or, ap, sym, ◌∙◌, arith}
+use Rattle.std.proofs.Common.{◌<◌, ◌≤◌, ◌++◌, ◌∷◌, [], length, get_or, ap, sym, ◌∙◌, arith}
 use Rattle.carte_task.specs.declared.code.Instr.TheVariants as i
 use Rattle.carte_task.specs.Coding.{code_of_args, code_of_steps}
 use Rattle.carte_formula.specs.Code.{args_tree}

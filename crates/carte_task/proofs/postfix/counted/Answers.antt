@@ -1,6 +1,5 @@
-use Rattle.std.proofs.Common.{◌≡◌, ◌+◌, ◌<◌, ◌≤◌, length, get_or, ap, sym, ◌∙◌, arith}
-use Rattle.carte_task.specs.Coding.{count, count_arg}
-use Rattle.carte_formula.specs.Code.{arg_tree}
+use Rattle.std.proofs.Common.{◌+◌, ◌<◌, ◌≤◌, length, get_or, ap, sym, ◌∙◌, arith}
+use Rattle.carte_task.specs.Coding.{count}
 use Rattle.carte_task.proofs.Shapes.{args_view, count_more, count_all}
 use Rattle.carte_task.proofs.postfix.counted.Goals as goal
 

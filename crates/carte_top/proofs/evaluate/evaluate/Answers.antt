@@ -1,4 +1,4 @@
-use Rattle.std.proofs.Common.{◌≡◌, [], arith, take}
+use Rattle.std.proofs.Common.{[], arith, take}
 use Rattle.carte_book.specs.Book.{book_view}
 use Rattle.carte_top.proofs.Evaluating.{read_at, next_at, not_before, runnable, absent, advanced, one_further}
 use Rattle.carte_top.proofs.evaluate.evaluate.Goals as goal

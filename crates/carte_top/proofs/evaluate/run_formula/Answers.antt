@@ -1,4 +1,4 @@
-use Rattle.std.proofs.Common.{◌≡◌, false, Ok}
+use Rattle.std.proofs.Common.{false}
 use Rattle.carte_formula.specs.Code.{tree_of}
 use Rattle.carte_book.specs.Book.{book_view}
 use Rattle.carte_top.specs.Known.{part}

@@ -1,4 +1,4 @@
-use Rattle.std.proofs.Common.{◌≡◌, ◌∷◌, [], codes, length, string_bytes, ap, ◌∙◌, sym}
+use Rattle.std.proofs.Common.{◌∷◌, [], codes, length, string_bytes}
 use Rattle.std.specs.Fmt.{decimal}
 use Rattle.carte_task.specs.Ledger.{given_up}
 use Rattle.carte_top.proofs.Loading.{counted}

@@ -1,4 +1,4 @@
-use Rattle.std.proofs.Common.{◌≡◌, ◌<◌, length, get_or, ap, ◌∙◌, arith}
+use Rattle.std.proofs.Common.{◌<◌, length, get_or, ap, ◌∙◌, arith}
 use Rattle.carte_task.proofs.Linking.{check_on, check_differs}
 use Rattle.carte_task.proofs.check.Check.compare.Goals as goal
 

@@ -1,4 +1,4 @@
-use Rattle.std.proofs.Common.{◌≡◌, ◌≤◌, length, arith, sym}
+use Rattle.std.proofs.Common.{◌≤◌, length, arith, sym}
 use Rattle.carte_task.specs.State.{answers_in}
 use Rattle.carte_task.proofs.Links.{links_more, links_all}
 use Rattle.carte_task.proofs.progress.Progress.links.Goals as goal
