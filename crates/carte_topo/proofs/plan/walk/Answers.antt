@@ -1,4 +1,5 @@
 use Rattle.std.proofs.Common.{arith}
+use Rattle.std.proofs.lemmas.Result.{err_from_is_err_and}
 use Rattle.carte_book.specs.Book.{book_view}
 use Rattle.carte_topo.proofs.Reaching.{has_goal}
 use Rattle.carte_topo.proofs.Ordered.{stops_so, ready_more_targets, at_end}
@@ -7,7 +8,8 @@ use Rattle.carte_topo.proofs.plan.walk.Goals as goal
 pub returns-in_err-reach : goal.returns-in_err-reach
 returns-in_err-reach c =
     let some = has_goal c.args.targets.now c.loop-at.at (omega arith) in
-    stops_so (book_view c.args.book.now) c.args.targets.now c.loop-at.walk.unvisited c.reach.new.self.unvisited c.loop-at.walk.path.items c.reach.new.self.path.items c.loop-at.walk.done.keys c.reach.new.self.done.keys c.loop-at.at some.0 c.in_err-reach.field-0.0 some.1 c.loop-at.invariant.0 c.loop-at.invariant.1 (c.in_err-reach.ensures some.0 some.1)
+    let p = err_from_is_err_and c.from_residual-in_err-reach.result c.from_residual-in_err-reach.ensures.1 in
+    rw (p.1, p.2) (stops_so (book_view c.args.book.now) c.args.targets.now c.loop-at.walk.unvisited c.reach.new.self.unvisited c.loop-at.walk.path.items c.reach.new.self.path.items c.loop-at.walk.done.keys c.reach.new.self.done.keys c.loop-at.at some.0 c.in_err-reach.field-0.0 some.1 c.loop-at.invariant.0 c.loop-at.invariant.1 (c.in_err-reach.ensures some.0 some.1))
 
 pub loop-at-preserved : goal.loop-at-preserved
 loop-at-preserved c =

@@ -1,4 +1,5 @@
 use Rattle.std.proofs.Common.{ap, sym, ◌∙◌}
+use Rattle.std.proofs.lemmas.Result.{err_from_is_err_and}
 use Rattle.carte_book.specs.Book.{book_view}
 use Rattle.carte_topo.specs.Walk.{is_ready}
 use Rattle.carte_topo.proofs.Ordered.{none_left, turned_all}
@@ -13,7 +14,8 @@ returns-then-is_ready c = λ k at.
 pub returns-in_err-enter : goal.returns-in_err-enter
 returns-in_err-enter c = λ k at.
     let same = same_goal c.args.targets.now c.args.at k _ c.requires.within c.index-targets-at.is at in
-    first_refused (book_view c.args.book.now) c.args.targets.now k c.in_ok-copy.field-0 c.args.at c.args.self.now.unvisited c.enter.new.self.unvisited c.args.self.now.path.items c.enter.new.self.path.items c.args.self.now.done.keys c.enter.new.self.done.keys c.in_err-enter.field-0.0 at c.requires.between (c.in_ok-copy.ensures ∙ same) (ap (is_ready (book_view c.args.book.now) c.args.self.now.done.keys) c.in_ok-copy.ensures ∙ sym c.is_ready.ensures ∙ c.if-is_ready.false) c.in_err-enter.ensures.enters
+    let p = err_from_is_err_and c.from_residual-in_err-enter.result c.from_residual-in_err-enter.ensures.1 in
+    rw (p.1, p.2) (first_refused (book_view c.args.book.now) c.args.targets.now k c.in_ok-copy.field-0 c.args.at c.args.self.now.unvisited c.enter.new.self.unvisited c.args.self.now.path.items c.enter.new.self.path.items c.args.self.now.done.keys c.enter.new.self.done.keys c.in_err-enter.field-0.0 at c.requires.between (c.in_ok-copy.ensures ∙ same) (ap (is_ready (book_view c.args.book.now) c.args.self.now.done.keys) c.in_ok-copy.ensures ∙ sym c.is_ready.ensures ∙ c.if-is_ready.false) c.in_err-enter.ensures.enters)
 
 pub turns-init : goal.turns-init
 turns-init c = λ k at.
@@ -27,7 +29,8 @@ turn-requires c =
 
 pub returns-in_err-turn : goal.returns-in_err-turn
 returns-in_err-turn c = λ k at.
-    later_refused (book_view c.args.book.now) c.args.targets.now k c.args.at c.turns.self.unvisited c.turn.new.self.unvisited c.turns.self.path.items c.pop_front.new.self.items c.turn.new.self.path.items c.args.self.now.done.keys c.turns.self.done.keys c.turn.new.self.done.keys c.in-Some.frame c.in_err-turn.field-0.0 at c.in-Some.ensures.items (c.turns.invariant k at) c.in_err-turn.ensures
+    let p = err_from_is_err_and c.from_residual-in_err-turn.result c.from_residual-in_err-turn.ensures.1 in
+    rw (p.1, p.2) (later_refused (book_view c.args.book.now) c.args.targets.now k c.args.at c.turns.self.unvisited c.turn.new.self.unvisited c.turns.self.path.items c.pop_front.new.self.items c.turn.new.self.path.items c.args.self.now.done.keys c.turns.self.done.keys c.turn.new.self.done.keys c.in-Some.frame c.in_err-turn.field-0.0 at c.in-Some.ensures.items (c.turns.invariant k at) c.in_err-turn.ensures)
 
 pub turns-preserved : goal.turns-preserved
 turns-preserved c = λ k at.
