@@ -43,10 +43,10 @@ fn names_of(alloc: Global, kind: Kind, text: &str) -> Result<Option<Names>, NoMe
     let mut names = Names::new(alloc);
     let mut rest = text;
     while let Some((line, behind)) = first_line(rest) {
-        match named(alloc, kind, line)? {
-            Some(name) => names.push(name)?,
-            None => return Ok(None),
-        }
+        let Some(name) = named(alloc, kind, line)? else {
+            return Ok(None);
+        };
+        names.push(name)?;
         rest = behind;
     }
     Ok(Some(names))
