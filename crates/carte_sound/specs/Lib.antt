@@ -1,0 +1,11 @@
+pub mod Stand
+pub mod Marks
+pub mod Begun
+pub mod Beneath
+pub mod True
+pub mod Sound
+pub mod Base
+pub mod Held
+pub mod Left
+pub mod Finished
+pub mod Treated
