@@ -7,8 +7,10 @@ use Rattle.carte_formula.specs.Tree.{Tree}
 use Rattle.carte_book.specs.Book.{input, rule, Book, content, clean}
 use Rattle.carte_book.specs.Needs.{IsRule, needs}
 use Rattle.carte_book.specs.Digest.{rules_digest_of}
-use Rattle.carte_sound.specs.Stand.{Entry, SomeKept, nothing_kept, Has}
-use Rattle.carte_sound.specs.Marks.{is_fresh, IsFresh}
+use Rattle.carte_record.specs.Kept.{SomeKept, nothing_kept, is_fresh}
+use Rattle.carte_record.specs.declared.entry.Entry.{Entry}
+use Rattle.carte_sound.specs.Lists.{Has}
+use Rattle.carte_sound.specs.Marks.{IsFresh}
 use Rattle.carte_sound.specs.Sound.{IsSound}
 
 -- of one kind, and each rule of the first is one of the second

@@ -4,8 +4,10 @@ use Rattle.carte_value.specs.declared.digest.Digest.{Digest}
 use Rattle.carte_value.specs.Truths.{IsListOf}
 use Rattle.carte_book.specs.Book.{Book}
 use Rattle.carte_book.specs.Digest.{rules_digest_of}
-use Rattle.carte_sound.specs.Stand.{SomeKept, nothing_kept, digest_eq}
-use Rattle.carte_sound.specs.Marks.{IsMarked, with_marks}
+use Rattle.carte_record.specs.Folds.{with_marks}
+use Rattle.carte_record.specs.Kept.{SomeKept, nothing_kept}
+use Rattle.carte_record.specs.Lookups.{digest_eq}
+use Rattle.carte_sound.specs.Marks.{IsMarked}
 
 abbrev pub is_digest : Option Digest → Digest → Bool
 is_digest None d = false

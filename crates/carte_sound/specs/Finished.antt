@@ -4,7 +4,7 @@ use Rattle.carte_value.specs.Truths.{Among, NoneTwice}
 use Rattle.carte_book.specs.Book.{Book}
 use Rattle.carte_book.specs.Needs.{IsRule, needs}
 use Rattle.carte_book.specs.Reason.{IsClean}
-use Rattle.carte_sound.specs.Stand.{SomeKept}
+use Rattle.carte_record.specs.Kept.{SomeKept}
 use Rattle.carte_sound.specs.Held.{How, IsHeld, IsFollowed}
 use Rattle.carte_sound.specs.Left.{Finishes, keys_of}
 

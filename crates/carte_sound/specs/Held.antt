@@ -4,7 +4,12 @@ use Rattle.carte_value.specs.declared.digest.Digest.{Digest}
 use Rattle.carte_value.specs.declared.link.Link.{Link}
 use Rattle.carte_value.specs.Spelling.{digest_of}
 use Rattle.carte_book.specs.Book.{Book, clean}
-use Rattle.carte_sound.specs.Stand.{Entry, Trace, Way, verifying, constructive, deep, SomeKept, Has}
+use Rattle.carte_record.specs.Kept.{SomeKept}
+use Rattle.carte_record.specs.declared.entry.Entry.{Entry}
+use Rattle.carte_record.specs.declared.trace.Trace.{Trace}
+use Rattle.carte_record.specs.declared.way.Way.{Way}
+use Rattle.carte_record.specs.declared.way.Way.TheVariants.{Verifying, Constructive, Deep}
+use Rattle.carte_sound.specs.Lists.{Has}
 use Rattle.carte_sound.specs.Marks.{present, IsFresh}
 
 -- how a build tells what has changed: by the marks of entries, or by traces of one kind
@@ -22,15 +27,15 @@ clean_digest b k = option_map digest_of (clean b k)
 
 -- that of its clean value, and under deep traces that of an input alone
 abbrev pub digest_now : Way → Book → List ℕ → Option Digest
-digest_now verifying b = clean_digest b
-digest_now constructive b = clean_digest b
-digest_now deep b = present b
+digest_now Verifying b = clean_digest b
+digest_now Constructive b = clean_digest b
+digest_now Deep b = present b
 
 -- what must hold of a trace besides its links: a verifying one tells of what the key has at last
 abbrev pub IsTrusted : Way → SomeKept → List ℕ → Trace → Type 0
-IsTrusted verifying K k t = (e : Entry) × (K.entries k ≡ Some e) × (e.result ≡ t.result)
-IsTrusted constructive K k t = Unit {0}
-IsTrusted deep K k t = Unit {0}
+IsTrusted Verifying K k t = (e : Entry) × (K.entries k ≡ Some e) × (e.result ≡ t.result)
+IsTrusted Constructive K k t = Unit {0}
+IsTrusted Deep K k t = Unit {0}
 
 pub record IsHeldBy (w : Way) (K : SomeKept) (b : Book) (k : List ℕ) (t : Trace) : Type 0 where
   pub kept : Has (K.traces w k) t
@@ -45,16 +50,16 @@ IsHeld (tracing w) K b k = (t : Trace) × IsHeldBy w K b k t
 -- whether the needs of a held key are looked into
 abbrev pub looks_into_held : How → Bool
 looks_into_held dirty = false
-looks_into_held (tracing verifying) = true
-looks_into_held (tracing constructive) = true
-looks_into_held (tracing deep) = false
+looks_into_held (tracing Verifying) = true
+looks_into_held (tracing Constructive) = true
+looks_into_held (tracing Deep) = false
 
 -- whether the inputs beneath a key are gathered
 abbrev pub gathers : How → Bool
 gathers dirty = false
-gathers (tracing verifying) = false
-gathers (tracing constructive) = false
-gathers (tracing deep) = true
+gathers (tracing Verifying) = false
+gathers (tracing Constructive) = false
+gathers (tracing Deep) = true
 
 -- the key's needs are looked into
 abbrev pub IsFollowed : How → SomeKept → Book → List ℕ → Type 0

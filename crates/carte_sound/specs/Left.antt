@@ -5,8 +5,14 @@ use Rattle.carte_value.specs.declared.value.Value.{Value}
 use Rattle.carte_value.specs.Names.{name_eq}
 use Rattle.carte_book.specs.Book.{Book, clean}
 use Rattle.carte_book.specs.Digest.{rules_digest_of}
-use Rattle.carte_sound.specs.Stand.{Entry, Trace, Way, verifying, constructive, deep, SomeKept, put_at, digest_eq, newest_first}
-use Rattle.carte_sound.specs.Marks.{is_fresh, present, is_among}
+use Rattle.carte_record.specs.Folds.{is_among}
+use Rattle.carte_record.specs.Kept.{SomeKept, put_at, newest, is_fresh}
+use Rattle.carte_record.specs.Lookups.{digest_eq}
+use Rattle.carte_record.specs.declared.entry.Entry.{Entry}
+use Rattle.carte_record.specs.declared.trace.Trace.{Trace}
+use Rattle.carte_record.specs.declared.way.Way.{Way}
+use Rattle.carte_record.specs.declared.way.Way.TheVariants.{Verifying, Constructive, Deep}
+use Rattle.carte_sound.specs.Marks.{present}
 use Rattle.carte_sound.specs.True.{digest_or, trace_of, full_entry, shallow_entry}
 use Rattle.carte_sound.specs.Held.{How, dirty, tracing}
 
@@ -17,9 +23,9 @@ fresh_or (Some e) new = if is_fresh e then e else new
 -- the entry of a finished key: the full one, and under deep traces what is fresh or else the shallow one
 abbrev pub entry_left : How → SomeKept → Book → List ℕ → Entry
 entry_left dirty K b k = full_entry b k
-entry_left (tracing verifying) K b k = full_entry b k
-entry_left (tracing constructive) K b k = full_entry b k
-entry_left (tracing deep) K b k = fresh_or (K.entries k) (shallow_entry b k)
+entry_left (tracing Verifying) K b k = full_entry b k
+entry_left (tracing Constructive) K b k = full_entry b k
+entry_left (tracing Deep) K b k = fresh_or (K.entries k) (shallow_entry b k)
 
 abbrev pub names_eq : List (List ℕ) → List (List ℕ) → Bool
 names_eq [] [] = true
@@ -44,9 +50,9 @@ abbrev pub seen_left : (List ℕ → Option Digest) → Book → List (List ℕ)
 seen_left seen b ks q = if is_among ks q && is_some (present b q) then present b q else seen q
 
 abbrev pub is_way : How → Way → Bool
-is_way (tracing verifying) verifying = true
-is_way (tracing constructive) constructive = true
-is_way (tracing deep) deep = true
+is_way (tracing Verifying) Verifying = true
+is_way (tracing Constructive) Constructive = true
+is_way (tracing Deep) Deep = true
 is_way h w = false
 
 abbrev pub or_first : Option Value → Option Value → Option Value
@@ -59,7 +65,7 @@ add h b K k ran = record {
   rules = K.rules;
   seen = λ q. if is_kept (K.entries k) (entry_left h K b k) then K.seen q else seen_left K.seen b (entry_left h K b k).needs q;
   entries = put_at K.entries k (entry_left h K b k);
-  traces = λ w q. if (ran && is_way h w) && name_eq k q then newest_first (trace_of w b k) (K.traces w q) else K.traces w q;
+  traces = λ w q. if (ran && is_way h w) && name_eq q k then newest (trace_of w b k) (K.traces w q) else K.traces w q;
   chain = K.chain;
   stored = λ d. if ran && digest_eq d (digest_or (clean b k)) then or_first (K.stored d) (clean b k) else K.stored d;
 }

@@ -1,4 +1,4 @@
-pub mod Stand
+pub mod Lists
 pub mod Marks
 pub mod Begun
 pub mod Beneath
@@ -9,3 +9,5 @@ pub mod Held
 pub mod Left
 pub mod Finished
 pub mod Treated
+pub mod Carries
+pub mod LeadsTo

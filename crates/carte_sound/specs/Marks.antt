@@ -1,15 +1,11 @@
 -- Which keys a changed input makes stale.
-use Rattle.std.specs.Prelude.{ℕ, ◌≡◌, Bool, true, false, not, ◌&&◌, ◌||◌, List, [], ◌∷◌, Option, Some, None, option_map}
+use Rattle.std.specs.Prelude.{ℕ, ◌≡◌, true, false, List, Option, Some, None}
 use Rattle.carte_value.specs.declared.digest.Digest.{Digest}
-use Rattle.carte_value.specs.Names.{name_eq}
 use Rattle.carte_value.specs.Spelling.{digest_of}
 use Rattle.carte_value.specs.Truths.{Among}
 use Rattle.carte_book.specs.Book.{Item, input, rule, Book, content}
-use Rattle.carte_sound.specs.Stand.{Entry, SomeKept}
-
--- neither stale nor shallow
-abbrev pub is_fresh : Entry → Bool
-is_fresh e = not e.stale && not e.shallow
+use Rattle.carte_record.specs.Kept.{SomeKept, is_fresh}
+use Rattle.carte_record.specs.declared.entry.Entry.{Entry}
 
 -- the key has a fresh entry
 pub record IsFresh (K : SomeKept) (k : List ℕ) : Type 0 where
@@ -45,14 +41,3 @@ pub record IsMarked (K : SomeKept) (b : Book) (k : List ℕ) : Type 0 where
   pub name : List ℕ
   pub leads : Leads K k name
   pub changed : IsChanged K b name
-
-abbrev pub is_among : List (List ℕ) → List ℕ → Bool
-is_among [] k = false
-is_among (j ∷ js) k = name_eq k j || is_among js k
-
-abbrev pub staled : Bool → Entry → Entry
-staled marked e = record e { stale = marked || e.stale }
-
--- these keys' entries are stale besides
-abbrev pub with_marks : SomeKept → List (List ℕ) → SomeKept
-with_marks K ms = record K { entries = λ k. option_map (staled (is_among ms k)) (K.entries k) }

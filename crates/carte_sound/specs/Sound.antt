@@ -8,8 +8,12 @@ use Rattle.carte_formula.specs.Tree.{Tree}
 use Rattle.carte_book.specs.Book.{input, rule, Book, content, clean}
 use Rattle.carte_book.specs.Needs.{IsRule}
 use Rattle.carte_book.specs.Digest.{rules_digest_of}
-use Rattle.carte_sound.specs.Stand.{Entry, Trace, Way, SomeKept, nothing_kept, Has}
-use Rattle.carte_sound.specs.Marks.{is_fresh, IsFresh, Leads}
+use Rattle.carte_record.specs.Kept.{SomeKept, nothing_kept, is_fresh}
+use Rattle.carte_record.specs.declared.entry.Entry.{Entry}
+use Rattle.carte_record.specs.declared.trace.Trace.{Trace}
+use Rattle.carte_record.specs.declared.way.Way.{Way}
+use Rattle.carte_sound.specs.Lists.{Has}
+use Rattle.carte_sound.specs.Marks.{IsFresh, Leads}
 use Rattle.carte_sound.specs.True.{IsTraceOf, IsEntryOf}
 
 -- a book of the history, with the kept rules

@@ -4,7 +4,7 @@ use Rattle.carte_value.specs.Truths.{Among}
 use Rattle.carte_book.specs.Book.{Book}
 use Rattle.carte_book.specs.Needs.{IsRule, needs, IsReachedRule}
 use Rattle.carte_book.specs.Reason.{IsClean}
-use Rattle.carte_sound.specs.Stand.{SomeKept}
+use Rattle.carte_record.specs.Kept.{SomeKept}
 use Rattle.carte_sound.specs.Held.{How, IsHeld, IsFollowed}
 
 -- by suspending: the rules that begin it, and the rules among the needs of what is followed

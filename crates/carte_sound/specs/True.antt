@@ -8,7 +8,10 @@ use Rattle.carte_value.specs.Truths.{Truth}
 use Rattle.carte_formula.specs.Tree.{Tree}
 use Rattle.carte_book.specs.Book.{rule, Book, content, clean}
 use Rattle.carte_book.specs.Needs.{needs}
-use Rattle.carte_sound.specs.Stand.{Entry, Trace, Way, verifying, constructive, deep}
+use Rattle.carte_record.specs.declared.entry.Entry.{Entry}
+use Rattle.carte_record.specs.declared.trace.Trace.{Trace}
+use Rattle.carte_record.specs.declared.way.Way.{Way}
+use Rattle.carte_record.specs.declared.way.Way.TheVariants.{Verifying, Constructive, Deep}
 use Rattle.carte_sound.specs.Beneath.{beneath}
 
 abbrev pub digest_or : Option Value → Digest
@@ -22,9 +25,9 @@ links_to t (k ∷ ks) = record { name = k; digest = digest_or (t k) } ∷ links_
 
 -- which names a trace links
 abbrev pub linked : Way → Book → List ℕ → List (List ℕ)
-linked verifying b k = needs b k
-linked constructive b k = needs b k
-linked deep b k = beneath b k
+linked Verifying b k = needs b k
+linked Constructive b k = needs b k
+linked Deep b k = beneath b k
 
 -- the trace of a rule with a clean value
 abbrev pub trace_of : Way → Book → List ℕ → Trace
