@@ -1,0 +1,3 @@
+pub mod Agreeing
+pub mod Fresh
+pub mod Tests
