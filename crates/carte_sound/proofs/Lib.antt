@@ -1,3 +1,4 @@
 pub mod Agreeing
 pub mod Fresh
 pub mod Tests
+pub mod Begun

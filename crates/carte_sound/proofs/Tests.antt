@@ -1,5 +1,5 @@
 -- What the tests of names, digests and entries decide.
-use Rattle.std.proofs.Common.{◌≡◌, ◌⊎◌, ℕ, Bool, true, false, not, ◌&&◌, cond, List, [], ◌∷◌, Option, Some, None, option_map, filter, refl, ap, sym, ◌∙◌, inl, inr}
+use Rattle.std.proofs.Common.{◌≡◌, ◌⊎◌, ℕ, Bool, true, false, not, ◌&&◌, ◌||◌, cond, List, [], ◌∷◌, Option, Some, None, option_map, filter, refl, ap, sym, ◌∙◌, inl, inr}
 use Rattle.std.specs.Cmp.Lexicographic.{bytes_decides, nat_list_eq_equiv}
 use Rattle.carte_value.specs.declared.digest.Digest.{Digest}
 use Rattle.carte_value.specs.Names.{name_eq}
@@ -50,15 +50,15 @@ same_or_not (Some c) d = elim (digest_eq c d) as (λ b. digest_eq c d ≡ b → 
 
 pub tested_among : (ks : List (List ℕ)) (k : List ℕ) → is_among ks k ≡ true → Among ks k
 tested_among [] k is = cc
-tested_among (j ∷ js) k = elim (name_eq j k) as (λ b. name_eq j k ≡ b → cond b true (is_among js k) ≡ true → Among (j ∷ js) k) [
-  | true ↦ λ is t. inl (sym (same_name j k is))
-  | false ↦ λ is t. inr (tested_among js k t)
-] refl
+tested_among (j ∷ js) k is = elim (name_eq j k) as (λ b. name_eq j k ≡ b → (b || is_among js k) ≡ true → Among (j ∷ js) k) [
+  | true ↦ λ same t. inl (sym (same_name j k same))
+  | false ↦ λ apart t. inr (tested_among js k t)
+] refl is
 
 pub among_tested : (ks : List (List ℕ)) (k : List ℕ) → Among ks k → is_among ks k ≡ true
 among_tested [] k among = absurd among
 among_tested (j ∷ js) k (inl same) = rw same (rw (name_self j) refl)
-among_tested (j ∷ js) k (inr later) = elim (name_eq j k) as (λ b. cond b true (is_among js k) ≡ true) [
+among_tested (j ∷ js) k (inr later) = elim (name_eq j k) as (λ b. (b || is_among js k) ≡ true) [
   | true ↦ refl
   | false ↦ among_tested js k later
 ]
