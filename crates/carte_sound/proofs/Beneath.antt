@@ -58,10 +58,10 @@ beneath_of_input (suc n) c k v is = rw is refl
 pub beneath_of_rule : (n : ℕ) (c : Book) (k : List ℕ) (f : Tree) → content c k ≡ Some (rule f) → beneath_in (suc n) c k ≡ gathered (λ j. beneath_in n c j) (needs c k)
 beneath_of_rule n c k f is = rw is refl
 
-no_value_yet : (c : Book) (k : List ℕ) (f : Tree) (v : Value) → content c k ≡ Some (rule f) → val c zero k ≡ Some v → ⊥
+pub no_value_yet : (c : Book) (k : List ℕ) (f : Tree) (v : Value) → content c k ≡ Some (rule f) → val c zero k ≡ Some v → ⊥
 no_value_yet c k f v is has = let none : valued (content c k) (λ f. None) ≡ None = rw is refl in cc
 
-no_value : (c : Book) (n : ℕ) (k : List ℕ) (v : Value) → content c k ≡ None → val c n k ≡ Some v → ⊥
+pub no_value : (c : Book) (n : ℕ) (k : List ℕ) (v : Value) → content c k ≡ None → val c n k ≡ Some v → ⊥
 no_value c n k v is has = let none : clean c k ≡ None = clean_nothing c k is in let some : clean c k ≡ Some v = val_clean c n k v has in cc
 
 -- the needs of a rule are those names that the round before was asked for
@@ -91,16 +91,14 @@ beneath_input (suc n) c k i among = beneath_of_item c k i (gathered (λ j. benea
 
 -- two books, the one with the rules of the other
 module _ (c b : Book) (rules : SameRules c b) where
-  unfoldable AgreeBeneath : ℕ → List ℕ → Type 0
+  abbrev pub AgreeBeneath : ℕ → List ℕ → Type 0
   AgreeBeneath n k = (i : List ℕ) → Among (beneath_in n c k) i → content b i ≡ content c i
 
   agree_need : (n : ℕ) (k : List ℕ) (f : Tree) → content c k ≡ Some (rule f) → AgreeBeneath (suc n) k → (j : List ℕ) → Among (needs c k) j → AgreeBeneath n j
-  unfolding AgreeBeneath
   agree_need n k f is agree j among i here = agree i (rw (beneath_of_rule n c k f is) (among_gathered (λ j. beneath_in n c j) (needs c k) j i among here))
 
   -- where the inputs beneath a key are the same in both, each round that finds its value in the one finds that value in the other
   pub beneath_val : (n : ℕ) (k : List ℕ) (v : Value) → val c n k ≡ Some v → AgreeBeneath n k → val b n k ≡ Some v
-  unfolding AgreeBeneath
   beneath_val zero k v has agree = on_item (content c k) refl
     where
       on_item : (o : Option Item) → content c k ≡ o → val b zero k ≡ Some v
@@ -128,12 +126,10 @@ module _ (c b : Book) (rules : SameRules c b) where
 
   -- so the clean value is the same
   pub beneath_value : (n : ℕ) (k : List ℕ) (v : Value) → val c n k ≡ Some v → ((i : List ℕ) → Among (beneath_in n c k) i → content b i ≡ content c i) → clean b k ≡ Some v
-  unfolding AgreeBeneath
   beneath_value n k v has agree = val_clean b n k v (beneath_val n k v has agree)
 
   -- and the same inputs are beneath
   pub beneath_same : (n : ℕ) (k : List ℕ) (v : Value) → val c n k ≡ Some v → ((i : List ℕ) → Among (beneath_in n c k) i → content b i ≡ content c i) → beneath_in n b k ≡ beneath_in n c k
-  unfolding AgreeBeneath
   beneath_same zero k v has agree = on_item (content c k) refl
     where
       on_item : (o : Option Item) → content c k ≡ o → beneath_in zero b k ≡ beneath_in zero c k

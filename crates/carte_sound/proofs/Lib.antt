@@ -4,3 +4,4 @@ pub mod Tests
 pub mod Begun
 pub mod Held
 pub mod Beneath
+pub mod Deep
