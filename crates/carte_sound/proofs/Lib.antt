@@ -5,3 +5,7 @@ pub mod Begun
 pub mod Held
 pub mod Beneath
 pub mod Deep
+pub mod Entries
+pub mod Written
+pub mod NowFresh
+pub mod Added
