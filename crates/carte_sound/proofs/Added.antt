@@ -21,10 +21,11 @@ use Rattle.carte_sound.specs.True.{digest_or, trace_of, full_entry, shallow_entr
 use Rattle.carte_sound.specs.Sound.{Stood, IsSeen, IsFreshIn, IsStored, IsSeenInput, IsEntryOfSome, IsTraceOfSome, IsSound}
 use Rattle.carte_sound.specs.Base.{SameRules, HasDistinctDigests, IsNow, AllNow, IsBase}
 use Rattle.carte_sound.specs.Held.{How}
+use Rattle.carte_sound.specs.Results.{HasResult, IsKeptNow}
 use Rattle.carte_sound.specs.Left.{entry_left, is_kept, add}
 use Rattle.carte_sound.proofs.Tests.{eq_or_apart, put_here, put_there, put_cases, fresh_parts}
 use Rattle.carte_sound.proofs.Begun.{present_input}
-use Rattle.carte_sound.proofs.Held.{need_has_value, same_rules}
+use Rattle.carte_sound.proofs.Held.{stored_value, same_rules}
 use Rattle.carte_sound.proofs.Entries.{kept_is, Leaves, full, old, shallow, NeedsFresh, leaves}
 use Rattle.carte_sound.proofs.Written.{seen_grows, seen_written, seen_back, stored_grows, stored_ran, stored_back, traces_back}
 use Rattle.carte_sound.proofs.NowFresh.{now_fresh}
@@ -207,3 +208,36 @@ module _ (h : How) (b : Book) (H : List Book) (K : SomeKept) (base : IsBase K b 
     rules = inr same;
     now = added_now;
   }
+
+  -- the key is kept with its clean value
+  pub kept_here : IsKeptNow (add h b K k ran) b k
+  kept_here =
+      let at : (add h b K k ran).entries k ≡ Some (entry_left h K b k) = put_here K.entries k (entry_left h K b k) in
+      let told = leaves_entry (entry_left h K b k) (leaves h b K k order) in
+      let of : (entry_left h K b k).result ≡ digest_of v = told.result ∙ ap digest_of (let same_value : told.value ≡ v = (let s : Some told.value ≡ Some v = sym told.clean ∙ has in cc) in same_value) in
+      record {
+        entry = entry_left h K b k;
+        kept = at;
+        result = record {
+          value = v;
+          clean = has;
+          digest = of;
+          stored = stored_value (add h b K k ran) H added_sound base.distinct b base.present k v has (entry_left h K b k).result (leaves_stored (entry_left h K b k) (leaves h b K k order)) of;
+        };
+      }
+
+  -- and each that was so before still is
+  pub kept_grows : (j : List ℕ) → IsKeptNow K b j → IsKeptNow (add h b K k ran) b j
+  kept_grows j before = elim (eq_or_apart j k) [
+    | inl is ↦ subst (IsKeptNow (add h b K k ran) b) (sym is) kept_here
+    | inr apart ↦ record {
+      entry = before.entry;
+      kept = put_there K.entries k (entry_left h K b k) j apart ∙ before.kept;
+      result = record {
+        value = before.result.value;
+        clean = before.result.clean;
+        digest = before.result.digest;
+        stored = stored_grows h b K k ran before.entry.result before.result.value before.result.stored;
+      };
+    }
+  ]

@@ -12,16 +12,17 @@ use Rattle.carte_book.specs.Book.{Item, input, rule, Book, content, val, rules_o
 use Rattle.carte_book.specs.Needs.{needs}
 use Rattle.carte_book.proofs.Clean.{clean_input, val_kept, val_clean}
 use Rattle.carte_record.specs.declared.trace.Trace.{Trace}
-use Rattle.carte_record.specs.declared.way.Way.TheVariants.{Deep}
+use Rattle.carte_record.specs.declared.way.Way.TheVariants.{Verifying, Constructive, Deep}
 use Rattle.carte_record.specs.Kept.{SomeKept}
 use Rattle.carte_sound.specs.Lists.{Has}
 use Rattle.carte_sound.specs.Marks.{present}
 use Rattle.carte_sound.specs.Beneath.{gathered, beneath_in, beneath}
 use Rattle.carte_sound.specs.True.{digest_or, links_to, trace_of}
 use Rattle.carte_sound.specs.Base.{SameRules, HasDistinctDigests, IsBase}
-use Rattle.carte_sound.specs.Held.{AreLinks, IsHeldBy}
+use Rattle.carte_sound.specs.Held.{How, dirty, tracing, AreLinks, IsHeldBy, IsHeld}
 use Rattle.carte_sound.proofs.Begun.{present_input}
-use Rattle.carte_sound.proofs.Held.{HasResult, links_same, stored_value, same_rules}
+use Rattle.carte_sound.specs.Results.{HasResult}
+use Rattle.carte_sound.proofs.Held.{links_same, stored_value, same_rules, verifying_held, constructive_held, fresh_result}
 use Rattle.carte_sound.proofs.Beneath.{gathered_same, beneath_of_input, beneath_of_rule, no_value, no_value_yet, round_known, beneath_input, beneath_val, beneath_value, beneath_same}
 
 -- a round that finds a key's value finds all that is beneath it
@@ -89,3 +90,10 @@ module _ (K : SomeKept) (b : Book) (H : List Book) (base : IsBase K b H) where
           clean_input c i x.0 x.1 ∙ sym (clean_input b i x.0 (agree i there ∙ x.1))) in
       (record { value = v; clean = now; digest = of; stored = stored_value K H base.sound base.distinct c s.stood.stood k v s.trace.clean t.result (base.sound.trace_stored Deep k t held.kept) of },
        ap (λ (x : Trace). x.links) s.trace.trace ∙ values ∙ ap (links_to (clean b)) (sym same))
+
+  -- a held key has its clean value in the store, under all four rebuilders
+  pub held_result : (h : How) (k : List ℕ) → IsHeld h K b k → (d : Digest) × HasResult K b k d
+  held_result dirty k held = (held.entry.result, fresh_result K b H base k held)
+  held_result (tracing Verifying) k held = (held.0.result, (verifying_held K b H base k held.0 held.1).0)
+  held_result (tracing Constructive) k held = (held.0.result, (constructive_held K b H base k held.0 held.1).0)
+  held_result (tracing Deep) k held = (held.0.result, (deep_held k held.0 held.1).0)

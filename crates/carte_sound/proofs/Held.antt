@@ -23,15 +23,9 @@ use Rattle.carte_sound.specs.True.{digest_or, links_to, trace_of}
 use Rattle.carte_sound.specs.Sound.{Stood, IsTraceOfSome, IsStored, IsSound}
 use Rattle.carte_sound.specs.Base.{SameRules, HasDistinctDigests, IsBase}
 use Rattle.carte_sound.specs.Held.{AreLinks, clean_digest, digest_now, IsHeldBy}
+use Rattle.carte_sound.specs.Results.{HasResult}
 use Rattle.carte_sound.proofs.Agreeing.{same_run, same_asked}
 use Rattle.carte_sound.proofs.Fresh.{clean_ends, ends_clean}
-
--- the result is that of the key's clean value, and the store has the value
-pub record HasResult (K : SomeKept) (b : Book) (k : List ℕ) (d : Digest) : Type 0 where
-  pub value : Value
-  pub clean : clean b k ≡ Some value
-  pub digest : d ≡ digest_of value
-  pub stored : K.stored d ≡ Some value
 
 pub needs_rule : (b : Book) (k : List ℕ) (f : Tree) → content b k ≡ Some (rule f) → needs b k ≡ fetched b.kind (clean b) f
 needs_rule b k f is = ap (λ o. needs_of o (λ g. fetched b.kind (clean b) g)) is

@@ -9,3 +9,5 @@ pub mod Entries
 pub mod Written
 pub mod NowFresh
 pub mod Added
+pub mod Rebased
+pub mod LeftSound
