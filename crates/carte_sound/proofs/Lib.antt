@@ -11,3 +11,8 @@ pub mod NowFresh
 pub mod Added
 pub mod Rebased
 pub mod LeftSound
+pub mod Reached
+pub mod Minimal
+pub mod Begins
+pub mod Emptied
+pub mod Leading
