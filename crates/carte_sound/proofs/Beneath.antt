@@ -121,7 +121,7 @@ module _ (c b : Book) (rules : SameRules c b) where
           let ran : eval b.kind (val c n) f ≡ Ok v = subst (λ q. eval q (val c n) f ≡ Ok v) rules.kind (val_rule c n k f v is has) in
           let looks : needs c k ≡ firsts (asked (val c n) (asks b.kind f)) = round_needs c n k f v is has ∙ ap (λ q. firsts (asked (val c n) (asks q f))) rules.kind in
           let runs : eval b.kind (val b n) f ≡ Ok v = same_run (val c n) (val b n) (asks b.kind f) v ran (λ j w among known.
-              rec j w known (agree_need n k f is agree j (rw looks (firsts_among (asked (val c n) (asks b.kind f)) j among)))) in
+          rec j w known (agree_need n k f is agree j (rw looks (firsts_among (asked (val c n) (asks b.kind f)) j among)))) in
           rw here (ap result_ok runs)
 
   -- so the clean value is the same
@@ -147,9 +147,9 @@ module _ (c b : Book) (rules : SameRules c b) where
           let ran : eval b.kind (val c n) f ≡ Ok v = subst (λ q. eval q (val c n) f ≡ Ok v) rules.kind (val_rule c n k f v is has) in
           let looks : needs c k ≡ firsts (asked (val c n) (asks b.kind f)) = round_needs c n k f v is has ∙ ap (λ q. firsts (asked (val c n) (asks q f))) rules.kind in
           let same : asked (val b n) (asks b.kind f) ≡ asked (val c n) (asks b.kind f) = same_asked (val c n) (val b n) (asks b.kind f) v ran (λ j w among known.
-              beneath_val n j w known (agree_need n k f is agree j (rw looks (firsts_among (asked (val c n) (asks b.kind f)) j among)))) in
+          beneath_val n j w known (agree_need n k f is agree j (rw looks (firsts_among (asked (val c n) (asks b.kind f)) j among)))) in
           let needed : needs b k ≡ needs c k = round_needs b n k f v here in_b ∙ ap firsts same ∙ sym looks in
           beneath_of_rule n b k f here ∙ ap (gathered (λ j. beneath_in n b j)) needed
-            ∙ gathered_same (λ j. beneath_in n b j) (λ j. beneath_in n c j) (needs c k) (λ j among.
-                let w = round_known c n k f v is has j among in rec j w.0 w.1 (agree_need n k f is agree j among))
-            ∙ sym (beneath_of_rule n c k f is)
+          ∙ gathered_same (λ j. beneath_in n b j) (λ j. beneath_in n c j) (needs c k) (λ j among.
+          let w = round_known c n k f v is has j among in rec j w.0 w.1 (agree_need n k f is agree j among))
+          ∙ sym (beneath_of_rule n c k f is)

@@ -28,5 +28,5 @@ no_traces Deep k ts = refl
 pub empty_applied : (K : SomeKept) → apply empty_batch K ≡ K
 empty_applied K =
     ap (λ (f : Way → List ℕ → List Trace). record K { entries = λ k. option_map (staled false) (K.entries k); traces = f; stored = λ d. option_or (K.stored d) None }) (fun_ext (λ w. fun_ext (λ k. no_traces w k (K.traces w k))))
-      ∙ ap (λ (f : List ℕ → Option Entry). record K { entries = f; stored = λ d. option_or (K.stored d) None }) (fun_ext (λ k. unmarked (K.entries k)))
-      ∙ ap (λ (f : Digest → Option Value). record K { stored = f }) (fun_ext (λ d. nothing_more (K.stored d)))
+    ∙ ap (λ (f : List ℕ → Option Entry). record K { entries = f; stored = λ d. option_or (K.stored d) None }) (fun_ext (λ k. unmarked (K.entries k)))
+    ∙ ap (λ (f : Digest → Option Value). record K { stored = f }) (fun_ext (λ d. nothing_more (K.stored d)))

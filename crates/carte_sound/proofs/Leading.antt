@@ -38,7 +38,7 @@ module _ (h : How) (done : SomeKept → List ℕ → Type 0) (chained : Chaining
       let M = begin K b r.marks in
       let base = brings_begun r in
       subst (λ L. IsBase L b (H ++ b ∷ [])) (sym r.applied) (left_base h b (H ++ b ∷ []) M base r.finished (chained (keys_of r.finished) M.chain)
-        (once (keys_of r.finished) M.chain r.order.once base.sound.chain) r.order.finished)
+      (once (keys_of r.finished) M.chain r.order.once base.sound.chain) r.order.finished)
 
   -- what it leaves is sound
   pub leads_sound : KeepsOnce chained → LeadsTo h done chained K b B → IsSound (apply B K) (H ++ b ∷ [])

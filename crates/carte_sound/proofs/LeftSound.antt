@@ -65,7 +65,7 @@ needs_fresh (tracing Constructive) b H M begun L before at k ran next = behind (
 needs_fresh (tracing Deep) b H M begun L before at k ran next = tt
 
 -- but under deep traces the entry of a finished key is fresh
-fresh_here : (h : How) (b : Book) (L : SomeKept) (k : List ℕ) (ran : Bool) → (h ≡ tracing Deep) ⊎ IsFresh (add h b L k ran) k
+pub fresh_here : (h : How) (b : Book) (L : SomeKept) (k : List ℕ) (ran : Bool) → (h ≡ tracing Deep) ⊎ IsFresh (add h b L k ran) k
 fresh_here dirty b L k ran = inr (record { entry = entry_left dirty L b k; kept = put_here L.entries k (entry_left dirty L b k); fresh = refl })
 fresh_here (tracing Verifying) b L k ran = inr (record { entry = entry_left (tracing Verifying) L b k; kept = put_here L.entries k (entry_left (tracing Verifying) L b k); fresh = refl })
 fresh_here (tracing Constructive) b L k ran = inr (record { entry = entry_left (tracing Constructive) L b k; kept = put_here L.entries k (entry_left (tracing Constructive) L b k); fresh = refl })

@@ -15,4 +15,7 @@ pub mod Reached
 pub mod Minimal
 pub mod Begins
 pub mod Emptied
+pub mod TracesKept
+pub mod Again
 pub mod Leading
+pub mod Next

@@ -38,14 +38,14 @@ module _ (h : How) (b : Book) (K : SomeKept) (k : List ℕ) (ran : Bool) where
   pub seen_grows : (i : List ℕ) (x : Value) → content b i ≡ Some (input x) → K.seen i ≡ Some (digest_of x) → (add h b K k ran).seen i ≡ Some (digest_of x)
   seen_grows i x is seen =
       either_way (is_kept (K.entries k) (entry_left h K b k)) (K.seen i) (seen_left K.seen b (entry_left h K b k).needs i) (Some (digest_of x)) seen
-        (either_way (is_among (entry_left h K b k).needs i && is_some (present b i)) (present b i) (K.seen i) (Some (digest_of x)) (ap digest_in is) seen)
+      (either_way (is_among (entry_left h K b k).needs i && is_some (present b i)) (present b i) (K.seen i) (Some (digest_of x)) (ap digest_in is) seen)
 
   -- the inputs that a written entry names are seen
   pub seen_written : is_kept (K.entries k) (entry_left h K b k) ≡ false → (i : List ℕ) (x : Value) → Among (entry_left h K b k).needs i → content b i ≡ Some (input x) → (add h b K k ran).seen i ≡ Some (digest_of x)
   seen_written written i x among is =
       let tests : (is_among (entry_left h K b k).needs i && is_some (present b i)) ≡ true = tested (is_among (entry_left h K b k).needs i) (present b i) (among_tested (entry_left h K b k).needs i among) (ap digest_in is) in
       ap (λ t. cond t (K.seen i) (seen_left K.seen b (entry_left h K b k).needs i)) written
-        ∙ ap (λ t. cond t (present b i) (K.seen i)) tests ∙ ap digest_in is
+      ∙ ap (λ t. cond t (present b i) (K.seen i)) tests ∙ ap digest_in is
     where
       tested : (t : Bool) (o : Option Digest) → t ≡ true → o ≡ Some (digest_of x) → (t && is_some o) ≡ true
       tested t o yes_t some = rw (yes_t, some) refl

@@ -15,6 +15,7 @@ use Rattle.carte_sound.specs.True.{trace_of}
 use Rattle.carte_sound.specs.Held.{How}
 use Rattle.carte_sound.specs.Left.{is_way, Finishes, keys_of, opened, left}
 use Rattle.carte_sound.specs.Finished.{IsFinishing}
+use Rattle.carte_sound.specs.Treated.{IsDoneInOrder, IsDoneSuspending}
 use Rattle.carte_sound.specs.Carries.{Carries}
 
 abbrev pub empty_batch : Batch
@@ -62,3 +63,15 @@ pub record BringsNothing (done : SomeKept → List ℕ → Type 0) (K : SomeKept
 -- what a build that does what is done leads to
 abbrev pub LeadsTo : How → (SomeKept → List ℕ → Type 0) → Chaining → SomeKept → Book → Batch → Type 0
 LeadsTo h done chained K b B = Brings h done chained K b B ⊎ BringsNothing done K b B
+
+-- where rules are ordered before any is worked out: what is reached is done
+abbrev pub LeadsInOrder : How → SomeKept → Book → List (List ℕ) → Batch → Type 0
+LeadsInOrder h K b targets B = LeadsTo h (λ M k. IsDoneInOrder b targets k) chain_stays K b B
+
+-- and nothing where the build is refused then
+abbrev pub LeadsRefused : How → SomeKept → Book → Batch → Type 0
+LeadsRefused h K b B = LeadsTo h (λ M k. ⊥) chain_stays K b B
+
+-- where a rule waits for what it needs: what is treated over what the build begins with
+abbrev pub LeadsSuspending : How → SomeKept → Book → List (List ℕ) → Batch → Type 0
+LeadsSuspending h K b targets B = LeadsTo h (λ M k. IsDoneSuspending h M b targets k) chain_stays K b B
