@@ -2,7 +2,7 @@
 use Rattle.std.proofs.Common.{◌≡◌, ◌⊎◌, ℕ, List, [], ◌∷◌, Option, Some, None, refl, ap, sym, ◌∙◌, inl, inr, subst}
 use Rattle.carte_value.specs.declared.value.Value.{Value}
 use Rattle.carte_value.specs.Truths.{Among}
-use Rattle.carte_meaning.specs.Meaning.{fetched}
+use Rattle.carte_tree.specs.Meaning.{fetched}
 use Rattle.carte_book.specs.Book.{Item, input, rule, Book, content, clean}
 use Rattle.carte_book.specs.Needs.{IsRule, needs, needs_of, Reaches, target, need}
 use Rattle.carte_book.specs.Reason.{IsClean, AllClean}
