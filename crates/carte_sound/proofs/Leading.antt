@@ -29,7 +29,7 @@ among_finished (f ∷ fs) before k (inl (inr later)) = among_finished fs (f.0 �
 among_finished (f ∷ fs) before k (inr there) = among_finished fs (f.0 ∷ before) k (inr (inr there))
 
 module _ (h : How) (done : SomeKept → List ℕ → Type 0) (chained : Chaining) (K : SomeKept) (H : List Book) (b : Book) (B : Batch) (sound : IsSound K H) (distinct : HasDistinctDigests (H ++ b ∷ [])) where
-  brings_begun : (r : Brings h done chained K b B) → IsBase (begin K b r.marks) b (H ++ b ∷ [])
+  pub brings_begun : (r : Brings h done chained K b B) → IsBase (begin K b r.marks) b (H ++ b ∷ [])
   brings_begun r = begun_base K b (H ++ b ∷ []) r.marks (behind_sound K H (b ∷ []) sound) (has_last H b) distinct r.marked
 
   -- what it leaves may be relied on

@@ -19,3 +19,6 @@ pub mod TracesKept
 pub mod Again
 pub mod Leading
 pub mod Next
+pub mod Unstale
+pub mod Applied
+pub mod Keeping

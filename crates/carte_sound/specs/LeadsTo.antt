@@ -73,5 +73,8 @@ abbrev pub LeadsRefused : How → SomeKept → Book → Batch → Type 0
 LeadsRefused h K b B = LeadsTo h (λ M k. ⊥) chain_stays K b B
 
 -- where a rule waits for what it needs: what is treated over what the build begins with
+abbrev pub BringsSuspending : How → SomeKept → Book → List (List ℕ) → Batch → Type 0
+BringsSuspending h K b targets B = Brings h (λ M k. IsDoneSuspending h M b targets k) chain_stays K b B
+
 abbrev pub LeadsSuspending : How → SomeKept → Book → List (List ℕ) → Batch → Type 0
 LeadsSuspending h K b targets B = LeadsTo h (λ M k. IsDoneSuspending h M b targets k) chain_stays K b B

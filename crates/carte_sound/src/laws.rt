@@ -4,6 +4,7 @@ ghost use Rattle.carte_value.specs.declared.digest.Digest.{Digest};
 ghost use Rattle.carte_value.specs.Truths.{Among, NoneTwice};
 ghost use Rattle.carte_book.specs.Book.{Book, content, clean};
 ghost use Rattle.carte_book.specs.Needs.{IsRule, Reaches, needs};
+ghost use Rattle.carte_book.specs.Reason.{AllClean};
 ghost use Rattle.carte_record.specs.declared.batch.Batch.{Batch};
 ghost use Rattle.carte_record.specs.declared.entry.Entry.{Entry};
 ghost use Rattle.carte_record.specs.declared.trace.Trace.{Trace};
@@ -15,12 +16,13 @@ ghost use Rattle.carte_sound.specs.Begun.{AreMarks, begin};
 ghost use Rattle.carte_sound.specs.Beneath.{beneath};
 ghost use Rattle.carte_sound.specs.Finished.{AreFinished};
 ghost use Rattle.carte_sound.specs.Held.{How, IsHeld, IsHeldBy, tracing};
-ghost use Rattle.carte_sound.specs.LeadsTo.{LeadsInOrder, LeadsRefused, LeadsSuspending};
+ghost use Rattle.carte_sound.specs.LeadsTo.{BringsSuspending, LeadsInOrder, LeadsRefused, LeadsSuspending};
 ghost use Rattle.carte_sound.specs.Left.{Finishes, keys_of, left};
 ghost use Rattle.carte_sound.specs.Lists.{Has};
 ghost use Rattle.carte_sound.specs.Marks.{IsFresh};
 ghost use Rattle.carte_sound.specs.Results.{HasResult, IsKeptNow};
 ghost use Rattle.carte_sound.specs.Sound.{IsSound};
+ghost use Rattle.carte_sound.specs.Treated.{IsDoneSuspending};
 ghost use Rattle.carte_sound.specs.True.{IsTraceOf, digest_or, links_to};
 
 /// Nothing kept is sound for every history.
@@ -87,4 +89,12 @@ pub fn batch_is_sound()
     ensures in_order { (h : How) (K : SomeKept) (H : List Book) (b : Book) (targets : List (List ℕ)) (B : Batch) → IsSound K H → HasDistinctDigests (H ++ b ∷ []) → LeadsInOrder h K b targets B → IsSound (apply B K) (H ++ b ∷ []) }
     ensures refused { (h : How) (K : SomeKept) (H : List Book) (b : Book) (B : Batch) → IsSound K H → HasDistinctDigests (H ++ b ∷ []) → LeadsRefused h K b B → IsSound (apply B K) (H ++ b ∷ []) }
     ensures suspending { (h : How) (K : SomeKept) (H : List Book) (b : Book) (targets : List (List ℕ)) (B : Batch) → IsSound K H → HasDistinctDigests (H ++ b ∷ []) → LeadsSuspending h K b targets B → IsSound (apply B K) (H ++ b ∷ []) }
+{}
+
+/// Behind the batch of a build whose targets all have clean values, each rule that they reach is kept with its clean
+/// value; where the build waits for what it needs this is so but under deep traces, where each rule that was done is.
+pub fn batch_keeps_reached()
+    ensures in_order { (h : How) (K : SomeKept) (H : List Book) (b : Book) (targets : List (List ℕ)) (B : Batch) → IsSound K H → HasDistinctDigests (H ++ b ∷ []) → LeadsInOrder h K b targets B → AllClean b targets → (k : List ℕ) → Reaches b targets k → IsRule b k → IsKeptNow (apply B K) b k }
+    ensures suspending { (h : How) (K : SomeKept) (H : List Book) (b : Book) (targets : List (List ℕ)) (B : Batch) → ¬ (h ≡ tracing Deep) → IsSound K H → HasDistinctDigests (H ++ b ∷ []) → LeadsSuspending h K b targets B → AllClean b targets → (k : List ℕ) → Reaches b targets k → IsRule b k → IsKeptNow (apply B K) b k }
+    ensures deep { (h : How) (K : SomeKept) (H : List Book) (b : Book) (targets : List (List ℕ)) (B : Batch) → IsSound K H → HasDistinctDigests (H ++ b ∷ []) → (brings : BringsSuspending h K b targets B) → (k : List ℕ) → IsDoneSuspending h (begin K b brings.marks) b targets k → IsKeptNow (apply B K) b k }
 {}
