@@ -1,27 +1,25 @@
 -- One finished key more keeps what is kept sound and true now, under all four rebuilders.
-use Rattle.std.proofs.Common.{◌≡◌, ◌⊎◌, ℕ, Bool, true, false, cond, List, [], ◌∷◌, Option, Some, None, refl, ap, sym, ◌∙◌, inl, inr, subst}
+use Rattle.std.proofs.Common.{◌≡◌, ◌⊎◌, ℕ, Bool, true, false, cond, List, Some, None, refl, ap, sym, ◌∙◌, inl, inr, subst}
 use Rattle.carte_value.specs.declared.digest.Digest.{Digest}
 use Rattle.carte_value.specs.declared.value.Value.{Value}
-use Rattle.carte_value.specs.Names.{name_eq}
 use Rattle.carte_value.specs.Spelling.{digest_of}
 use Rattle.carte_value.specs.Truths.{Among}
 use Rattle.carte_tree.specs.Tree.{Tree}
-use Rattle.carte_book.specs.Book.{Item, input, rule, Book, content, clean}
+use Rattle.carte_book.specs.Book.{input, rule, Book, content, clean}
 use Rattle.carte_book.specs.Needs.{IsRule, needs}
 use Rattle.carte_book.specs.Digest.{rules_digest_of}
-use Rattle.carte_book.proofs.Clean.{clean_nothing}
 use Rattle.carte_record.specs.declared.entry.Entry.{Entry}
 use Rattle.carte_record.specs.declared.trace.Trace.{Trace}
 use Rattle.carte_record.specs.declared.way.Way.{Way}
 use Rattle.carte_record.specs.Kept.{SomeKept, is_fresh, put_at}
 use Rattle.carte_sound.specs.Lists.{Has}
-use Rattle.carte_sound.specs.Marks.{IsFresh, Leads, need, on, present}
+use Rattle.carte_sound.specs.Marks.{IsFresh}
 use Rattle.carte_sound.specs.Beneath.{beneath}
-use Rattle.carte_sound.specs.True.{digest_or, trace_of, full_entry, shallow_entry, IsTraceOf, IsEntryOf}
-use Rattle.carte_sound.specs.Sound.{Stood, IsSeen, IsFreshIn, IsStored, IsSeenInput, IsEntryOfSome, IsTraceOfSome, IsSound}
-use Rattle.carte_sound.specs.Base.{SameRules, HasDistinctDigests, IsNow, AllNow, IsBase}
+use Rattle.carte_sound.specs.True.{digest_or, full_entry, IsTraceOf, IsEntryOf}
+use Rattle.carte_sound.specs.Sound.{Stood, IsStored, IsEntryOfSome, IsTraceOfSome, IsSound}
+use Rattle.carte_sound.specs.Base.{IsNow, AllNow, IsBase}
 use Rattle.carte_sound.specs.Held.{How}
-use Rattle.carte_sound.specs.Results.{HasResult, IsKeptNow}
+use Rattle.carte_sound.specs.Results.{IsKeptNow}
 use Rattle.carte_sound.specs.Left.{entry_left, is_kept, add}
 use Rattle.carte_sound.proofs.Tests.{eq_or_apart, put_here, put_there, put_cases, fresh_parts}
 use Rattle.carte_sound.proofs.Begun.{present_input}

@@ -1,26 +1,19 @@
 -- A key that was finished is held from then on, until what it was made of changes.
-use Rattle.std.proofs.Common.{◌≡◌, ◌⊎◌, ℕ, Bool, true, false, List, [], ◌∷◌, Option, Some, None, option_map, refl, ap, sym, ◌∙◌, inl, inr, subst}
-use Rattle.carte_value.specs.declared.digest.Digest.{Digest}
-use Rattle.carte_value.specs.declared.value.Value.{Value}
+use Rattle.std.proofs.Common.{◌≡◌, ℕ, Bool, true, false, List, [], ◌∷◌, refl, ap, sym, ◌∙◌, inl, inr, subst}
 use Rattle.carte_value.specs.Names.{name_eq}
-use Rattle.carte_value.specs.Spelling.{digest_of}
 use Rattle.carte_value.specs.Truths.{Among}
-use Rattle.carte_tree.specs.Tree.{Tree}
-use Rattle.carte_book.specs.Book.{input, rule, Book, content, clean}
-use Rattle.carte_book.specs.Needs.{IsRule, needs}
+use Rattle.carte_book.specs.Book.{Book, clean}
+use Rattle.carte_book.specs.Needs.{IsRule}
 use Rattle.carte_book.specs.Reason.{IsClean}
-use Rattle.carte_record.specs.declared.entry.Entry.{Entry}
 use Rattle.carte_record.specs.declared.trace.Trace.{Trace}
 use Rattle.carte_record.specs.declared.way.Way.{Way}
 use Rattle.carte_record.specs.declared.way.Way.TheVariants.{Verifying, Constructive, Deep}
 use Rattle.carte_record.specs.Kept.{SomeKept}
 use Rattle.carte_sound.specs.Lists.{Has}
-use Rattle.carte_sound.specs.Marks.{IsFresh}
-use Rattle.carte_sound.specs.Beneath.{beneath}
 use Rattle.carte_sound.specs.True.{digest_or, trace_of, full_entry}
 use Rattle.carte_sound.specs.Base.{IsBase}
-use Rattle.carte_sound.specs.Held.{How, dirty, tracing, digest_now, IsTrusted, IsHeldBy, IsHeld}
-use Rattle.carte_sound.specs.Left.{entry_left, add, opened, Finishes, keys_of, add_all}
+use Rattle.carte_sound.specs.Held.{How, dirty, tracing, IsTrusted, IsHeld}
+use Rattle.carte_sound.specs.Left.{entry_left, add, opened, Finishes, add_all}
 use Rattle.carte_sound.specs.Finished.{RanOrHeld, IsFinishedAfter, AreFinished}
 use Rattle.carte_sound.proofs.Tests.{name_self, eq_or_apart, put_here, put_there}
 use Rattle.carte_sound.proofs.Held.{verifying_held}

@@ -1,20 +1,20 @@
 -- The inputs beneath a rule, in books with the same rules whose inputs there are the same.
-use Rattle.std.proofs.Common.{◌≡◌, ◌⊎◌, ℕ, zero, suc, ◌+◌, ◌≤◌, List, [], ◌∷◌, ◌++◌, length, Option, Some, None, Ok, refl, ap, sym, ◌∙◌, inl, inr, subst, arith}
+use Rattle.std.proofs.Common.{◌≡◌, ◌⊎◌, ℕ, zero, suc, List, [], ◌∷◌, ◌++◌, Option, Some, None, Ok, refl, ap, sym, ◌∙◌, inl, inr, subst}
 use Rattle.std.specs.Result.{result_ok}
 use Rattle.carte_value.specs.declared.value.Value.{Value}
 use Rattle.carte_value.specs.Asks.{firsts, asked}
-use Rattle.carte_value.specs.Truths.{Truth, Among}
+use Rattle.carte_value.specs.Truths.{Among}
 use Rattle.carte_value.proofs.Asks.{asked_kept, asked_known}
 use Rattle.carte_value.proofs.Firsts.{among_firsts, firsts_among}
 use Rattle.carte_tree.specs.Tree.{Tree}
-use Rattle.carte_tree.specs.Meaning.{asks, eval, fetched}
-use Rattle.carte_book.specs.Book.{Item, input, rule, Book, content, valued, val, rules_of, clean}
+use Rattle.carte_tree.specs.Meaning.{asks, eval}
+use Rattle.carte_book.specs.Book.{Item, input, rule, Book, content, valued, val, clean}
 use Rattle.carte_book.specs.Needs.{needs}
-use Rattle.carte_book.proofs.Clean.{ended, clean_input, clean_nothing, val_clean}
-use Rattle.carte_sound.specs.Beneath.{gathered, beneath_item, beneath_in, beneath}
+use Rattle.carte_book.proofs.Clean.{clean_nothing, val_clean}
+use Rattle.carte_sound.specs.Beneath.{gathered, beneath_item, beneath_in}
 use Rattle.carte_sound.specs.Base.{SameRules}
 use Rattle.carte_sound.proofs.Agreeing.{same_run, same_asked}
-use Rattle.carte_sound.proofs.Fresh.{val_rule, clean_ends}
+use Rattle.carte_sound.proofs.Fresh.{val_rule}
 use Rattle.carte_sound.proofs.Held.{needs_rule}
 
 among_left : (xs ys : List (List ℕ)) (k : List ℕ) → Among xs k → Among (xs ++ ys) k

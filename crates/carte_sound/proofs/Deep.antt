@@ -1,24 +1,23 @@
 -- What a key has that is held by links of the inputs beneath it.
-use Rattle.std.proofs.Common.{◌≡◌, ◌⊎◌, ℕ, zero, suc, ◌+◌, ◌-◌, ◌≤◌, List, [], ◌∷◌, length, Option, Some, None, refl, ap, sym, ◌∙◌, inl, inr, subst, arith}
+use Rattle.std.proofs.Common.{◌≡◌, ℕ, zero, suc, ◌+◌, ◌-◌, List, [], ◌∷◌, length, Option, Some, None, refl, ap, sym, ◌∙◌, inl, inr, subst, arith}
 use Rattle.std.proofs.lemmas.Bool.{cases_lt}
 use Rattle.carte_value.specs.declared.digest.Digest.{Digest}
 use Rattle.carte_value.specs.declared.value.Value.{Value}
 use Rattle.carte_value.specs.Asks.{firsts}
 use Rattle.carte_value.specs.Spelling.{digest_of}
-use Rattle.carte_value.specs.Truths.{Truth, Among}
+use Rattle.carte_value.specs.Truths.{Among}
 use Rattle.carte_value.proofs.Firsts.{among_firsts, firsts_among}
-use Rattle.carte_tree.specs.Tree.{Tree}
 use Rattle.carte_book.specs.Book.{Item, input, rule, Book, content, val, rules_of, clean}
 use Rattle.carte_book.specs.Needs.{needs}
-use Rattle.carte_book.proofs.Clean.{clean_input, val_kept, val_clean}
+use Rattle.carte_book.proofs.Clean.{clean_input, val_kept}
 use Rattle.carte_record.specs.declared.trace.Trace.{Trace}
 use Rattle.carte_record.specs.declared.way.Way.TheVariants.{Verifying, Constructive, Deep}
 use Rattle.carte_record.specs.Kept.{SomeKept}
 use Rattle.carte_sound.specs.Lists.{Has}
 use Rattle.carte_sound.specs.Marks.{present}
-use Rattle.carte_sound.specs.Beneath.{gathered, beneath_in, beneath}
-use Rattle.carte_sound.specs.True.{digest_or, links_to, trace_of}
-use Rattle.carte_sound.specs.Base.{SameRules, HasDistinctDigests, IsBase}
+use Rattle.carte_sound.specs.Beneath.{beneath_in, beneath}
+use Rattle.carte_sound.specs.True.{digest_or, links_to}
+use Rattle.carte_sound.specs.Base.{HasDistinctDigests, IsBase}
 use Rattle.carte_sound.specs.Held.{How, dirty, tracing, AreLinks, IsHeldBy, IsHeld}
 use Rattle.carte_sound.proofs.Begun.{present_input}
 use Rattle.carte_sound.specs.Results.{HasResult}

@@ -1,12 +1,11 @@
 -- Fresh entries, each true of a book of its own that agrees with the present one, are true of the present one.
-use Rattle.std.proofs.Common.{◌≡◌, ℕ, zero, suc, ◌+◌, true, List, length, Option, Some, None, Result, Ok, refl, ap, sym, ◌∙◌, subst}
+use Rattle.std.proofs.Common.{◌≡◌, ℕ, zero, suc, ◌+◌, true, List, length, Option, Some, None, Ok, refl, ap, sym, ◌∙◌, subst}
 use Rattle.std.specs.Result.{result_ok}
 use Rattle.carte_value.specs.declared.value.Value.{Value}
 use Rattle.carte_value.specs.Asks.{firsts, asked}
-use Rattle.carte_value.specs.Truths.{Truth, Among}
+use Rattle.carte_value.specs.Truths.{Among}
 use Rattle.carte_value.specs.Spelling.{digest_of}
-use Rattle.carte_value.proofs.Asks.{asked_known}
-use Rattle.carte_value.proofs.Firsts.{among_firsts, firsts_among}
+use Rattle.carte_value.proofs.Firsts.{firsts_among}
 use Rattle.carte_tree.specs.Tree.{Tree}
 use Rattle.carte_tree.specs.Meaning.{asks, eval, fetched}
 use Rattle.carte_book.specs.Book.{Item, input, rule, Book, content, valued, val, rules_of, clean}
@@ -15,7 +14,7 @@ use Rattle.carte_book.proofs.Clean.{ended, clean_rule, clean_input, clean_nothin
 use Rattle.carte_record.specs.declared.entry.Entry.{Entry}
 use Rattle.carte_record.specs.Kept.{SomeKept, is_fresh}
 use Rattle.carte_sound.specs.Marks.{IsFresh, Leads, need, on}
-use Rattle.carte_sound.specs.Base.{IsNow, AllNow}
+use Rattle.carte_sound.specs.Base.{AllNow}
 use Rattle.carte_sound.proofs.Agreeing.{same_three, same_asked}
 
 -- two books have the same at the key and at all that it leads to

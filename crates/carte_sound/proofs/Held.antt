@@ -1,5 +1,5 @@
 -- What a held key has: its clean value, in the store, and by links of its needs those that they have now.
-use Rattle.std.proofs.Common.{◌≡◌, ◌⊎◌, ℕ, Bool, true, false, List, [], ◌∷◌, Option, Some, None, option_map, Ok, refl, ap, sym, ◌∙◌, inl, inr, subst}
+use Rattle.std.proofs.Common.{◌≡◌, ℕ, List, [], ◌∷◌, Option, Some, None, option_map, Ok, refl, ap, sym, ◌∙◌, inl, inr, subst}
 use Rattle.carte_value.specs.declared.digest.Digest.{Digest}
 use Rattle.carte_value.specs.declared.value.Value.{Value}
 use Rattle.carte_value.specs.Asks.{firsts, asked}
@@ -10,19 +10,18 @@ use Rattle.carte_value.proofs.Firsts.{among_firsts, firsts_among}
 use Rattle.carte_tree.specs.Tree.{Tree}
 use Rattle.carte_tree.specs.Meaning.{asks, eval, fetched}
 use Rattle.carte_book.specs.Book.{rule, Book, content, clean}
-use Rattle.carte_book.specs.Needs.{IsRule, needs, needs_of}
+use Rattle.carte_book.specs.Needs.{needs, needs_of}
 use Rattle.carte_book.specs.Digest.{rules_digest_of}
-use Rattle.carte_record.specs.declared.entry.Entry.{Entry}
 use Rattle.carte_record.specs.declared.trace.Trace.{Trace}
 use Rattle.carte_record.specs.declared.way.Way.{Way}
-use Rattle.carte_record.specs.declared.way.Way.TheVariants.{Verifying, Constructive, Deep}
-use Rattle.carte_record.specs.Kept.{SomeKept, nothing_kept, is_fresh}
+use Rattle.carte_record.specs.declared.way.Way.TheVariants.{Verifying, Constructive}
+use Rattle.carte_record.specs.Kept.{SomeKept}
 use Rattle.carte_sound.specs.Lists.{Has}
 use Rattle.carte_sound.specs.Marks.{IsFresh}
 use Rattle.carte_sound.specs.True.{digest_or, links_to, trace_of}
 use Rattle.carte_sound.specs.Sound.{Stood, IsTraceOfSome, IsStored, IsSound}
 use Rattle.carte_sound.specs.Base.{SameRules, HasDistinctDigests, IsBase}
-use Rattle.carte_sound.specs.Held.{AreLinks, clean_digest, digest_now, IsHeldBy}
+use Rattle.carte_sound.specs.Held.{AreLinks, clean_digest, IsHeldBy}
 use Rattle.carte_sound.specs.Results.{HasResult}
 use Rattle.carte_sound.proofs.Agreeing.{same_run, same_asked}
 use Rattle.carte_sound.proofs.Fresh.{clean_ends, ends_clean}

@@ -1,5 +1,5 @@
 -- Behind a batch of a build whose targets all have clean values, each rule that they reach is kept.
-use Rattle.std.proofs.Common.{◌≡◌, ◌⊎◌, ℕ, List, [], ◌∷◌, ◌++◌, Some, refl, ap, sym, ◌∙◌, inl, inr, subst}
+use Rattle.std.proofs.Common.{◌≡◌, ℕ, List, [], ◌∷◌, ◌++◌, sym, inl, inr, subst}
 use Rattle.carte_value.specs.Truths.{Among}
 use Rattle.carte_book.specs.Book.{Book}
 use Rattle.carte_book.specs.Needs.{IsRule, Reaches, target, need}
@@ -11,7 +11,7 @@ use Rattle.carte_record.specs.Kept.{SomeKept}
 use Rattle.carte_sound.specs.Marks.{IsFresh}
 use Rattle.carte_sound.specs.Begun.{begin}
 use Rattle.carte_sound.specs.Sound.{IsSound}
-use Rattle.carte_sound.specs.Base.{HasDistinctDigests, IsBase}
+use Rattle.carte_sound.specs.Base.{HasDistinctDigests}
 use Rattle.carte_sound.specs.Held.{How, tracing}
 use Rattle.carte_sound.specs.Results.{IsKeptNow}
 use Rattle.carte_sound.specs.Left.{opened}

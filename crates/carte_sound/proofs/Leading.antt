@@ -1,20 +1,19 @@
 -- A batch that a build leads to leaves what is kept sound, and what was done kept with its clean value.
-use Rattle.std.proofs.Common.{◌≡◌, ◌⊎◌, ℕ, true, List, [], ◌∷◌, ◌++◌, Option, Some, None, refl, ap, sym, ◌∙◌, inl, inr, subst}
+use Rattle.std.proofs.Common.{◌⊎◌, ℕ, List, [], ◌∷◌, ◌++◌, ap, sym, ◌∙◌, inl, inr, subst}
 use Rattle.carte_value.specs.Truths.{Among, NoneTwice}
 use Rattle.carte_book.specs.Book.{Book}
 use Rattle.carte_record.specs.declared.batch.Batch.{Batch}
 use Rattle.carte_record.specs.Folds.{apply}
 use Rattle.carte_record.specs.Kept.{SomeKept}
-use Rattle.carte_sound.specs.Lists.{Has}
 use Rattle.carte_sound.specs.Begun.{begin}
 use Rattle.carte_sound.specs.Sound.{IsSound}
 use Rattle.carte_sound.specs.Base.{HasDistinctDigests, IsBase}
 use Rattle.carte_sound.specs.Held.{How}
 use Rattle.carte_sound.specs.Results.{IsKeptNow}
-use Rattle.carte_sound.specs.Left.{Finishes, keys_of, opened, add_all, left}
-use Rattle.carte_sound.specs.LeadsTo.{Chaining, Brings, BringsNothing, LeadsTo}
+use Rattle.carte_sound.specs.Left.{Finishes, keys_of, opened}
+use Rattle.carte_sound.specs.LeadsTo.{Chaining, Brings, LeadsTo}
 use Rattle.carte_sound.proofs.Emptied.{empty_applied}
-use Rattle.carte_sound.proofs.Begins.{has_left, has_last, behind_sound, begun_base}
+use Rattle.carte_sound.proofs.Begins.{has_last, behind_sound, begun_base}
 use Rattle.carte_sound.proofs.LeftSound.{finished_before, first_station, stations, left_base}
 
 -- the new chain names no name twice where the old one and the finished keys don't

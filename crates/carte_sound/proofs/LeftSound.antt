@@ -1,5 +1,5 @@
 -- Each station of a build is sound, and each key that was finished is kept with its clean value.
-use Rattle.std.proofs.Common.{◌≡◌, ◌⊎◌, ℕ, Bool, true, false, List, [], ◌∷◌, Option, Some, None, refl, ap, sym, ◌∙◌, inl, inr, subst}
+use Rattle.std.proofs.Common.{◌≡◌, ◌⊎◌, ℕ, Bool, true, false, List, [], ◌∷◌, Some, refl, ap, sym, ◌∙◌, inl, inr, subst}
 use Rattle.carte_value.specs.declared.digest.Digest.{Digest}
 use Rattle.carte_value.specs.declared.value.Value.{Value}
 use Rattle.carte_value.specs.Spelling.{digest_of}
@@ -8,23 +8,21 @@ use Rattle.carte_tree.specs.Tree.{Tree}
 use Rattle.carte_book.specs.Book.{rule, Book, content, clean}
 use Rattle.carte_book.specs.Needs.{IsRule, needs}
 use Rattle.carte_book.specs.Digest.{rules_digest_of}
-use Rattle.carte_record.specs.declared.entry.Entry.{Entry}
 use Rattle.carte_record.specs.declared.way.Way.TheVariants.{Verifying, Constructive, Deep}
-use Rattle.carte_record.specs.Kept.{SomeKept, put_at}
+use Rattle.carte_record.specs.Kept.{SomeKept}
 use Rattle.carte_sound.specs.Marks.{IsFresh}
-use Rattle.carte_sound.specs.Sound.{IsStored, IsSound}
-use Rattle.carte_sound.specs.Base.{HasDistinctDigests, IsBase}
+use Rattle.carte_sound.specs.Sound.{IsStored}
+use Rattle.carte_sound.specs.Base.{IsBase}
 use Rattle.carte_sound.specs.Held.{How, dirty, tracing, IsHeld}
-use Rattle.carte_sound.specs.Results.{HasResult, IsKeptNow}
-use Rattle.carte_sound.specs.Left.{entry_left, add, opened, Finishes, keys_of, add_all, left}
+use Rattle.carte_sound.specs.Results.{IsKeptNow}
+use Rattle.carte_sound.specs.Left.{entry_left, add, opened, Finishes, add_all, left}
 use Rattle.carte_sound.specs.Finished.{RanOrHeld, IsFinishedAfter, AreFinished}
-use Rattle.carte_sound.proofs.Tests.{eq_or_apart, put_here, put_there}
-use Rattle.carte_sound.proofs.Held.{stored_value}
+use Rattle.carte_sound.proofs.Tests.{put_here}
 use Rattle.carte_sound.proofs.Deep.{held_result}
 use Rattle.carte_sound.proofs.Entries.{NeedsFresh}
 use Rattle.carte_sound.proofs.Written.{stored_grows}
 use Rattle.carte_sound.proofs.Added.{fresh_grows, kept_here, kept_grows, added}
-use Rattle.carte_sound.proofs.Rebased.{with_chain, chained_base, opened_base}
+use Rattle.carte_sound.proofs.Rebased.{chained_base, opened_base}
 
 -- a build that began with M stands at L, with these keys finished
 pub record IsStation (h : How) (b : Book) (H : List Book) (M L : SomeKept) (before : List (List ℕ)) : Type 0 where

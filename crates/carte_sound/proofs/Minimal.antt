@@ -1,11 +1,10 @@
 -- Where the links of an old trace have their old values, its key is held.
-use Rattle.std.proofs.Common.{◌≡◌, ◌⊎◌, ℕ, List, [], ◌∷◌, length, ◌+◌, Option, Some, None, option_map, refl, ap, sym, ◌∙◌, inl, inr, subst}
+use Rattle.std.proofs.Common.{◌≡◌, ℕ, List, [], ◌∷◌, length, ◌+◌, Some, option_map, refl, ap, sym, ◌∙◌, inl, inr, subst}
 use Rattle.carte_value.specs.declared.value.Value.{Value}
 use Rattle.carte_value.specs.Spelling.{digest_of}
 use Rattle.carte_value.specs.Truths.{Among}
 use Rattle.carte_value.proofs.Firsts.{among_firsts}
-use Rattle.carte_tree.specs.Tree.{Tree}
-use Rattle.carte_book.specs.Book.{input, rule, Book, content, rules_of, clean}
+use Rattle.carte_book.specs.Book.{input, Book, content, rules_of, clean}
 use Rattle.carte_book.specs.Needs.{IsRule, needs}
 use Rattle.carte_book.specs.Reason.{IsClean}
 use Rattle.carte_book.proofs.Clean.{clean_input}

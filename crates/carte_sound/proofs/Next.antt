@@ -1,11 +1,10 @@
 -- What the next build holds.
-use Rattle.std.proofs.Common.{◌≡◌, ◌⊎◌, ℕ, Bool, true, false, cond, List, [], ◌∷◌, Option, Some, None, option_map, length, ◌+◌, refl, ap, sym, ◌∙◌, inl, inr, subst}
-use Rattle.carte_value.specs.declared.digest.Digest.{Digest}
+use Rattle.std.proofs.Common.{◌≡◌, ℕ, true, cond, List, [], Some, option_map, length, ◌+◌, ap, sym, ◌∙◌, inl, inr, subst}
 use Rattle.carte_value.specs.declared.value.Value.{Value}
 use Rattle.carte_value.specs.Spelling.{digest_of}
 use Rattle.carte_value.specs.Truths.{Among, NoneTwice}
 use Rattle.carte_value.proofs.Firsts.{among_firsts}
-use Rattle.carte_book.specs.Book.{input, rule, Book, content, rules_of, clean}
+use Rattle.carte_book.specs.Book.{Book, content, rules_of, clean}
 use Rattle.carte_book.specs.Needs.{IsRule, needs}
 use Rattle.carte_book.specs.Digest.{rules_digest_of}
 use Rattle.carte_record.specs.declared.entry.Entry.{Entry}
@@ -14,16 +13,14 @@ use Rattle.carte_record.specs.declared.way.Way.{Way}
 use Rattle.carte_record.specs.declared.way.Way.TheVariants.{Verifying, Constructive, Deep}
 use Rattle.carte_record.specs.Folds.{is_among, with_marks}
 use Rattle.carte_record.specs.Kept.{SomeKept, nothing_kept, staled}
-use Rattle.carte_sound.specs.Marks.{IsFresh, Leads, digest_in, present, IsMarked}
+use Rattle.carte_sound.specs.Marks.{IsFresh, digest_in, present, IsMarked}
 use Rattle.carte_sound.specs.Begun.{is_digest, has_rules_of, begin, AreMarks}
 use Rattle.carte_sound.specs.Beneath.{beneath_in, beneath}
-use Rattle.carte_sound.specs.True.{links_to}
-use Rattle.carte_sound.specs.Sound.{IsSeen}
 use Rattle.carte_sound.specs.Base.{IsBase}
-use Rattle.carte_sound.specs.Held.{How, dirty, tracing, AreLinks, clean_digest, digest_now, IsTrusted, IsHeldBy, IsHeld}
+use Rattle.carte_sound.specs.Held.{How, dirty, tracing, AreLinks, clean_digest, IsTrusted, IsHeld}
 use Rattle.carte_sound.specs.Left.{opened, Finishes, keys_of, add_all, left}
 use Rattle.carte_sound.specs.Finished.{AreFinished}
-use Rattle.carte_sound.proofs.Tests.{digest_self, not_among, tested_among}
+use Rattle.carte_sound.proofs.Tests.{digest_self, not_among}
 use Rattle.carte_sound.proofs.Begun.{not_both}
 use Rattle.carte_sound.proofs.Held.{need_has_value, same_rules, same_rules_back, verifying_held, constructive_held}
 use Rattle.carte_sound.proofs.Beneath.{beneath_input}
@@ -31,7 +28,7 @@ use Rattle.carte_sound.proofs.Deep.{deep_held}
 use Rattle.carte_sound.proofs.NowFresh.{now_names}
 use Rattle.carte_sound.proofs.Reached.{needing_rule}
 use Rattle.carte_sound.proofs.Minimal.{links_hold, inputs_hold}
-use Rattle.carte_sound.proofs.LeftSound.{finished_before, first_station, stations, left_base}
+use Rattle.carte_sound.proofs.LeftSound.{first_station, stations, left_base}
 use Rattle.carte_sound.proofs.Again.{first_holding, holdings}
 use Rattle.carte_sound.proofs.Leading.{among_finished}
 

@@ -1,6 +1,5 @@
 -- Each rule that is reached from fresh targets is fresh, and so kept with its clean value.
-use Rattle.std.proofs.Common.{◌≡◌, ◌⊎◌, ℕ, List, [], ◌∷◌, Option, Some, None, refl, ap, sym, ◌∙◌, inl, inr, subst}
-use Rattle.carte_value.specs.declared.value.Value.{Value}
+use Rattle.std.proofs.Common.{◌≡◌, ℕ, List, [], ◌∷◌, Option, Some, None, refl, ap, sym, ◌∙◌, inl, inr, subst}
 use Rattle.carte_value.specs.Truths.{Among}
 use Rattle.carte_tree.specs.Meaning.{fetched}
 use Rattle.carte_book.specs.Book.{Item, input, rule, Book, content, clean}

@@ -1,6 +1,5 @@
 -- The entry of a finished key isn't stale, so its mark need not be carried.
-use Rattle.std.proofs.Common.{◌≡◌, ◌⊎◌, ℕ, Bool, true, false, not, ◌&&◌, ◌||◌, cond, List, [], ◌∷◌, filter, Option, Some, None, option_map, refl, ap, sym, ◌∙◌, inl, inr, subst}
-use Rattle.std.specs.Option.{option_or}
+use Rattle.std.proofs.Common.{◌≡◌, ◌⊎◌, ℕ, Bool, true, false, not, ◌&&◌, ◌||◌, cond, List, [], ◌∷◌, filter, Option, Some, None, option_map, refl, ap, sym, ◌∙◌, inl, inr}
 use Rattle.carte_value.specs.Names.{name_eq}
 use Rattle.carte_value.specs.Truths.{Among}
 use Rattle.carte_book.specs.Book.{Book}
@@ -12,7 +11,7 @@ use Rattle.carte_sound.specs.True.{shallow_entry}
 use Rattle.carte_sound.specs.Held.{How, dirty, tracing}
 use Rattle.carte_sound.specs.Left.{fresh_or, entry_left, Finishes, keys_of, add, add_all}
 use Rattle.carte_sound.specs.LeadsTo.{marks_left}
-use Rattle.carte_sound.proofs.Tests.{name_self, same_name, eq_or_apart, put_cases, fresh_parts}
+use Rattle.carte_sound.proofs.Tests.{name_self, eq_or_apart, put_cases, fresh_parts}
 use Rattle.carte_sound.proofs.LeftSound.{finished_before}
 
 -- an entry of the key, if there is one, isn't stale

@@ -1,5 +1,5 @@
 -- The batches that a build may commit.
-use Rattle.std.specs.Prelude.{ℕ, ◌≡◌, ◌⊎◌, ◌&&◌, true, false, not, List, [], ◌∷◌, ◌++◌, None, filter, if◌then◌else◌}
+use Rattle.std.specs.Prelude.{ℕ, ◌≡◌, ◌⊎◌, ◌&&◌, false, not, List, [], ◌∷◌, ◌++◌, None, filter, if◌then◌else◌}
 use Rattle.carte_book.specs.Book.{Book}
 use Rattle.carte_book.specs.Digest.{rules_digest_of}
 use Rattle.carte_record.specs.declared.batch.Batch.{Batch}
@@ -13,7 +13,7 @@ use Rattle.carte_sound.specs.Lists.{Has}
 use Rattle.carte_sound.specs.Begun.{has_rules_of, begin, AreMarks}
 use Rattle.carte_sound.specs.True.{trace_of}
 use Rattle.carte_sound.specs.Held.{How}
-use Rattle.carte_sound.specs.Left.{is_way, Finishes, keys_of, opened, left}
+use Rattle.carte_sound.specs.Left.{is_way, Finishes, keys_of, left}
 use Rattle.carte_sound.specs.Finished.{IsFinishing}
 use Rattle.carte_sound.specs.Treated.{IsDoneInOrder, IsDoneSuspending}
 use Rattle.carte_sound.specs.Carries.{Carries}

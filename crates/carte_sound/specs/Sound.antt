@@ -1,11 +1,10 @@
 -- Soundness: all that is kept was true of a book that stood.
-use Rattle.std.specs.Prelude.{ℕ, ◌≡◌, ◌⊎◌, true, List, Option, Some, None}
+use Rattle.std.specs.Prelude.{ℕ, ◌≡◌, ◌⊎◌, true, List, Some, None}
 use Rattle.carte_value.specs.declared.digest.Digest.{Digest}
 use Rattle.carte_value.specs.declared.value.Value.{Value}
 use Rattle.carte_value.specs.Spelling.{digest_of}
 use Rattle.carte_value.specs.Truths.{Among, NoneTwice}
-use Rattle.carte_tree.specs.Tree.{Tree}
-use Rattle.carte_book.specs.Book.{input, rule, Book, content, clean}
+use Rattle.carte_book.specs.Book.{input, Book, content, clean}
 use Rattle.carte_book.specs.Needs.{IsRule}
 use Rattle.carte_book.specs.Digest.{rules_digest_of}
 use Rattle.carte_record.specs.Kept.{SomeKept, nothing_kept, is_fresh}
