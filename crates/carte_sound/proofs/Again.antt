@@ -9,7 +9,7 @@ use Rattle.carte_record.specs.declared.trace.Trace.{Trace}
 use Rattle.carte_record.specs.declared.way.Way.{Way}
 use Rattle.carte_record.specs.declared.way.Way.TheVariants.{Verifying, Constructive, Deep}
 use Rattle.carte_record.specs.Kept.{SomeKept}
-use Rattle.carte_sound.specs.Lists.{Has}
+use Rattle.carte_value.specs.Lists.{Has}
 use Rattle.carte_sound.specs.True.{digest_or, trace_of, full_entry}
 use Rattle.carte_sound.specs.Base.{IsBase}
 use Rattle.carte_sound.specs.Held.{How, dirty, tracing, IsTrusted, IsHeld}

@@ -18,7 +18,7 @@ use Rattle.carte_sound.specs.Carries.{Carries}
 use Rattle.carte_sound.specs.LeadsTo.{marks_left}
 use Rattle.carte_sound.proofs.Tests.{tested_among}
 use Rattle.carte_sound.proofs.Begins.{rules_kept}
-use Rattle.carte_sound.proofs.Leading.{among_finished}
+use Rattle.carte_sound.proofs.Finishing.{among_finished}
 use Rattle.carte_sound.proofs.Unstale.{unstale_all, marks_same}
 
 -- kept information is equal where all its parts are

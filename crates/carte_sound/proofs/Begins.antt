@@ -5,7 +5,7 @@ use Rattle.carte_book.specs.Book.{Book}
 use Rattle.carte_book.specs.Digest.{rules_digest_of}
 use Rattle.carte_record.specs.Folds.{with_marks}
 use Rattle.carte_record.specs.Kept.{SomeKept, nothing_kept}
-use Rattle.carte_sound.specs.Lists.{Has}
+use Rattle.carte_value.specs.Lists.{Has}
 use Rattle.carte_sound.specs.Begun.{is_digest, has_rules_of, begin, AreMarks}
 use Rattle.carte_sound.specs.Sound.{IsSound}
 use Rattle.carte_sound.specs.Base.{HasDistinctDigests, IsBase}

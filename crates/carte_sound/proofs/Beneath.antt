@@ -6,6 +6,7 @@ use Rattle.carte_value.specs.Asks.{firsts, asked}
 use Rattle.carte_value.specs.Truths.{Among}
 use Rattle.carte_value.proofs.Asks.{asked_kept, asked_known}
 use Rattle.carte_value.proofs.Firsts.{among_firsts, firsts_among}
+use Rattle.carte_value.proofs.Members.{among_append, among_left, among_right}
 use Rattle.carte_tree.specs.Tree.{Tree}
 use Rattle.carte_tree.specs.Meaning.{asks, eval}
 use Rattle.carte_book.specs.Book.{Item, input, rule, Book, content, valued, val, clean}
@@ -13,26 +14,9 @@ use Rattle.carte_book.specs.Needs.{needs}
 use Rattle.carte_book.proofs.Clean.{clean_nothing, val_clean}
 use Rattle.carte_sound.specs.Beneath.{gathered, beneath_item, beneath_in}
 use Rattle.carte_sound.specs.Base.{SameRules}
-use Rattle.carte_sound.proofs.Agreeing.{same_run, same_asked}
+use Rattle.carte_value.proofs.Agreeing.{same_run, same_asked}
 use Rattle.carte_sound.proofs.Fresh.{val_rule}
 use Rattle.carte_sound.proofs.Held.{needs_rule}
-
-among_left : (xs ys : List (List ℕ)) (k : List ℕ) → Among xs k → Among (xs ++ ys) k
-among_left [] ys k among = absurd among
-among_left (x ∷ xs) ys k (inl same) = inl same
-among_left (x ∷ xs) ys k (inr later) = inr (among_left xs ys k later)
-
-among_right : (xs ys : List (List ℕ)) (k : List ℕ) → Among ys k → Among (xs ++ ys) k
-among_right [] ys k among = among
-among_right (x ∷ xs) ys k among = inr (among_right xs ys k among)
-
-among_either : (xs ys : List (List ℕ)) (k : List ℕ) → Among (xs ++ ys) k → Among xs k ⊎ Among ys k
-among_either [] ys k among = inr among
-among_either (x ∷ xs) ys k (inl same) = inl (inl same)
-among_either (x ∷ xs) ys k (inr later) = elim (among_either xs ys k later) [
-  | inl here ↦ inl (inr here)
-  | inr there ↦ inr there
-]
 
 pub among_gathered : (f : List ℕ → List (List ℕ)) (ks : List (List ℕ)) (j i : List ℕ) → Among ks j → Among (f j) i → Among (gathered f ks) i
 among_gathered f [] j i among here = absurd among
@@ -41,7 +25,7 @@ among_gathered f (k ∷ ks) j i (inr later) here = among_right (f k) (gathered f
 
 pub gathered_among : (f : List ℕ → List (List ℕ)) (ks : List (List ℕ)) (i : List ℕ) → Among (gathered f ks) i → (j : List ℕ) × Among ks j × Among (f j) i
 gathered_among f [] i among = absurd among
-gathered_among f (k ∷ ks) i among = elim (among_either (f k) (gathered f ks) i among) [
+gathered_among f (k ∷ ks) i among = elim (among_append (f k) (gathered f ks) i among) [
   | inl here ↦ (k, inl refl, here)
   | inr there ↦ let r = gathered_among f ks i there in (r.0, inr r.1, r.2)
 ]

@@ -13,7 +13,7 @@ use Rattle.carte_book.proofs.Clean.{clean_input, val_kept}
 use Rattle.carte_record.specs.declared.trace.Trace.{Trace}
 use Rattle.carte_record.specs.declared.way.Way.TheVariants.{Verifying, Constructive, Deep}
 use Rattle.carte_record.specs.Kept.{SomeKept}
-use Rattle.carte_sound.specs.Lists.{Has}
+use Rattle.carte_value.specs.Lists.{Has}
 use Rattle.carte_sound.specs.Marks.{present}
 use Rattle.carte_sound.specs.Beneath.{beneath_in, beneath}
 use Rattle.carte_sound.specs.True.{digest_or, links_to}

@@ -16,11 +16,11 @@ unmarked : (o : Option Entry) → option_map (staled false) o ≡ o
 unmarked None = refl
 unmarked (Some e) = refl
 
-nothing_more : (o : Option Value) → option_or o None ≡ o
+pub nothing_more : (o : Option Value) → option_or o None ≡ o
 nothing_more None = refl
 nothing_more (Some v) = refl
 
-no_traces : (w : Way) (k : List ℕ) (ts : List Trace) → traces_in k (batch_traces w empty_batch) ts ≡ ts
+pub no_traces : (w : Way) (k : List ℕ) (ts : List Trace) → traces_in k (batch_traces w empty_batch) ts ≡ ts
 no_traces Verifying k ts = refl
 no_traces Constructive k ts = refl
 no_traces Deep k ts = refl

@@ -15,7 +15,7 @@ use Rattle.carte_record.specs.declared.entry.Entry.{Entry}
 use Rattle.carte_record.specs.Kept.{SomeKept, is_fresh}
 use Rattle.carte_sound.specs.Marks.{IsFresh, Leads, need, on}
 use Rattle.carte_sound.specs.Base.{AllNow}
-use Rattle.carte_sound.proofs.Agreeing.{same_three, same_asked}
+use Rattle.carte_value.proofs.Agreeing.{same_three, same_asked}
 
 -- two books have the same at the key and at all that it leads to
 pub record AgreeOn (K : SomeKept) (b c : Book) (k : List ℕ) : Type 0 where

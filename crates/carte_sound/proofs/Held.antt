@@ -16,14 +16,14 @@ use Rattle.carte_record.specs.declared.trace.Trace.{Trace}
 use Rattle.carte_record.specs.declared.way.Way.{Way}
 use Rattle.carte_record.specs.declared.way.Way.TheVariants.{Verifying, Constructive}
 use Rattle.carte_record.specs.Kept.{SomeKept}
-use Rattle.carte_sound.specs.Lists.{Has}
+use Rattle.carte_value.specs.Lists.{Has}
 use Rattle.carte_sound.specs.Marks.{IsFresh}
 use Rattle.carte_sound.specs.True.{digest_or, links_to, trace_of}
 use Rattle.carte_sound.specs.Sound.{Stood, IsTraceOfSome, IsStored, IsSound}
 use Rattle.carte_sound.specs.Base.{SameRules, HasDistinctDigests, IsBase}
 use Rattle.carte_sound.specs.Held.{AreLinks, clean_digest, IsHeldBy}
 use Rattle.carte_sound.specs.Results.{HasResult}
-use Rattle.carte_sound.proofs.Agreeing.{same_run, same_asked}
+use Rattle.carte_value.proofs.Agreeing.{same_run, same_asked}
 use Rattle.carte_sound.proofs.Fresh.{clean_ends, ends_clean}
 
 pub needs_rule : (b : Book) (k : List ℕ) (f : Tree) → content b k ≡ Some (rule f) → needs b k ≡ fetched b.kind (clean b) f

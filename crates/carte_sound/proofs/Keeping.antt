@@ -20,7 +20,8 @@ use Rattle.carte_sound.specs.Treated.{IsTreated, IsDoneInOrder, IsDoneSuspending
 use Rattle.carte_sound.specs.LeadsTo.{Chaining, chain_stays, Brings, LeadsInOrder, LeadsSuspending}
 use Rattle.carte_sound.proofs.Reached.{needing_rule, reached_clean, reached_kept}
 use Rattle.carte_sound.proofs.LeftSound.{first_station, stations}
-use Rattle.carte_sound.proofs.Leading.{among_finished, brings_begun, brings_base, brings_kept}
+use Rattle.carte_sound.proofs.Finishing.{among_finished}
+use Rattle.carte_sound.proofs.Leading.{brings_begun, brings_base, brings_kept}
 
 -- but under deep traces what was done is fresh
 pub brings_fresh : (h : How) (done : SomeKept → List ℕ → Type 0) (chained : Chaining) (K : SomeKept) (H : List Book) (b : Book) (B : Batch) → IsSound K H → HasDistinctDigests (H ++ b ∷ []) → (r : Brings h done chained K b B) → ¬ (h ≡ tracing Deep) → (k : List ℕ) → done (begin K b r.marks) k → IsFresh (apply B K) k

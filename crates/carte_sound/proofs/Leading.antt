@@ -14,18 +14,12 @@ use Rattle.carte_sound.specs.Left.{Finishes, keys_of, opened}
 use Rattle.carte_sound.specs.LeadsTo.{Chaining, Brings, LeadsTo}
 use Rattle.carte_sound.proofs.Emptied.{empty_applied}
 use Rattle.carte_sound.proofs.Begins.{has_last, behind_sound, begun_base}
-use Rattle.carte_sound.proofs.LeftSound.{finished_before, first_station, stations, left_base}
+use Rattle.carte_sound.proofs.Finishing.{among_finished}
+use Rattle.carte_sound.proofs.LeftSound.{first_station, stations, left_base}
 
 -- the new chain names no name twice where the old one and the finished keys don't
 abbrev pub KeepsOnce : Chaining → Type 0
 KeepsOnce chained = (ks old : List (List ℕ)) → NoneTwice ks → NoneTwice old → NoneTwice (chained ks old)
-
-pub among_finished : (fs : Finishes) (before : List (List ℕ)) (k : List ℕ) → Among (keys_of fs) k ⊎ Among before k → Among (finished_before fs before) k
-among_finished [] before k (inl none) = absurd none
-among_finished [] before k (inr there) = there
-among_finished (f ∷ fs) before k (inl (inl same)) = among_finished fs (f.0 ∷ before) k (inr (inl same))
-among_finished (f ∷ fs) before k (inl (inr later)) = among_finished fs (f.0 ∷ before) k (inl later)
-among_finished (f ∷ fs) before k (inr there) = among_finished fs (f.0 ∷ before) k (inr (inr there))
 
 module _ (h : How) (done : SomeKept → List ℕ → Type 0) (chained : Chaining) (K : SomeKept) (H : List Book) (b : Book) (B : Batch) (sound : IsSound K H) (distinct : HasDistinctDigests (H ++ b ∷ [])) where
   pub brings_begun : (r : Brings h done chained K b B) → IsBase (begin K b r.marks) b (H ++ b ∷ [])

@@ -1,4 +1,3 @@
-pub mod Agreeing
 pub mod Fresh
 pub mod Tests
 pub mod Begun
@@ -14,6 +13,7 @@ pub mod LeftSound
 pub mod Reached
 pub mod Minimal
 pub mod Begins
+pub mod Finishing
 pub mod Emptied
 pub mod TracesKept
 pub mod Again
@@ -22,3 +22,4 @@ pub mod Next
 pub mod Unstale
 pub mod Applied
 pub mod Keeping
+pub mod Assembled

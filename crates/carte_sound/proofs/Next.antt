@@ -30,7 +30,7 @@ use Rattle.carte_sound.proofs.Reached.{needing_rule}
 use Rattle.carte_sound.proofs.Minimal.{links_hold, inputs_hold}
 use Rattle.carte_sound.proofs.LeftSound.{first_station, stations, left_base}
 use Rattle.carte_sound.proofs.Again.{first_holding, holdings}
-use Rattle.carte_sound.proofs.Leading.{among_finished}
+use Rattle.carte_sound.proofs.Finishing.{among_finished}
 
 marked_trusted : (w : Way) (K : SomeKept) (ms : List (List ℕ)) (k : List ℕ) (t : Trace) → IsTrusted w K k t → IsTrusted w (with_marks K ms) k t
 marked_trusted Verifying K ms k t trusted = (staled (is_among ms k) trusted.0, ap (option_map (staled (is_among ms k))) trusted.1, trusted.2)

@@ -5,7 +5,7 @@ use Rattle.carte_book.specs.Book.{Book}
 use Rattle.carte_book.specs.Digest.{rules_digest_of}
 use Rattle.carte_record.specs.declared.entry.Entry.{Entry}
 use Rattle.carte_record.specs.Kept.{SomeKept, nothing_kept}
-use Rattle.carte_sound.specs.Lists.{Has}
+use Rattle.carte_value.specs.Lists.{Has}
 use Rattle.carte_sound.specs.Marks.{IsFresh, Leads, need, on}
 use Rattle.carte_sound.specs.Sound.{Stood, IsFreshIn, IsSound}
 use Rattle.carte_sound.specs.Base.{HasDistinctDigests, IsBase}

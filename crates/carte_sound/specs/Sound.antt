@@ -11,7 +11,7 @@ use Rattle.carte_record.specs.Kept.{SomeKept, nothing_kept, is_fresh}
 use Rattle.carte_record.specs.declared.entry.Entry.{Entry}
 use Rattle.carte_record.specs.declared.trace.Trace.{Trace}
 use Rattle.carte_record.specs.declared.way.Way.{Way}
-use Rattle.carte_sound.specs.Lists.{Has}
+use Rattle.carte_value.specs.Lists.{Has}
 use Rattle.carte_sound.specs.Marks.{IsFresh, Leads}
 use Rattle.carte_sound.specs.True.{IsTraceOf, IsEntryOf}
 

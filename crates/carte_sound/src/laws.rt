@@ -18,7 +18,7 @@ ghost use Rattle.carte_sound.specs.Finished.{AreFinished};
 ghost use Rattle.carte_sound.specs.Held.{How, IsHeld, IsHeldBy, tracing};
 ghost use Rattle.carte_sound.specs.LeadsTo.{BringsSuspending, LeadsInOrder, LeadsRefused, LeadsSuspending};
 ghost use Rattle.carte_sound.specs.Left.{Finishes, keys_of, left};
-ghost use Rattle.carte_sound.specs.Lists.{Has};
+ghost use Rattle.carte_value.specs.Lists.{Has};
 ghost use Rattle.carte_sound.specs.Marks.{IsFresh};
 ghost use Rattle.carte_sound.specs.Results.{HasResult, IsKeptNow};
 ghost use Rattle.carte_sound.specs.Sound.{IsSound};
