@@ -1,6 +1,6 @@
 -- A batch that a build leads to leaves what is kept sound, and what was done kept with its clean value.
-use Rattle.std.proofs.Common.{◌⊎◌, ℕ, List, [], ◌∷◌, ◌++◌, ap, sym, ◌∙◌, inl, inr, subst}
-use Rattle.carte_value.specs.Truths.{Among, NoneTwice}
+use Rattle.std.proofs.Common.{ℕ, List, [], ◌∷◌, ◌++◌, ap, sym, ◌∙◌, inl, inr, subst}
+use Rattle.carte_value.specs.Truths.{NoneTwice}
 use Rattle.carte_book.specs.Book.{Book}
 use Rattle.carte_record.specs.declared.batch.Batch.{Batch}
 use Rattle.carte_record.specs.Folds.{apply}
@@ -10,7 +10,7 @@ use Rattle.carte_sound.specs.Sound.{IsSound}
 use Rattle.carte_sound.specs.Base.{HasDistinctDigests, IsBase}
 use Rattle.carte_sound.specs.Held.{How}
 use Rattle.carte_sound.specs.Results.{IsKeptNow}
-use Rattle.carte_sound.specs.Left.{Finishes, keys_of, opened}
+use Rattle.carte_sound.specs.Left.{keys_of, opened}
 use Rattle.carte_sound.specs.LeadsTo.{Chaining, Brings, LeadsTo}
 use Rattle.carte_sound.proofs.Emptied.{empty_applied}
 use Rattle.carte_sound.proofs.Begins.{has_last, behind_sound, begun_base}
