@@ -10,7 +10,8 @@ use Rattle.carte_sound.specs.Begun.{is_digest, has_rules_of, begin, AreMarks}
 use Rattle.carte_sound.specs.Sound.{IsSound}
 use Rattle.carte_sound.specs.Base.{HasDistinctDigests, IsBase}
 use Rattle.carte_sound.proofs.Tests.{same_digest}
-use Rattle.carte_sound.proofs.Begun.{marked_begun, longer_sound, nothing_begun}
+use Rattle.carte_sound.proofs.Begun.{marked_begun}
+use Rattle.carte_sound.proofs.Histories.{longer_sound, nothing_begun}
 
 pub has_left : {A : Type 0} (xs ys : List A) (x : A) → Has xs x → Has (xs ++ ys) x
 has_left [] ys x there = absurd there

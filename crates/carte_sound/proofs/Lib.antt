@@ -1,13 +1,16 @@
 pub mod Fresh
 pub mod Tests
 pub mod Begun
+pub mod Histories
 pub mod Held
 pub mod Beneath
 pub mod Deep
 pub mod Entries
 pub mod Written
 pub mod NowFresh
+pub mod AddedNow
 pub mod Added
+pub mod AddedKept
 pub mod Rebased
 pub mod LeftSound
 pub mod Reached

@@ -1,4 +1,4 @@
-use Rattle.carte_sound.proofs.Begun.{nothing_sound}
+use Rattle.carte_sound.proofs.Histories.{nothing_sound}
 use Rattle.carte_sound.proofs.laws.nothing_is_sound.Goals as goal
 
 pub returns : goal.returns
