@@ -1,31 +1,23 @@
 -- One finished key more keeps what is kept sound, under all four rebuilders.
-use Rattle.std.proofs.Common.{◌≡◌, ◌⊎◌, ℕ, Bool, true, false, cond, List, Some, None, refl, ap, sym, ◌∙◌, inl, inr, subst}
+use Rattle.std.proofs.Common.{◌≡◌, ℕ, Bool, true, false, List, Some, None, refl, ap, sym, ◌∙◌, inl, inr, subst}
 use Rattle.carte_value.specs.declared.digest.Digest.{Digest}
-use Rattle.carte_value.specs.declared.value.Value.{Value}
 use Rattle.carte_value.specs.Spelling.{digest_of}
-use Rattle.carte_value.specs.Truths.{Among}
-use Rattle.carte_tree.specs.Tree.{Tree}
-use Rattle.carte_book.specs.Book.{input, rule, Book, content, clean}
-use Rattle.carte_book.specs.Needs.{IsRule, needs}
+use Rattle.carte_book.specs.Book.{Book, clean}
 use Rattle.carte_book.specs.Digest.{rules_digest_of}
 use Rattle.carte_record.specs.declared.entry.Entry.{Entry}
 use Rattle.carte_record.specs.declared.trace.Trace.{Trace}
 use Rattle.carte_record.specs.declared.way.Way.{Way}
 use Rattle.carte_record.specs.Kept.{SomeKept, is_fresh, put_at}
 use Rattle.carte_value.specs.Lists.{Has}
-use Rattle.carte_sound.specs.Marks.{IsFresh}
-use Rattle.carte_sound.specs.Beneath.{beneath}
-use Rattle.carte_sound.specs.True.{digest_or, full_entry, IsTraceOf, IsEntryOf}
+use Rattle.carte_sound.specs.True.{digest_or, IsTraceOf, IsEntryOf}
 use Rattle.carte_sound.specs.Sound.{Stood, IsStored, IsEntryOfSome, IsTraceOfSome, IsSound}
-use Rattle.carte_sound.specs.Base.{IsNow, AllNow, IsBase}
+use Rattle.carte_sound.specs.Base.{IsBase}
 use Rattle.carte_sound.specs.Held.{How}
-use Rattle.carte_sound.specs.Results.{IsKeptNow}
-use Rattle.carte_sound.specs.Left.{entry_left, is_kept, add}
-use Rattle.carte_sound.proofs.Tests.{eq_or_apart, put_here, put_there, put_cases, fresh_parts}
+use Rattle.carte_sound.specs.Left.{entry_left, add}
+use Rattle.carte_sound.proofs.Tests.{eq_or_apart, put_here, put_there, put_cases}
 use Rattle.carte_sound.proofs.Begun.{present_input}
-use Rattle.carte_sound.proofs.Held.{stored_value, same_rules}
-use Rattle.carte_sound.proofs.Entries.{kept_is, Leaves, full, old, shallow, NeedsFresh, leaves}
-use Rattle.carte_sound.proofs.Written.{seen_grows, seen_written, seen_back, stored_grows, stored_ran, stored_back, traces_back}
+use Rattle.carte_sound.proofs.Entries.{Leaves, full, old, shallow, leaves}
+use Rattle.carte_sound.proofs.Written.{seen_back, stored_grows, stored_ran, stored_back, traces_back}
 use Rattle.carte_sound.proofs.NowFresh.{now_fresh}
 use Rattle.carte_sound.proofs.AddedNow.{now_entry, IsNext, leaves_entry, added_now, added_rule}
 

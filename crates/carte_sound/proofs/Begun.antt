@@ -12,7 +12,7 @@ use Rattle.carte_book.specs.Digest.{rules_digest_of}
 use Rattle.carte_book.proofs.Clean.{clean_input}
 use Rattle.carte_record.specs.declared.entry.Entry.{Entry}
 use Rattle.carte_record.specs.Folds.{is_among, with_marks}
-use Rattle.carte_record.specs.Kept.{SomeKept, nothing_kept, is_fresh, staled}
+use Rattle.carte_record.specs.Kept.{SomeKept, is_fresh, staled}
 use Rattle.carte_value.specs.Lists.{Has}
 use Rattle.carte_sound.specs.Marks.{IsFresh, Leads, need, on, digest_in, present, IsMarked}
 use Rattle.carte_sound.specs.Beneath.{beneath}

@@ -1,26 +1,10 @@
 -- What is kept stays sound as the history grows, and nothing kept is sound.
-use Rattle.std.proofs.Common.{◌≡◌, ℕ, true, false, cond, List, Option, Some, None, option_map, refl, ap, sym, ◌∙◌, inl, inr, subst}
-use Rattle.carte_value.specs.declared.digest.Digest.{Digest}
-use Rattle.carte_value.specs.declared.value.Value.{Value}
-use Rattle.carte_value.specs.Spelling.{digest_of}
-use Rattle.carte_value.specs.Truths.{Among, IsListOf}
-use Rattle.carte_tree.specs.Tree.{Tree}
-use Rattle.carte_tree.specs.Meaning.{fetched}
-use Rattle.carte_book.specs.Book.{Item, input, rule, Book, content, clean}
-use Rattle.carte_book.specs.Needs.{needs, needs_of}
-use Rattle.carte_book.specs.Digest.{rules_digest_of}
-use Rattle.carte_book.proofs.Clean.{clean_input}
-use Rattle.carte_record.specs.declared.entry.Entry.{Entry}
-use Rattle.carte_record.specs.Folds.{is_among, with_marks}
-use Rattle.carte_record.specs.Kept.{SomeKept, nothing_kept, is_fresh, staled}
+use Rattle.std.proofs.Common.{List, refl, inl}
+use Rattle.carte_book.specs.Book.{Book}
+use Rattle.carte_record.specs.Kept.{SomeKept, nothing_kept}
 use Rattle.carte_value.specs.Lists.{Has}
-use Rattle.carte_sound.specs.Marks.{IsFresh, Leads, need, on, digest_in, present, IsMarked}
-use Rattle.carte_sound.specs.Beneath.{beneath}
-use Rattle.carte_sound.specs.True.{IsEntryOf}
-use Rattle.carte_sound.specs.Sound.{Stood, IsFreshIn, IsEntryOfSome, IsSound}
-use Rattle.carte_sound.specs.Base.{SameRules, HasDistinctDigests, IsBase}
-use Rattle.carte_sound.proofs.Tests.{same_or_not, not_among, among_tested, staled_from, staled_fresh, fresh_parts}
-use Rattle.carte_sound.proofs.Fresh.{IsTrue, all_now}
+use Rattle.carte_sound.specs.Sound.{Stood, IsSound}
+use Rattle.carte_sound.specs.Base.{HasDistinctDigests, IsBase}
 
 -- what is kept stays sound as the history grows
 pub longer_sound : (K : SomeKept) (H J : List Book) → ((c : Book) → Has H c → Has J c) → IsSound K H → IsSound K J
