@@ -1,22 +1,25 @@
 // Laws of what is kept, each as the contract of a function that does nothing.
-ghost use Rattle.std.specs.Prelude.{◌≡◌, ◌++◌, ◌∷◌, [], ℕ, List, Some};
+ghost use Rattle.std.specs.Prelude.{◌≡◌, ◌++◌, ◌∷◌, [], ℕ, List, Some, if◌then◌else◌};
 ghost use Rattle.carte_value.specs.declared.digest.Digest.{Digest};
 ghost use Rattle.carte_value.specs.Truths.{Among, NoneTwice};
 ghost use Rattle.carte_book.specs.Book.{Book, content, clean};
+ghost use Rattle.carte_book.specs.Digest.{rules_digest_of};
 ghost use Rattle.carte_book.specs.Needs.{IsRule, Reaches, needs};
 ghost use Rattle.carte_book.specs.Reason.{AllClean};
 ghost use Rattle.carte_record.specs.declared.batch.Batch.{Batch};
 ghost use Rattle.carte_record.specs.declared.entry.Entry.{Entry};
+ghost use Rattle.carte_record.specs.declared.start.Start.TheVariants.{Anew, GoOn};
 ghost use Rattle.carte_record.specs.declared.trace.Trace.{Trace};
 ghost use Rattle.carte_record.specs.declared.way.Way.TheVariants.{Constructive, Deep, Verifying};
 ghost use Rattle.carte_record.specs.Folds.{apply, with_marks};
 ghost use Rattle.carte_record.specs.Kept.{SomeKept, nothing_kept};
 ghost use Rattle.carte_sound.specs.Base.{HasDistinctDigests, IsBase};
-ghost use Rattle.carte_sound.specs.Begun.{AreMarks, begin};
+ghost use Rattle.carte_sound.specs.Begun.{AreMarks, begin, has_rules_of};
 ghost use Rattle.carte_sound.specs.Beneath.{beneath};
+ghost use Rattle.carte_sound.specs.Carries.{Carries};
 ghost use Rattle.carte_sound.specs.Finished.{AreFinished};
 ghost use Rattle.carte_sound.specs.Held.{How, IsHeld, IsHeldBy, tracing};
-ghost use Rattle.carte_sound.specs.LeadsTo.{BringsSuspending, LeadsInOrder, LeadsRefused, LeadsSuspending};
+ghost use Rattle.carte_sound.specs.LeadsTo.{BringsSuspending, LeadsInOrder, LeadsRefused, LeadsSuspending, marks_left};
 ghost use Rattle.carte_sound.specs.Left.{Finishes, keys_of, left};
 ghost use Rattle.carte_value.specs.Lists.{Has};
 ghost use Rattle.carte_sound.specs.Marks.{IsFresh};
@@ -82,6 +85,11 @@ pub fn early_cutoff()
 /// A second build of the same book holds each key that the first one finished, under each rebuilder: it runs none of them.
 pub fn finished_is_held()
     ensures { (h : How) (b : Book) (H : List Book) (M : SomeKept) (finished : Finishes) (chain marks : List (List ℕ)) → IsBase M b H → NoneTwice chain → AreFinished h b M [] finished → AreMarks (left h b M finished chain) b marks → (k : List ℕ) → Among (keys_of finished) k → IsHeld h (begin (left h b M finished chain) b marks) b k }
+{}
+
+/// A batch that carries the difference, with the start and the marks of its build, makes what the build leaves.
+pub fn difference_is_left()
+    ensures { (h : How) (b : Book) (K : SomeKept) (marks : List (List ℕ)) (finished : Finishes) (chain : List (List ℕ)) (B : Batch) → B.start ≡ (if has_rules_of K b then GoOn else Anew (rules_digest_of b)) → B.stale ≡ marks_left finished marks → Carries b (begin K b marks) (left h b (begin K b marks) finished chain) B → apply B K ≡ left h b (begin K b marks) finished chain }
 {}
 
 /// A batch that a build leads to leaves what is kept sound for the history with the present book.

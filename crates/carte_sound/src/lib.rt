@@ -24,7 +24,7 @@
 mod laws;
 
 pub use laws::{
-    batch_is_sound, batch_keeps_reached, early_cutoff, finished_is_held, held_is_clean,
-    held_links_are_present, left_is_sound, marking_is_sound, nothing_is_sound, reached_is_kept,
-    sound_as_history_grows, unchanged_is_held,
+    batch_is_sound, batch_keeps_reached, difference_is_left, early_cutoff, finished_is_held,
+    held_is_clean, held_links_are_present, left_is_sound, marking_is_sound, nothing_is_sound,
+    reached_is_kept, sound_as_history_grows, unchanged_is_held,
 };
