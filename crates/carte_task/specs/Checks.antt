@@ -6,8 +6,8 @@ use Rattle.carte_value.specs.Truths.{Truth}
 use Rattle.carte_value.specs.Asks.{Asks, done, ask}
 use Rattle.carte_value.specs.Once.{Answers}
 use Rattle.carte_value.specs.Spelling.{digest_of}
-use Rattle.carte_task.specs.declared.effect.Halt.{Halt}
-use Rattle.carte_task.specs.declared.effect.Halt.TheVariants.{Stop, NoMemory}
+use Rattle.carte_effect.specs.declared.effect.Halt.{Halt}
+use Rattle.carte_effect.specs.declared.effect.Halt.TheVariants.{Stop, NoMemory}
 use Rattle.carte_task.specs.declared.check.Verdict.{Verdict}
 use Rattle.carte_task.specs.declared.check.Verdict.TheVariants.{Same, Differs}
 use Rattle.carte_task.specs.Answered.{Led, StopsAt}

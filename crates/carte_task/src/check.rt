@@ -1,5 +1,5 @@
 ghost use Rattle.std.specs.Prelude.{◌≡◌, IfOk, bytes_eq};
-ghost use Rattle.carte_task.specs.Effects.{SameOwn};
+ghost use Rattle.carte_effect.specs.Effects.{SameStops};
 ghost use Rattle.carte_task.specs.Compared.{Compared};
 
 use crate::{Effect, Halt, Reuse};
@@ -43,8 +43,8 @@ fn is_same(digest: &Digest, other: &Digest) -> bool
 // Whether the name of a link still has a value with the link's digest.
 fn still<E: Effect>(alloc: Global, link: &Link, effect: &mut E) -> Result<bool, Halt<E::Stop>>
     ensures truth { E.truth effect.new ≡ E.truth effect.old }
-    ensures own { SameOwn (E.own effect.old) (E.own effect.new) }
-    ensures asked { Compared (E.truth effect.old) (E.own effect.old) (E.log effect.old) (E.log effect.new) link.now result }
+    ensures stops { SameStops (E.stops effect.old) (E.stops effect.new) }
+    ensures asked { Compared (E.truth effect.old) (E.stops effect.old) (E.log effect.old) (E.log effect.new) link.now result }
 {
     match effect.fetch(alloc, &link.name) {
         Ok(value) => Ok(is_same(&link.digest, &value.digest())),
@@ -77,9 +77,9 @@ impl Check {
         effect: &mut E,
     ) -> Result<Verdict, Halt<E::Stop>>
         ensures truth { E.truth effect.new ≡ E.truth effect.old }
-        ensures own { SameOwn (E.own effect.old) (E.own effect.new) }
+        ensures stops { SameStops (E.stops effect.old) (E.stops effect.new) }
         ensures earlier { self.new.earlier ≡ self.old.earlier }
-        ensures checked { Checked (E.truth effect.old) (E.own effect.old) (E.log effect.old) (E.log effect.new) self.old self.new result }
+        ensures checked { Checked (E.truth effect.old) (E.stops effect.old) (E.log effect.old) (E.log effect.new) self.old self.new result }
         ensures judges { IfOk result (Judges (E.truth effect.old) self.old) }
     {
         self.compare(alloc, effect)
@@ -91,9 +91,9 @@ impl Check {
         effect: &mut E,
     ) -> Result<Verdict, Halt<E::Stop>>
         ensures truth { E.truth effect.new ≡ E.truth effect.old }
-        ensures own { SameOwn (E.own effect.old) (E.own effect.new) }
+        ensures stops { SameStops (E.stops effect.old) (E.stops effect.new) }
         ensures earlier { self.new.earlier ≡ self.old.earlier }
-        ensures checked { Checked (E.truth effect.old) (E.own effect.old) (E.log effect.old) (E.log effect.new) self.old self.new result }
+        ensures checked { Checked (E.truth effect.old) (E.stops effect.old) (E.log effect.old) (E.log effect.new) self.old self.new result }
         ensures reuse { IfOk result (Gives self.old) }
     {
         'links: while self.at < self.links.len() {

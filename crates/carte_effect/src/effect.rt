@@ -1,7 +1,7 @@
 ghost use Rattle.std.specs.Prelude.{◌≡◌, ℕ, List, Option};
 ghost use Rattle.carte_value.specs.declared.value.Value.{Value as SomeValue};
 ghost use Rattle.carte_value.specs.Once.{Answers};
-ghost use Rattle.carte_task.specs.Effects.{Fetched, Logged, SameOwn};
+ghost use Rattle.carte_effect.specs.Effects.{Fetched, Logged, SameStops};
 
 use carte_value::{Name, Value};
 use std::alloc::Global;
@@ -22,14 +22,14 @@ pub trait Effect {
     ghost truth: { Self → List ℕ → Option SomeValue };
 
     /// Which stops may come at a name without a value.
-    ghost own: { Self → List ℕ → Self.Stop → Type 0 };
+    ghost stops: { Self → List ℕ → Self.Stop → Type 0 };
 
     /// The names and values answered so far, in order, where the effect keeps them.
     ghost log: { Self → Option Answers };
 
     fn fetch(&mut self, alloc: Global, name: &Name) -> Result<Value, Halt<Self::Stop>>
         ensures truth { truth self.new ≡ truth self.old }
-        ensures own { SameOwn (own self.old) (own self.new) }
-        ensures fetched { Fetched (truth self.old) (own self.old) name.now result }
+        ensures stops { SameStops (stops self.old) (stops self.new) }
+        ensures fetched { Fetched (truth self.old) (stops self.old) name.now result }
         ensures logged { Logged (log self.old) (log self.new) name.now result };
 }

@@ -1,7 +1,7 @@
 ghost use Rattle.std.specs.Prelude.{◌≡◌, ℕ, List, Option, Bool};
 ghost use Rattle.carte_value.specs.declared.value.Value.{Value as SomeValue};
-ghost use Rattle.carte_task.specs.Effects.{SameOwn};
-ghost use Rattle.carte_task.specs.Lists.{FetchedList, Listed};
+ghost use Rattle.carte_effect.specs.Effects.{SameStops};
+ghost use Rattle.carte_effect.specs.Lists.{FetchedList, Listed};
 
 use crate::Halt;
 use carte_value::{Names, Values};
@@ -22,7 +22,7 @@ pub trait FetchList {
     ghost truth: { Self → List ℕ → Option SomeValue };
 
     /// Which stops may come at a name without a value.
-    ghost own: { Self → List ℕ → Self.Stop → Type 0 };
+    ghost stops: { Self → List ℕ → Self.Stop → Type 0 };
 
     /// The names asked for so far, in order, where they are kept.
     ghost log: { Self → Option (List (List ℕ)) };
@@ -32,7 +32,7 @@ pub trait FetchList {
 
     fn fetch_list(&mut self, alloc: Global, names: &Names) -> Result<Answers, Halt<Self::Stop>>
         ensures truth { truth self.new ≡ truth self.old }
-        ensures own { SameOwn (own self.old) (own self.new) }
-        ensures fetched { FetchedList (truth self.old) (own self.old) withholds names.now result }
+        ensures stops { SameStops (stops self.old) (stops self.new) }
+        ensures fetched { FetchedList (truth self.old) (stops self.old) withholds names.now result }
         ensures logged { Listed (log self.old) (log self.new) names.now result };
 }

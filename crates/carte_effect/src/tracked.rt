@@ -1,6 +1,6 @@
 ghost use Rattle.std.specs.Prelude.{◌≡◌, length, Some, []};
-ghost use Rattle.carte_task.specs.Effects.{paired};
-ghost use Rattle.carte_task.specs.Pairs.{Both};
+ghost use Rattle.carte_effect.specs.Effects.{paired};
+ghost use Rattle.carte_effect.specs.Pairs.{Both};
 
 use crate::{Effect, Halt};
 use carte_value::{Name, Names, NoMemory, Value, Values};
@@ -67,12 +67,12 @@ impl<E: Effect> Effect for Tracked<E> {
 
     ghost truth = { λ s. E.truth s.effect };
 
-    ghost own = { λ s. E.own s.effect };
+    ghost stops = { λ s. E.stops s.effect };
 
     ghost log = { λ s. Some (paired s.names s.values) };
 
     fn fetch(&mut self, alloc: Global, name: &Name) -> Result<Value, Halt<E::Stop>> {
-        let Ok(own) = name.copy(alloc) else {
+        let Ok(listed) = name.copy(alloc) else {
             return Err(Halt::NoMemory);
         };
         let value = match self.effect.fetch(alloc, name) {
@@ -82,7 +82,7 @@ impl<E: Effect> Effect for Tracked<E> {
         let Ok(copy) = value.copy(alloc) else {
             return Err(Halt::NoMemory);
         };
-        match list(&mut self.names, &mut self.values, own, copy) {
+        match list(&mut self.names, &mut self.values, listed, copy) {
             Ok(()) => Ok(value),
             Err(_) => Err(Halt::NoMemory),
         }

@@ -3,14 +3,14 @@ use Rattle.std.specs.Prelude.{ℕ, List, [], ◌∷◌, ◌++◌, ◌≡◌, Opt
 use Rattle.carte_value.specs.declared.value.Value.{Value}
 use Rattle.carte_value.specs.Truths.{Truth}
 use Rattle.carte_value.specs.Once.{Answers}
-use Rattle.carte_task.specs.declared.effect.Halt.{Halt}
-use Rattle.carte_task.specs.declared.effect.Halt.TheVariants.{Stop, NoMemory}
+use Rattle.carte_effect.specs.declared.effect.Halt.{Halt}
+use Rattle.carte_effect.specs.declared.effect.Halt.TheVariants.{Stop, NoMemory}
 
--- the truth's value, or a stop that is the effect's own for a name without one
+-- the truth's value, or one of the effect's stops for a name without one
 abbrev pub Fetched : {S : Type 0} → Truth → (List ℕ → S → Type 0) → List ℕ → Result Value (Halt S) → Type 0
-Fetched t own k (Ok v) = t k ≡ Some v
-Fetched t own k (Err (Stop s)) = (t k ≡ None) × own k s
-Fetched t own k (Err NoMemory) = Unit {0}
+Fetched t stops k (Ok v) = t k ≡ Some v
+Fetched t stops k (Err (Stop s)) = (t k ≡ None) × stops k s
+Fetched t stops k (Err NoMemory) = Unit {0}
 
 -- the log with further answers, where there is a log
 abbrev pub more : Option Answers → Answers → Option Answers
@@ -22,9 +22,9 @@ abbrev pub Logged : {S : Type 0} → Option Answers → Option Answers → List 
 Logged old new k (Ok v) = new ≡ more old ((k, v) ∷ [])
 Logged old new k (Err h) = new ≡ old
 
--- the same stops are its own
-abbrev pub SameOwn : {S : Type 0} → (List ℕ → S → Type 0) → (List ℕ → S → Type 0) → Type 0
-SameOwn {S = S} old new = ((k : List ℕ) (s : S) → old k s → new k s) × ((k : List ℕ) (s : S) → new k s → old k s)
+-- the same stops
+abbrev pub SameStops : {S : Type 0} → (List ℕ → S → Type 0) → (List ℕ → S → Type 0) → Type 0
+SameStops {S = S} old new = ((k : List ℕ) (s : S) → old k s → new k s) × ((k : List ℕ) (s : S) → new k s → old k s)
 
 -- names beside values
 abbrev pub paired : List (List ℕ) → List Value → Answers

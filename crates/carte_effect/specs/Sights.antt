@@ -1,10 +1,10 @@
 -- What a look sees.
 use Rattle.std.specs.Prelude.{ℕ, List, ◌≡◌, Option, Some, None}
 use Rattle.carte_value.specs.declared.value.Value.{Value}
-use Rattle.carte_task.specs.declared.look.Seen.{Seen}
-use Rattle.carte_task.specs.declared.look.Seen.TheVariants as seen
-use Rattle.carte_task.specs.declared.look.Stuck.{Stuck}
-use Rattle.carte_task.specs.declared.look.Stuck.TheVariants as stuck
+use Rattle.carte_effect.specs.declared.look.Seen.{Seen}
+use Rattle.carte_effect.specs.declared.look.Seen.TheVariants as seen
+use Rattle.carte_effect.specs.declared.look.Stuck.{Stuck}
+use Rattle.carte_effect.specs.declared.look.Stuck.TheVariants as stuck
 
 -- a value, or why there is none
 pub data Sight : Type 0 where

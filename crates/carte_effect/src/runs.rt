@@ -1,5 +1,5 @@
 ghost use Rattle.std.specs.Prelude.{◌≡◌, length, is_ok, if◌then◌else◌};
-ghost use Rattle.carte_task.specs.Ledger.{Ledger, no_runs, with_start, with_end, with_later, given_up};
+ghost use Rattle.carte_effect.specs.Ledger.{Ledger, no_runs, with_start, with_end, with_later, given_up};
 
 use carte_value::{Name, Names, NoMemory};
 use std::alloc::Global;
@@ -13,7 +13,7 @@ pub struct Runs {
 }
 
 impl Model for Runs {
-    ghost use Rattle.carte_task.specs.Ledger.{Ledger};
+    ghost use Rattle.carte_effect.specs.Ledger.{Ledger};
 
     ghost Value = { Ledger };
 
@@ -69,8 +69,8 @@ impl Runs {
         }
     }
 
-    /// Counts a start.
-    pub(crate) fn start(&mut self, alloc: Global, key: &Name) -> Result<(), NoMemory>
+    /// Counts a start. For those who write tasks and jobs.
+    pub fn start(&mut self, alloc: Global, key: &Name) -> Result<(), NoMemory>
         ensures { self.new ≡ (if is_ok result then with_start self.old key.now else self.old) }
     {
         match key.copy(alloc) {
@@ -79,8 +79,8 @@ impl Runs {
         }
     }
 
-    /// Counts an end.
-    pub(crate) fn end(&mut self, alloc: Global, key: &Name) -> Result<(), NoMemory>
+    /// Counts an end. For those who write tasks and jobs.
+    pub fn end(&mut self, alloc: Global, key: &Name) -> Result<(), NoMemory>
         ensures { self.new ≡ (if is_ok result then with_end self.old key.now else self.old) }
     {
         match key.copy(alloc) {

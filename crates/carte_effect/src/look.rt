@@ -1,5 +1,5 @@
 ghost use Rattle.std.specs.Prelude.{◌≡◌, ℕ, List, None};
-ghost use Rattle.carte_task.specs.Sights.{Sight, Sees, value_seen, IsStuck};
+ghost use Rattle.carte_effect.specs.Sights.{Sight, Sees, value_seen, IsStuck};
 
 use crate::{Effect, Halt};
 use carte_value::{Name, Value};
@@ -48,7 +48,7 @@ impl<'a, L: Look> Effect for Snapshot<'a, L> {
 
     ghost truth = { λ s k. value_seen (L.sight s.look.now k) };
 
-    ghost own = { λ s k stuck. IsStuck (L.sight s.look.now k) k stuck };
+    ghost stops = { λ s k stuck. IsStuck (L.sight s.look.now k) k stuck };
 
     ghost log = { λ s. None };
 

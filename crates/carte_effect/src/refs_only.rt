@@ -36,7 +36,7 @@ impl FetchList for RefsOnly {
 
     ghost truth = { λ s k. None };
 
-    ghost own = { λ s k stop. Unit {0} };
+    ghost stops = { λ s k stop. Unit {0} };
 
     ghost log = { λ s. Some s.names };
 

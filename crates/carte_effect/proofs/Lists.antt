@@ -4,10 +4,10 @@ use Rattle.std.proofs.lemmas.List.{take-append-drop, take_more}
 use Rattle.std.proofs.Math.Seq.{drop-cons}
 use Rattle.carte_value.specs.declared.value.Value.{Value}
 use Rattle.carte_value.specs.Truths.{Truth}
-use Rattle.carte_task.specs.declared.effect.Halt.{Halt}
-use Rattle.carte_task.specs.declared.effect.Halt.TheVariants.{Stop, NoMemory}
-use Rattle.carte_task.specs.Effects.{Fetched, SameOwn}
-use Rattle.carte_task.specs.Lists.{ValuesOf, StopsAmong, FetchedList}
+use Rattle.carte_effect.specs.declared.effect.Halt.{Halt}
+use Rattle.carte_effect.specs.declared.effect.Halt.TheVariants.{Stop, NoMemory}
+use Rattle.carte_effect.specs.Effects.{Fetched, SameStops}
+use Rattle.carte_effect.specs.Lists.{ValuesOf, StopsAmong, FetchedList}
 
 -- one more name with its value
 values_end : (t : Truth) (ks : List (List ℕ)) (vs : List Value) (k : List ℕ) (v : Value) → ValuesOf t ks vs → t k ≡ Some v → ValuesOf t (ks ++ k ∷ []) (vs ++ v ∷ [])
@@ -29,7 +29,7 @@ split_at ks i d within = ap (λ js. take i ks ++ js) (sym (drop-cons ks i d with
 pub values_more : (t u : Truth) (ks : List (List ℕ)) (i : ℕ) (vs : List Value) (k : List ℕ) (v : Value) → i < length ks → k ≡ get_or ks i k → u ≡ t → ValuesOf t (take i ks) vs → u k ≡ Some v → ValuesOf t (take (i + 1) ks) (vs ++ v ∷ [])
 values_more t u ks i vs k v within at same of is = rw (take_more ks i k within, ← at) (values_end t (take i ks) vs k v of (ap (λ w. w k) (sym same) ∙ is))
 
-halts_at : {S : Type 0} (t u : Truth) (own other : List ℕ → S → Type 0) (withholds : Bool) (ks : List (List ℕ)) (i : ℕ) (vs : List Value) (k : List ℕ) (h : Halt S) → i < length ks → k ≡ get_or ks i k → u ≡ t → SameOwn own other → ValuesOf t (take i ks) vs → Fetched u other k (Err h) → FetchedList t own withholds ks (Err h)
+halts_at : {S : Type 0} (t u : Truth) (own other : List ℕ → S → Type 0) (withholds : Bool) (ks : List (List ℕ)) (i : ℕ) (vs : List Value) (k : List ℕ) (h : Halt S) → i < length ks → k ≡ get_or ks i k → u ≡ t → SameStops own other → ValuesOf t (take i ks) vs → Fetched u other k (Err h) → FetchedList t own withholds ks (Err h)
 halts_at t u own other withholds ks i vs k NoMemory within at same stops of halted = tt
 halts_at {S = S} t u own other withholds ks i vs k (Stop s) within at same stops of (none, here) =
     let P : List (List ℕ) → Type 0 = λ js. StopsAmong t own js s in
@@ -37,6 +37,6 @@ halts_at {S = S} t u own other withholds ks i vs k (Stop s) within at same stops
     subst P whole (stops_behind t own (take i ks) vs k (drop (suc i) ks) s of (ap (λ w. w k) (sym same) ∙ none) (stops.1 k s here))
 
 -- the next of the names has none
-pub list_halts : {S : Type 0} (t u : Truth) (own other : List ℕ → S → Type 0) (withholds : Bool) (js ks : List (List ℕ)) (i : ℕ) (vs : List Value) (k : List ℕ) (h : Halt S) → ks ≡ js → i < length ks → k ≡ get_or ks i k → u ≡ t → SameOwn own other → ValuesOf t (take i ks) vs → Fetched u other k (Err h) → FetchedList t own withholds js (Err h)
+pub list_halts : {S : Type 0} (t u : Truth) (own other : List ℕ → S → Type 0) (withholds : Bool) (js ks : List (List ℕ)) (i : ℕ) (vs : List Value) (k : List ℕ) (h : Halt S) → ks ≡ js → i < length ks → k ≡ get_or ks i k → u ≡ t → SameStops own other → ValuesOf t (take i ks) vs → Fetched u other k (Err h) → FetchedList t own withholds js (Err h)
 list_halts {S = S} t u own other withholds js ks i vs k h names within at same stops of halted =
     let P : List (List ℕ) → Type 0 = λ is. FetchedList t own withholds is (Err h) in subst P names (halts_at t u own other withholds ks i vs k h within at same stops of halted)

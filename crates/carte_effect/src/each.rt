@@ -23,7 +23,7 @@ impl<E: Effect> FetchList for Each<E> {
 
     ghost truth = { λ s. E.truth s.effect };
 
-    ghost own = { λ s. E.own s.effect };
+    ghost stops = { λ s. E.stops s.effect };
 
     ghost log = { λ s. None };
 
