@@ -1,5 +1,5 @@
 -- What a fetch answers, and what an effect lists.
-use Rattle.std.specs.Prelude.{ℕ, List, [], ◌∷◌, ◌++◌, ◌≡◌, Option, Some, None, Result, Ok, Err}
+use Rattle.std.specs.Prelude.{ℕ, List, [], ◌∷◌, ◌++◌, ◌≡◌, ◌⊎◌, Option, Some, None, Result, Ok, Err}
 use Rattle.carte_value.specs.declared.value.Value.{Value}
 use Rattle.carte_value.specs.Truths.{Truth}
 use Rattle.carte_value.specs.Once.{Answers}
@@ -21,6 +21,12 @@ more (Some l) a = Some (l ++ a)
 abbrev pub Logged : {S : Type 0} → Option Answers → Option Answers → List ℕ → Result Value (Halt S) → Type 0
 Logged old new k (Ok v) = new ≡ more old ((k, v) ∷ [])
 Logged old new k (Err h) = new ≡ old
+
+-- it was asked for the name once where there is an answer, and else not answered, or once
+abbrev pub AskedOnce : {S : Type 0} → Option Answers → Option Answers → List ℕ → Result Value (Halt S) → Type 0
+AskedOnce old new k (Ok v) = new ≡ more old ((k, v) ∷ [])
+AskedOnce old new k (Err (Stop s)) = new ≡ old
+AskedOnce old new k (Err NoMemory) = (new ≡ old) ⊎ ((v : Value) × (new ≡ more old ((k, v) ∷ [])))
 
 -- the same stops
 abbrev pub SameStops : {S : Type 0} → (List ℕ → S → Type 0) → (List ℕ → S → Type 0) → Type 0

@@ -2,6 +2,8 @@
 use Rattle.std.specs.Prelude.{ℕ, Bool, true, false, List, [], ◌∷◌, ◌++◌, ◌≡◌, ◌⊎◌, Option, Some, None, Result, Ok, Err}
 use Rattle.carte_value.specs.declared.value.Value.{Value}
 use Rattle.carte_value.specs.Truths.{Truth}
+use Rattle.carte_value.specs.Once.{Answers as Asked}
+use Rattle.carte_effect.specs.Effects.{more, paired}
 use Rattle.carte_effect.specs.declared.effect.Halt.{Halt}
 use Rattle.carte_effect.specs.declared.effect.Halt.TheVariants.{Stop, NoMemory}
 use Rattle.carte_effect.specs.declared.list.Answers.{Answers}
@@ -33,3 +35,9 @@ listed (Some l) ks = Some (l ++ ks)
 abbrev pub Listed : {S : Type 0} → Option (List (List ℕ)) → Option (List (List ℕ)) → List (List ℕ) → Result Answers (Halt S) → Type 0
 Listed old new ks (Ok a) = new ≡ listed old ks
 Listed old new ks (Err h) = new ≡ old
+
+-- the names were asked for once, in order: all of them, or as far as there are values
+abbrev pub AskedEach : {S : Type 0} → Option Asked → Option Asked → List (List ℕ) → Result Answers (Halt S) → Type 0
+AskedEach old new ks (Ok (Values vs)) = new ≡ more old (paired ks vs)
+AskedEach old new ks (Ok Withheld) = new ≡ old
+AskedEach old new ks (Err h) = (vs : List Value) × (new ≡ more old (paired ks vs))

@@ -1,4 +1,6 @@
 ghost use Rattle.std.specs.Prelude.{◌≡◌, None, false};
+ghost use Rattle.carte_effect.specs.Effects.{SameStops};
+ghost use Rattle.carte_effect.specs.Lists.{FetchedList, Listed, AskedEach};
 
 use crate::{Answers, Effect, FetchList, Halt};
 use carte_value::{Names, Values};
@@ -29,14 +31,18 @@ impl<E: Effect> FetchList for Each<E> {
 
     ghost withholds = { false };
 
-    fn fetch_list(&mut self, alloc: Global, names: &Names) -> Result<Answers, Halt<E::Stop>> {
+    fn fetch_list(&mut self, alloc: Global, names: &Names) -> Result<Answers, Halt<E::Stop>>
+        ensures truth { E.truth self.new.effect ≡ E.truth self.old.effect }
+        ensures stops { SameStops (E.stops self.old.effect) (E.stops self.new.effect) }
+        ensures fetched { FetchedList (E.truth self.old.effect) (E.stops self.old.effect) false names.now result }
+        ensures logged { Listed None None names.now result }
+        // Of the effect that it holds each name is asked once, in order.
+        ensures asked { AskedEach (E.log self.old.effect) (E.log self.new.effect) names.now result }
+    {
         let mut values = Values::new(alloc);
         for name in names.as_slice() {
             match self.effect.fetch(alloc, name) {
-                Ok(value) => match values.push(value) {
-                    Ok(()) => {}
-                    Err(_) => return Err(Halt::NoMemory),
-                },
+                Ok(value) => values.push(value)?,
                 Err(halt) => return Err(halt),
             }
         }

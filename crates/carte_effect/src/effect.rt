@@ -3,7 +3,7 @@ ghost use Rattle.carte_value.specs.declared.value.Value.{Value as SomeValue};
 ghost use Rattle.carte_value.specs.Once.{Answers};
 ghost use Rattle.carte_effect.specs.Effects.{Fetched, Logged, SameStops};
 
-use carte_value::{Name, Value};
+use carte_value::{Name, NoMemory, Value};
 use std::alloc::Global;
 
 /// Why a fetch or a drive came to no answer.
@@ -12,6 +12,16 @@ pub enum Halt<S> {
     /// The effect stopped it, with a stop of its own.
     Stop(S),
     NoMemory,
+}
+
+impl<S> From<NoMemory> for Halt<S> {
+    ghost use Rattle.carte_effect.specs.declared.effect.Halt.TheVariants.{NoMemory as OutOfMemory};
+
+    ghost from_gives = { λ _ halt. halt ≡ OutOfMemory };
+
+    fn from(_refused: NoMemory) -> Halt<S> {
+        Halt::NoMemory
+    }
 }
 
 /// Who answers for the values of names. A fetch never changes what a name has.

@@ -54,18 +54,9 @@ impl<'a, L: Look> Effect for Snapshot<'a, L> {
 
     fn fetch(&mut self, alloc: Global, name: &Name) -> Result<Value, Halt<Stuck>> {
         match self.look.look(name) {
-            Seen::Value(value) => match value.copy(alloc) {
-                Ok(value) => Ok(value),
-                Err(_) => Err(Halt::NoMemory),
-            },
-            Seen::NotDone => match name.copy(alloc) {
-                Ok(name) => Err(Halt::Stop(Stuck::NotDone(name))),
-                Err(_) => Err(Halt::NoMemory),
-            },
-            Seen::Missing => match name.copy(alloc) {
-                Ok(name) => Err(Halt::Stop(Stuck::Missing(name))),
-                Err(_) => Err(Halt::NoMemory),
-            },
+            Seen::Value(value) => Ok(value.copy(alloc)?),
+            Seen::NotDone => Err(Halt::Stop(Stuck::NotDone(name.copy(alloc)?))),
+            Seen::Missing => Err(Halt::Stop(Stuck::Missing(name.copy(alloc)?))),
         }
     }
 }

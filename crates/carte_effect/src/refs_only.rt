@@ -43,12 +43,7 @@ impl FetchList for RefsOnly {
     ghost withholds = { true };
 
     fn fetch_list(&mut self, alloc: Global, names: &Names) -> Result<Answers, Halt<Never>> {
-        match names.copy(alloc) {
-            Ok(names) => match self.names.append(names) {
-                Ok(()) => Ok(Answers::Withheld),
-                Err(_) => Err(Halt::NoMemory),
-            },
-            Err(_) => Err(Halt::NoMemory),
-        }
+        self.names.append(names.copy(alloc)?)?;
+        Ok(Answers::Withheld)
     }
 }

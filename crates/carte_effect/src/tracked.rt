@@ -1,5 +1,5 @@
 ghost use Rattle.std.specs.Prelude.{◌≡◌, length, Some, []};
-ghost use Rattle.carte_effect.specs.Effects.{paired};
+ghost use Rattle.carte_effect.specs.Effects.{paired, Fetched, Logged, SameStops, AskedOnce};
 ghost use Rattle.carte_effect.specs.Pairs.{Both};
 
 use crate::{Effect, Halt};
@@ -50,16 +50,12 @@ fn list(names: &mut Names, values: &mut Values, name: Name, value: Value) -> Res
     ensures { Both result names.old names.new values.old values.new name value }
 {
     let len = names.len();
-    match names.push(name) {
-        Ok(()) => match values.push(value) {
-            Ok(()) => Ok(()),
-            Err(refused) => {
-                names.truncate(len);
-                Err(refused)
-            }
-        },
-        Err(refused) => Err(refused),
+    names.push(name)?;
+    if let Err(refused) = values.push(value) {
+        names.truncate(len);
+        return Err(refused);
     }
+    Ok(())
 }
 
 impl<E: Effect> Effect for Tracked<E> {
@@ -71,20 +67,21 @@ impl<E: Effect> Effect for Tracked<E> {
 
     ghost log = { λ s. Some (paired s.names s.values) };
 
-    fn fetch(&mut self, alloc: Global, name: &Name) -> Result<Value, Halt<E::Stop>> {
-        let Ok(listed) = name.copy(alloc) else {
-            return Err(Halt::NoMemory);
-        };
+    fn fetch(&mut self, alloc: Global, name: &Name) -> Result<Value, Halt<E::Stop>>
+        ensures truth { E.truth self.new.effect ≡ E.truth self.old.effect }
+        ensures stops { SameStops (E.stops self.old.effect) (E.stops self.new.effect) }
+        ensures fetched { Fetched (E.truth self.old.effect) (E.stops self.old.effect) name.now result }
+        ensures logged { Logged (Some (paired self.old.names self.old.values)) (Some (paired self.new.names self.new.values)) name.now result }
+        // The effect that it holds is asked for this name, once.
+        ensures asked { AskedOnce (E.log self.old.effect) (E.log self.new.effect) name.now result }
+    {
+        let listed = name.copy(alloc)?;
         let value = match self.effect.fetch(alloc, name) {
             Ok(value) => value,
             Err(halt) => return Err(halt),
         };
-        let Ok(copy) = value.copy(alloc) else {
-            return Err(Halt::NoMemory);
-        };
-        match list(&mut self.names, &mut self.values, listed, copy) {
-            Ok(()) => Ok(value),
-            Err(_) => Err(Halt::NoMemory),
-        }
+        let copy = value.copy(alloc)?;
+        list(&mut self.names, &mut self.values, listed, copy)?;
+        Ok(value)
     }
 }
