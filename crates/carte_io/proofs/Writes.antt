@@ -1,6 +1,6 @@
 -- Laws of writes over a settled disk and then a sync, for callers that write.
-use Rattle.std.proofs.Common.{◌≡◌, ℕ, ◌+◌, ◌≤◌, List, [], ◌∷◌, length, arith, refl, sym, ◌∙◌, ap, subst, inl, inr}
-use Rattle.carte_io.specs.Disk.{FailsToSync, FailsToWrite, IsImage, IsSettled, IsTorn, Leaves, Moment, Story, Throughout, did_sync, moments, put_at, wrote, written_at}
+use Rattle.std.proofs.Common.{◌≡◌, ℕ, ◌+◌, ◌<◌, ◌≤◌, List, [], ◌∷◌, length, Result, Ok, Err, OnOk, OnErr, arith, refl, sym, ◌∙◌, ap, subst, inl, inr}
+use Rattle.carte_io.specs.Disk.{FailsToSync, FailsToWrite, IsImage, IsSettled, IsTorn, Leaves, Moment, Story, Throughout, did_sync, moments, put_at, range_of, wrote, written_at}
 use Rattle.carte_io.specs.Stations.{IsMidway}
 use Rattle.carte_io.proofs.Images.{settled_image, throughout_more, throughout_none, throughout_one, throughout_then, torn_more}
 
@@ -63,40 +63,55 @@ module _ (s : Story) where
   }
 
   -- before the sync has passed
-  unsynced : (ranges : List (ℕ × ℕ)) (count : ℕ) (new : List ℕ) (m : Moment) → IsOnTheWay ranges count m
-      → IsMidway ranges s.now.reads new (s.now.passed + count + 1) m
-  unsynced ranges count new m on = record { few = omega (arith, on.few); torn = on.torn; whole = λ enough. absurd (omega (arith, enough, on.few)) }
+  unsynced : (ranges : List (ℕ × ℕ)) (count end : ℕ) (new : List ℕ) (m : Moment) → s.now.passed + count < end → IsOnTheWay ranges count m
+      → IsMidway ranges s.now.reads new end m
+  unsynced ranges count end new m below on = record {
+    few = omega (arith, on.few);
+    torn = on.torn;
+    whole = λ enough. absurd (omega (arith, enough, on.few));
+  }
 
-  pub write_fails : (at n : ℕ) (ranges : List (ℕ × ℕ)) (count : ℕ) (new : List ℕ) (t u : Story) → Writing ranges count t → FailsToWrite at n t u
-      → Throughout s u (IsMidway ((at, at + n) ∷ ranges) s.now.reads new (s.now.passed + count + 1))
-  write_fails at n ranges count new t u so (inl same) =
-      subst (λ v. Throughout s v (IsMidway ((at, at + n) ∷ ranges) s.now.reads new (s.now.passed + count + 1))) (sym same)
-      (throughout_more s t _ _ (λ m on. unsynced ((at, at + n) ∷ ranges) count new m (wider (at, at + n) ranges count count m (omega arith) on)) so.so_far)
-  write_fails at n ranges count new t u so (inr (reads, torn, is)) =
-      let none : count + 0 ≡ count = omega arith in
-      throughout_more s u _ _ (unsynced ((at, at + n) ∷ ranges) count new)
-      (subst (λ k. Throughout s u (IsOnTheWay ((at, at + n) ∷ ranges) k)) none (wrote_some at n ranges count 0 t u reads so (ap moments is)))
+  pub write_fails : (at n : ℕ) (ranges : List (ℕ × ℕ)) (count end : ℕ) (new : List ℕ) (t u : Story) → s.now.passed + count < end → Writing ranges count t
+      → FailsToWrite at n t u → Throughout s u (IsMidway ((at, at + n) ∷ ranges) s.now.reads new end)
+  write_fails at n ranges count end new t u below so (inl same) =
+      subst (λ v. Throughout s v (IsMidway ((at, at + n) ∷ ranges) s.now.reads new end)) (sym same)
+      (throughout_more s t _ _ (λ m on. unsynced ((at, at + n) ∷ ranges) count end new m below (wider (at, at + n) ranges count count m (omega arith) on)) so.so_far)
+  write_fails at n ranges count end new t u below so (inr (reads, torn, is)) =
+      throughout_more s u _ _ (λ m. unsynced ((at, at + n) ∷ ranges) (count + 0) end new m (omega arith))
+      (wrote_some at n ranges count 0 t u reads so (ap moments is))
 
-  pub sync_fails : (ranges : List (ℕ × ℕ)) (count : ℕ) (new : List ℕ) (t u : Story) → Writing ranges count t → FailsToSync t u
-      → Throughout s u (IsMidway ranges s.now.reads new (s.now.passed + count + 1))
-  sync_fails ranges count new t u so (inl same) =
-      subst (λ v. Throughout s v (IsMidway ranges s.now.reads new (s.now.passed + count + 1))) (sym same)
-      (throughout_more s t _ _ (unsynced ranges count new) so.so_far)
-  sync_fails ranges count new t u so (inr (reads, image, is)) =
+  pub sync_fails : (ranges : List (ℕ × ℕ)) (count end : ℕ) (new : List ℕ) (t u : Story) → s.now.passed + count < end → Writing ranges count t
+      → FailsToSync t u → Throughout s u (IsMidway ranges s.now.reads new end)
+  sync_fails ranges count end new t u below so (inl same) =
+      subst (λ v. Throughout s v (IsMidway ranges s.now.reads new end)) (sym same)
+      (throughout_more s t _ _ (λ m. unsynced ranges count end new m below) so.so_far)
+  sync_fails ranges count end new t u below so (inr (reads, image, is)) =
       let torn : IsOnTheWay ranges count t.now = record { torn = torn_now ranges t.now so.synced so.written; few = omega (arith, so.passed) } in
-      throughout_more s u _ _ (unsynced ranges count new)
+      throughout_more s u _ _ (λ m. unsynced ranges count end new m below)
       (throughout_then s t u _ so.so_far (throughout_one t u _ (record t.now { reads = reads }) (ap moments is) torn
       (record { torn = torn_now ranges (record t.now { reads = reads }) so.synced so.written; few = omega (arith, so.passed) })))
 
-  pub sync_passes : (ranges : List (ℕ × ℕ)) (count : ℕ) (t u : Story) → Writing ranges count t → IsImage t.now t.now.reads → u ≡ did_sync t
-      → Throughout s u (IsMidway ranges s.now.reads t.now.reads (s.now.passed + count + 1))
-  sync_passes ranges count t u so reads is =
-      let there : Leaves (λ image. image ≡ t.now.reads) (did_sync t).now = λ c image. settled_image (did_sync t).now c (record { synced = refl; written = refl }) image in
+  pub sync_passes : (ranges : List (ℕ × ℕ)) (count end : ℕ) (t u : Story) → end ≡ s.now.passed + count + 1 → Writing ranges count t
+      → IsImage t.now t.now.reads → u ≡ did_sync t → Throughout s u (IsMidway ranges s.now.reads t.now.reads end)
+  sync_passes ranges count end t u end_is so reads is =
+      let below : s.now.passed + count < end = omega arith in
+      let there : Leaves (λ image. image ≡ t.now.reads) (did_sync t).now =
+      λ c image. settled_image (did_sync t).now c (record { synced = refl; written = refl }) image in
       let torn : IsOnTheWay ranges count t.now = record { torn = torn_now ranges t.now so.synced so.written; few = omega (arith, so.passed) } in
-      throughout_then s t u _ (throughout_more s t _ _ (unsynced ranges count t.now.reads) so.so_far)
-      (throughout_one t u _ (did_sync t).now (ap moments is) (unsynced ranges count t.now.reads t.now torn)
+      throughout_then s t u _ (throughout_more s t _ _ (λ m. unsynced ranges count end t.now.reads m below) so.so_far)
+      (throughout_one t u _ (did_sync t).now (ap moments is) (unsynced ranges count end t.now.reads t.now below torn)
       (record {
-        few = omega (arith, so.passed);
+        few = omega (arith, so.passed, end_is);
         torn = λ c image. subst (IsTorn ranges s.now.reads) (sym (there c image)) (torn_now ranges t.now so.synced so.written t.now.reads reads);
         whole = λ enough. there;
       }))
+
+-- one write over a settled disk, and then a sync, whether that passes or not
+pub write_synced : {T E : Type 0} (s t u : Story) (at : ℕ) (piece : List ℕ) (result : Result T E) → IsSettled s.now → t ≡ wrote at piece s
+    → IsImage t.now t.now.reads → OnOk result (u ≡ did_sync t) → OnErr result (FailsToSync t u)
+    → Throughout s u (IsMidway (range_of at (length piece)) s.now.reads (put_at s.now.reads at piece) (s.now.passed + 2))
+write_synced s t u at piece (Ok x) settled is image ok err =
+    subst (λ new. Throughout s u (IsMidway (range_of at (length piece)) s.now.reads new (s.now.passed + 2))) (ap (λ (v : Story). v.now.reads) is)
+    (sync_passes s (range_of at (length piece)) 1 (s.now.passed + 2) t u (omega arith) (goes_on s at piece [] 0 s t (started s settled) is) image ok)
+write_synced s t u at piece (Err e) settled is image ok err =
+    sync_fails s (range_of at (length piece)) 1 (s.now.passed + 2) _ t u (omega arith) (goes_on s at piece [] 0 s t (started s settled) is) err
