@@ -6,10 +6,10 @@ ghost use Rattle.carte_tree.specs.Applied.{applied, called, condition, is_strict
 
 use crate::arithmetic::{add, divide, multiply, negative, subtract};
 use crate::coercions::first_bad;
+use crate::logic::{and, not, or};
 use crate::numbers::{count, max, min, sum};
 use crate::order::compare;
 use crate::texts::{join, len, line, lines, upper};
-use crate::truths::{and, not, or};
 use carte_tree::{Func, Op};
 use carte_value::{Bad, NoMemory, Value};
 use std::alloc::Global;
@@ -42,7 +42,7 @@ pub fn negate(values: &[Value]) -> Value
     }
 }
 
-/// The truth of a condition, or what IF and PICK give in place of a branch: a bad condition itself, and `#VALUE!` for a text.
+/// Whether a condition holds, or what IF and PICK give in place of a branch: a bad condition itself, and `#VALUE!` for a text.
 pub fn condition(value: &Value) -> Result<bool, Value>
     ensures { result ≡ condition value.now }
 {

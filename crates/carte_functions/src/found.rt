@@ -27,10 +27,9 @@ pub fn name_in(alloc: Global, kind: Kind, value: &Value) -> Result<Result<Name, 
     ensures { IfOk result (λ found. found ≡ name_in kind value.now) }
 {
     match value {
-        Value::Text(text) => match named(alloc, kind, text.text()) {
-            Ok(Some(name)) => Ok(Ok(name)),
-            Ok(None) => Ok(Err(Value::Bad(Bad::Ref))),
-            Err(refused) => Err(refused),
+        Value::Text(text) => match named(alloc, kind, text.text())? {
+            Some(name) => Ok(Ok(name)),
+            None => Ok(Err(Value::Bad(Bad::Ref))),
         },
         Value::Bad(bad) => Ok(Err(Value::Bad(*bad))),
         _ => Ok(Err(Value::Bad(Bad::Ref))),
@@ -44,14 +43,9 @@ fn names_of(alloc: Global, kind: Kind, text: &str) -> Result<Option<Names>, NoMe
     let mut names = Names::new(alloc);
     let mut rest = text;
     while let Some((line, behind)) = first_line(rest) {
-        match named(alloc, kind, line) {
-            Ok(Some(name)) => {
-                if let Err(refused) = names.push(name) {
-                    return Err(refused);
-                }
-            }
-            Ok(None) => return Ok(None),
-            Err(refused) => return Err(refused),
+        match named(alloc, kind, line)? {
+            Some(name) => names.push(name)?,
+            None => return Ok(None),
         }
         rest = behind;
     }
@@ -67,13 +61,9 @@ pub fn names_in(alloc: Global, kind: Kind, value: &Value) -> Result<Result<Names
     if let Value::Bad(bad) = value {
         return Ok(Err(Value::Bad(*bad)));
     }
-    let text = match text_of(alloc, value) {
-        Ok(text) => text,
-        Err(refused) => return Err(refused),
-    };
-    match names_of(alloc, kind, text.as_str()) {
-        Ok(Some(names)) => Ok(Ok(names)),
-        Ok(None) => Ok(Err(Value::Bad(Bad::Ref))),
-        Err(refused) => Err(refused),
+    let text = text_of(alloc, value)?;
+    match names_of(alloc, kind, text.as_str())? {
+        Some(names) => Ok(Ok(names)),
+        None => Ok(Err(Value::Bad(Bad::Ref))),
     }
 }

@@ -1,3 +1,8 @@
+ghost use Rattle.std.specs.Prelude.{◌≡◌};
+ghost use Rattle.carte_value.specs.declared.name_fault.NameFault.TheVariants as fault;
+
+use crate::NoMemory;
+use std::alloc::AllocError;
 use thiserror::Error;
 
 /// Why a text is read as no name.
@@ -8,4 +13,20 @@ pub enum NameFault {
     BadName(usize),
     #[error("no memory")]
     NoMemory,
+}
+
+impl From<AllocError> for NameFault {
+    ghost from_gives = { λ _ e. e ≡ fault.NoMemory };
+
+    fn from(_: AllocError) -> NameFault {
+        NameFault::NoMemory
+    }
+}
+
+impl From<NoMemory> for NameFault {
+    ghost from_gives = { λ _ e. e ≡ fault.NoMemory };
+
+    fn from(_: NoMemory) -> NameFault {
+        NameFault::NoMemory
+    }
 }
