@@ -3,7 +3,7 @@ use Rattle.std.specs.List.{list_all}
 use Rattle.carte_tree.specs.Code.{arg_tree}
 use Rattle.carte_task.specs.Forms.{is_one, are_ones}
 use Rattle.carte_task.proofs.Shapes.{ones_by_length, not_ones, args_view}
-use Rattle.carte_task.proofs.postfix.are_ones.Goals as goal
+use Rattle.carte_task.proofs.compile.are_ones.Goals as goal
 
 pub returns-then-ones : goal.returns-then-ones
 returns-then-ones c =

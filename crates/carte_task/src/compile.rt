@@ -1,15 +1,16 @@
 //! Formulas in postfix order.
 
-ghost use Rattle.std.specs.Prelude.{◌≡◌, ◌++◌, ◌∷◌, [], OnOk, IfOk, length};
+ghost use Rattle.std.specs.Prelude.{◌≡◌, true, ◌++◌, ◌∷◌, [], OnOk, IfOk, length};
 ghost use Rattle.std.specs.List.{list_all};
 ghost use Rattle.carte_tree.specs.Code.{tree_of, chain_tree, rest_steps, args_tree, arg_tree};
 ghost use Rattle.carte_tree.specs.Tree.{Tree, call as calls, arg, one, no_arg};
-ghost use Rattle.carte_task.specs.Forms.{form_of, are_ones, is_one};
+ghost use Rattle.carte_tree.specs.Formula.{IsExpr, AreCallArgs, IsCallArg};
+ghost use Rattle.carte_task.specs.Forms.{form_of, are_ones, is_one, HaveLevel};
 ghost use Rattle.carte_value.specs.Areas.{cells_of};
 ghost use Rattle.carte_task.specs.Coding.{code_of, code_of_steps, code_of_args, code_of_arg, choice, count, count_arg};
 
-use crate::areas;
 use crate::code::Instr;
+use crate::range::Range;
 use carte_tree::{Arg, Args, Chain, Expr, Func, Rest};
 use carte_value::{NoMemory, Value};
 use std::alloc::Global;
@@ -26,22 +27,17 @@ fn put(code: &mut Vec<Instr>, instr: Instr) -> Result<(), NoMemory>
 /// Writes the instructions of a formula behind others.
 #[cycle(write)]
 pub(crate) fn write(alloc: Global, expr: &Expr, code: &mut Vec<Instr>) -> Result<(), NoMemory>
+    requires { IsExpr (tree_of expr.now) }
     ensures { OnOk result (code.new.items ≡ code.old.items ++ code_of (tree_of expr.now)) }
 {
     match expr {
         Expr::Number(number) => put(code, Instr::Push(Value::Number(*number))),
-        Expr::Text(text) => match text.copy(alloc) {
-            Ok(text) => put(code, Instr::Push(Value::Text(text))),
-            Err(refused) => Err(refused),
-        },
-        Expr::Ref(name) => match name.copy(alloc) {
-            Ok(name) => put(code, Instr::Look(name)),
-            Err(refused) => Err(refused),
-        },
-        Expr::Neg(operand) => match write(alloc, operand, code) {
-            Ok(()) => put(code, Instr::Negate),
-            Err(refused) => Err(refused),
-        },
+        Expr::Text(text) => put(code, Instr::Push(Value::Text(text.copy(alloc)?))),
+        Expr::Ref(name) => put(code, Instr::Look(name.copy(alloc)?)),
+        Expr::Neg(operand) => {
+            write(alloc, operand, code)?;
+            put(code, Instr::Negate)
+        }
         Expr::Chain(chain) => write_chain(alloc, chain, code),
         Expr::Call(func, args) => write_call(alloc, *func, args, code),
     }
@@ -49,29 +45,28 @@ pub(crate) fn write(alloc: Global, expr: &Expr, code: &mut Vec<Instr>) -> Result
 
 #[cycle(write)]
 fn write_chain(alloc: Global, chain: &Chain, code: &mut Vec<Instr>) -> Result<(), NoMemory>
+    requires { IsExpr (chain_tree chain.now) }
     ensures { OnOk result (code.new.items ≡ code.old.items ++ code_of (chain_tree chain.now)) }
 {
-    match write(alloc, &chain.first, code) {
-        Ok(()) => write_rest(alloc, &chain.rest, code),
-        Err(refused) => Err(refused),
-    }
+    write(alloc, &chain.first, code)?;
+    write_rest(alloc, &chain.rest, code)
 }
 
 #[cycle(write)]
 fn write_rest(alloc: Global, rest: &Rest, code: &mut Vec<Instr>) -> Result<(), NoMemory>
+    requires { HaveLevel (rest_steps rest.now) }
     ensures { OnOk result (code.new.items ≡ code.old.items ++ code_of_steps (rest_steps rest.now)) }
 {
     for (op, operand) in rest.items.iter() {
-        match write(alloc, operand, code) {
-            Ok(()) => put(code, Instr::Apply(*op))?,
-            Err(refused) => return Err(refused),
-        }
+        write(alloc, operand, code)?;
+        put(code, Instr::Apply(*op))?;
     }
     Ok(())
 }
 
 #[cycle(write)]
 fn write_call(alloc: Global, func: Func, args: &Args, code: &mut Vec<Instr>) -> Result<(), NoMemory>
+    requires { AreCallArgs (args_tree args.now) }
     ensures { OnOk result (code.new.items ≡ code.old.items ++ code_of (calls func (args_tree args.now))) }
 {
     match shape(func, args) {
@@ -140,34 +135,27 @@ fn is_one(arg: &Arg) -> bool
 
 #[cycle(write)]
 fn write_choice(alloc: Global, args: &Args, code: &mut Vec<Instr>) -> Result<(), NoMemory>
+    requires args { AreCallArgs (args_tree args.now) }
+    requires three { are_ones 3 (args_tree args.now) ≡ true }
     ensures { OnOk result ((c a b : Tree) → args_tree args.now ≡ arg (one c) (arg (one a) (arg (one b) no_arg)) → code.new.items ≡ code.old.items ++ choice (code_of c) (code_of a) (code_of b)) }
 {
     let [condition, first, other] = args.items.as_slice() else {
-        return Err(NoMemory);
+        unreachable!()
     };
-    let condition = match write_alone(alloc, condition) {
-        Ok(code) => code,
-        Err(refused) => return Err(refused),
-    };
-    let first = match write_alone(alloc, first) {
-        Ok(code) => code,
-        Err(refused) => return Err(refused),
-    };
-    match write_alone(alloc, other) {
-        Ok(other) => join(code, condition, first, other),
-        Err(refused) => Err(refused),
-    }
+    let condition = write_alone(alloc, condition)?;
+    let first = write_alone(alloc, first)?;
+    let other = write_alone(alloc, other)?;
+    join(code, condition, first, other)
 }
 
 #[cycle(write)]
 fn write_alone(alloc: Global, arg: &Arg) -> Result<Vec<Instr>, NoMemory>
+    requires { IsCallArg (arg_tree arg.now) }
     ensures { IfOk result (λ code. code.items ≡ code_of_arg (arg_tree arg.now)) }
 {
     let mut code = Vec::new(alloc);
-    match write_arg(alloc, arg, &mut code) {
-        Ok(()) => Ok(code),
-        Err(refused) => Err(refused),
-    }
+    write_arg(alloc, arg, &mut code)?;
+    Ok(code)
 }
 
 #[cycle(write)]
@@ -177,15 +165,15 @@ fn write_then(
     last: Instr,
     code: &mut Vec<Instr>,
 ) -> Result<(), NoMemory>
+    requires args { AreCallArgs (args_tree args.now) }
+    requires single { are_ones 1 (args_tree args.now) ≡ true }
     ensures { OnOk result ((e : Tree) → args_tree args.now ≡ arg (one e) no_arg → code.new.items ≡ code.old.items ++ (code_of e ++ last ∷ [])) }
 {
-    let [Arg::One(operand)] = args.items.as_slice() else {
-        return Err(NoMemory);
+    let [operand] = args.items.as_slice() else {
+        unreachable!()
     };
-    match write(alloc, operand, code) {
-        Ok(()) => put(code, last),
-        Err(refused) => Err(refused),
-    }
+    write_arg(alloc, operand, code)?;
+    put(code, last)
 }
 
 // A test, one branch, a jump over the other branch, and that.
@@ -222,47 +210,43 @@ fn write_plain(
     args: &Args,
     code: &mut Vec<Instr>,
 ) -> Result<(), NoMemory>
+    requires { AreCallArgs (args_tree args.now) }
     ensures { OnOk result (code.new.items ≡ code.old.items ++ (code_of_args (args_tree args.now) ++ Instr.Call func (count (args_tree args.now)) ∷ [])) }
 {
-    match write_args(alloc, args, code) {
-        Ok(()) => match counted(args) {
-            Ok(count) => put(code, Instr::Call(func, count)),
-            Err(refused) => Err(refused),
-        },
-        Err(refused) => Err(refused),
-    }
+    write_args(alloc, args, code)?;
+    put(code, Instr::Call(func, counted(args)?))
 }
 
 #[cycle(write)]
 fn write_args(alloc: Global, args: &Args, code: &mut Vec<Instr>) -> Result<(), NoMemory>
+    requires { AreCallArgs (args_tree args.now) }
     ensures { OnOk result (code.new.items ≡ code.old.items ++ code_of_args (args_tree args.now)) }
 {
     for arg in args.items.iter() {
-        match write_arg(alloc, arg, code) {
-            Ok(()) => {}
-            Err(refused) => return Err(refused),
-        }
+        write_arg(alloc, arg, code)?;
     }
     Ok(())
 }
 
 #[cycle(write)]
 fn write_arg(alloc: Global, arg: &Arg, code: &mut Vec<Instr>) -> Result<(), NoMemory>
+    requires { IsCallArg (arg_tree arg.now) }
     ensures { OnOk result (code.new.items ≡ code.old.items ++ code_of_arg (arg_tree arg.now)) }
 {
     match arg {
         Arg::One(expr) => write(alloc, expr, code),
-        Arg::Cells(area) => put(code, Instr::Cells(*area)),
+        Arg::Cells(area) => put(code, Instr::Cells(Range::of(*area))),
     }
 }
 
-// How many values arguments are.
+// How many values arguments are. There is no memory for more of them than a word counts.
 fn counted(args: &Args) -> Result<usize, NoMemory>
+    requires { AreCallArgs (args_tree args.now) }
     ensures { IfOk result (λ n. n ≡ count (args_tree args.now)) }
 {
     let mut count: usize = 0;
     for arg in args.items.iter() {
-        count = match count.checked_add(width(arg)?) {
+        count = match count.checked_add(width(arg)) {
             Some(count) => count,
             None => return Err(NoMemory),
         };
@@ -270,11 +254,12 @@ fn counted(args: &Args) -> Result<usize, NoMemory>
     Ok(count)
 }
 
-fn width(arg: &Arg) -> Result<usize, NoMemory>
-    ensures { IfOk result (λ n. n ≡ count_arg (arg_tree arg.now)) }
+fn width(arg: &Arg) -> usize
+    requires { IsCallArg (arg_tree arg.now) }
+    ensures { result ≡ count_arg (arg_tree arg.now) }
 {
     match arg {
-        Arg::One(_) => Ok(1),
-        Arg::Cells(area) => areas::size(*area),
+        Arg::One(_) => 1,
+        Arg::Cells(area) => area.size() as usize,
     }
 }

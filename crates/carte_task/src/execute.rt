@@ -3,18 +3,18 @@
 ghost use Rattle.std.specs.Prelude.{◌≡◌, ◌++◌, ◌∷◌, [], List, length, IfOk, OnErr, OnOk};
 ghost use Rattle.carte_tree.specs.Texts.{joined};
 ghost use Rattle.carte_task.specs.Code.{newest, below, put, top};
-ghost use Rattle.carte_task.specs.Turns.{Applies};
+ghost use Rattle.carte_task.specs.Applying.{Applies};
 ghost use Rattle.carte_task.specs.declared.code.Instr.TheVariants as i;
 
-use crate::areas;
 use crate::code::{Instr, Next, Pending};
-use carte_tree::{Func, Op};
+use crate::range::Range;
 use carte_functions::{condition, name_in, names_in};
-use carte_value::{Area, Kind, Name, Names, NoMemory, Value};
+use carte_tree::{Func, Op};
+use carte_value::{Kind, Name, Names, NoMemory, Value};
 use std::alloc::Global;
 
 /// Does one instruction to the stack. Where it has no memory, the stack is as before.
-pub(crate) fn turn(
+pub(crate) fn apply(
     alloc: Global,
     kind: Kind,
     instr: &Instr,
@@ -25,7 +25,7 @@ pub(crate) fn turn(
     match instr {
         Instr::Push(value) => push(alloc, kind, value, values),
         Instr::Look(name) => look(alloc, kind, name, values),
-        Instr::Cells(area) => cells(alloc, kind, *area, values),
+        Instr::Cells(range) => cells(alloc, kind, range, values),
         Instr::Negate => negate(alloc, kind, values),
         Instr::Apply(op) => operate(alloc, kind, *op, values),
         Instr::Call(func, count) => call(alloc, kind, *func, *count, values),
@@ -88,10 +88,8 @@ fn put_behind(
     ensures ok { IfOk result (λ p. (values.new.items ≡ put count values.old.items value) × (p.names ≡ []) × (p.next ≡ Next.Behind 0)) }
     ensures err { OnErr result (values.new.items ≡ values.old.items) }
 {
-    match replace(values, count, value) {
-        Ok(()) => Ok(behind(alloc, 0)),
-        Err(refused) => Err(refused),
-    }
+    replace(values, count, value)?;
+    Ok(behind(alloc, 0))
 }
 
 fn push(
@@ -102,11 +100,7 @@ fn push(
 ) -> Result<Pending, NoMemory>
     ensures { Applies kind (i.Push value.now) values.old.items values.new.items result }
 {
-    let value = match value.copy(alloc) {
-        Ok(value) => value,
-        Err(refused) => return Err(refused),
-    };
-    match values.push(value) {
+    match values.push(value.copy(alloc)?) {
         Ok(()) => Ok(behind(alloc, 0)),
         Err(_) => Err(NoMemory),
     }
@@ -116,29 +110,20 @@ fn look(alloc: Global, kind: Kind, name: &Name, values: &Vec<Value>) -> Result<P
     ensures { Applies kind (i.Look name.now) values.now.items values.now.items result }
 {
     let mut names = Names::new(alloc);
-    let name = match name.copy(alloc) {
-        Ok(name) => name,
-        Err(refused) => return Err(refused),
-    };
-    match names.push(name) {
-        Ok(()) => Ok(Pending {
-            names,
-            next: Next::Behind(0),
-        }),
-        Err(refused) => Err(refused),
-    }
+    names.push(name.copy(alloc)?)?;
+    Ok(Pending {
+        names,
+        next: Next::Behind(0),
+    })
 }
 
-fn cells(alloc: Global, kind: Kind, area: Area, values: &Vec<Value>) -> Result<Pending, NoMemory>
-    ensures { Applies kind (i.Cells area) values.now.items values.now.items result }
+fn cells(alloc: Global, kind: Kind, range: &Range, values: &Vec<Value>) -> Result<Pending, NoMemory>
+    ensures { Applies kind (i.Cells range.now) values.now.items values.now.items result }
 {
-    match areas::cells(alloc, area) {
-        Ok(names) => Ok(Pending {
-            names,
-            next: Next::Behind(0),
-        }),
-        Err(refused) => Err(refused),
-    }
+    Ok(Pending {
+        names: range.names(alloc)?,
+        next: Next::Behind(0),
+    })
 }
 
 fn negate(alloc: Global, kind: Kind, values: &mut Vec<Value>) -> Result<Pending, NoMemory>
@@ -151,10 +136,8 @@ fn negate(alloc: Global, kind: Kind, values: &mut Vec<Value>) -> Result<Pending,
 fn operate(alloc: Global, kind: Kind, op: Op, values: &mut Vec<Value>) -> Result<Pending, NoMemory>
     ensures { Applies kind (i.Apply op) values.old.items values.new.items result }
 {
-    match carte_functions::apply(alloc, op, newest(values, 2)) {
-        Ok(value) => put_behind(alloc, values, 2, value),
-        Err(refused) => Err(refused),
-    }
+    let value = carte_functions::apply(alloc, op, newest(values, 2))?;
+    put_behind(alloc, values, 2, value)
 }
 
 fn call(
@@ -170,10 +153,8 @@ fn call(
     if args.len() > 4294967295 {
         return Err(NoMemory);
     }
-    match carte_functions::call(alloc, func, args) {
-        Ok(value) => put_behind(alloc, values, count, value),
-        Err(refused) => Err(refused),
-    }
+    let value = carte_functions::call(alloc, func, args)?;
+    put_behind(alloc, values, count, value)
 }
 
 fn test(
@@ -185,17 +166,14 @@ fn test(
 ) -> Result<Pending, NoMemory>
     ensures { Applies kind (i.Test other end) values.old.items values.new.items result }
 {
-    let value = match top(alloc, values) {
-        Ok(value) => value,
-        Err(refused) => return Err(refused),
-    };
+    let value = top(alloc, values)?;
     match condition(&value) {
         Ok(true) => Ok(drop_top(alloc, values, 0)),
         Ok(false) => Ok(drop_top(alloc, values, other)),
-        Err(value) => match replace(values, 1, value) {
-            Ok(()) => Ok(behind(alloc, end)),
-            Err(refused) => Err(refused),
-        },
+        Err(value) => {
+            replace(values, 1, value)?;
+            Ok(behind(alloc, end))
+        }
     }
 }
 
@@ -212,14 +190,10 @@ fn drop_top(alloc: Global, values: &mut Vec<Value>, count: usize) -> Pending
 fn indirect(alloc: Global, kind: Kind, values: &mut Vec<Value>) -> Result<Pending, NoMemory>
     ensures { Applies kind i.Indirect values.old.items values.new.items result }
 {
-    let value = match top(alloc, values) {
-        Ok(value) => value,
-        Err(refused) => return Err(refused),
-    };
-    match name_in(alloc, kind, &value) {
-        Ok(Ok(name)) => one(alloc, name, values),
-        Ok(Err(value)) => put_behind(alloc, values, 1, value),
-        Err(refused) => Err(refused),
+    let value = top(alloc, values)?;
+    match name_in(alloc, kind, &value)? {
+        Ok(name) => one(alloc, name, values),
+        Err(value) => put_behind(alloc, values, 1, value),
     }
 }
 
@@ -229,28 +203,21 @@ fn one(alloc: Global, name: Name, values: &mut Vec<Value>) -> Result<Pending, No
     ensures err { OnErr result (values.new.items ≡ values.old.items) }
 {
     let mut names = Names::new(alloc);
-    match names.push(name) {
-        Ok(()) => {
-            let len = values.len().saturating_sub(1);
-            values.truncate(len);
-            Ok(Pending {
-                names,
-                next: Next::Behind(0),
-            })
-        }
-        Err(refused) => Err(refused),
-    }
+    names.push(name)?;
+    let len = values.len().saturating_sub(1);
+    values.truncate(len);
+    Ok(Pending {
+        names,
+        next: Next::Behind(0),
+    })
 }
 
 fn gather(alloc: Global, kind: Kind, values: &mut Vec<Value>) -> Result<Pending, NoMemory>
     ensures { Applies kind i.Gather values.old.items values.new.items result }
 {
-    let value = match top(alloc, values) {
-        Ok(value) => value,
-        Err(refused) => return Err(refused),
-    };
-    match names_in(alloc, kind, &value) {
-        Ok(Ok(names)) => {
+    let value = top(alloc, values)?;
+    match names_in(alloc, kind, &value)? {
+        Ok(names) => {
             let len = values.len().saturating_sub(1);
             values.truncate(len);
             let count = names.len();
@@ -259,8 +226,7 @@ fn gather(alloc: Global, kind: Kind, values: &mut Vec<Value>) -> Result<Pending,
                 next: Next::Joined(count),
             })
         }
-        Ok(Err(value)) => put_behind(alloc, values, 1, value),
-        Err(refused) => Err(refused),
+        Err(value) => put_behind(alloc, values, 1, value),
     }
 }
 
@@ -269,8 +235,6 @@ pub(crate) fn join(alloc: Global, values: &mut Vec<Value>, count: usize) -> Resu
     ensures ok { OnOk result (values.new.items ≡ put count values.old.items (joined (newest count values.old.items))) }
     ensures err { OnErr result (values.new.items ≡ values.old.items) }
 {
-    match carte_functions::apply(alloc, Op::Join, newest(values, count)) {
-        Ok(value) => replace(values, count, value),
-        Err(refused) => Err(refused),
-    }
+    let value = carte_functions::apply(alloc, Op::Join, newest(values, count))?;
+    replace(values, count, value)
 }
