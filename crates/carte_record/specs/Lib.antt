@@ -1,0 +1,5 @@
+pub mod Lookups
+pub mod Places
+pub mod Kinds
+pub mod Kept
+pub mod Folds

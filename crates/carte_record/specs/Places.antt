@@ -1,0 +1,20 @@
+-- Tables of the places at which a list has a key.
+use Rattle.std.specs.Prelude.{ℕ, suc, Bool, List, [], ◌∷◌, ◌≡◌, Option, Some, None, option_map, map, if◌then◌else◌}
+
+-- the first place at which it passes
+abbrev pub first_place : {A : Type 0} → (A → Bool) → List A → Option ℕ
+first_place p [] = None
+first_place p (x ∷ xs) = if p x then Some 0 else option_map suc (first_place p xs)
+
+-- all of these places, ascending
+abbrev pub places : {A : Type 0} → (A → Bool) → List A → List ℕ
+places p [] = []
+places p (x ∷ xs) = if p x then 0 ∷ map suc (places p xs) else map suc (places p xs)
+
+-- the table has the first place of each key
+abbrev pub IsFirstPlaces : {K A : Type 0} → (K → A → Bool) → List A → (K → Option ℕ) → Type 0
+IsFirstPlaces {K = K} is_of xs table = (k : K) → table k ≡ first_place (is_of k) xs
+
+-- the table has all places of each key
+abbrev pub ArePlaces : {K A : Type 0} → (K → A → Bool) → List A → (K → List ℕ) → Type 0
+ArePlaces {K = K} is_of xs table = (k : K) → table k ≡ places (is_of k) xs

@@ -1,0 +1,65 @@
+ghost use Rattle.std.specs.Prelude.{◌≡◌, ◌<◌, ◌^◌, ◌∷◌, ◌++◌, [], List, length, slice_get, option_copied, is_ok, if◌then◌else◌};
+
+use crate::Entry;
+use crate::table::Table;
+use carte_value::{Name, NoMemory};
+use std::alloc::Global;
+use std::marker::Model;
+
+/// A list of at most 2^32 - 1 entries, seen as these entries, in which a key is looked up at once.
+#[derive(Drop)]
+pub struct Entries {
+    alloc: Global,
+    entries: Vec<Entry>,
+    places: Table<Name, u32>,
+}
+
+impl Model for Entries {
+    ghost use Rattle.std.specs.Prelude.{List, length, ◌<◌, ◌^◌};
+    ghost use Rattle.std.specs.HashMap.{get};
+    ghost use Rattle.carte_value.specs.Names.{name_eq};
+    ghost use Rattle.carte_record.specs.declared.entry.Entry.{Entry};
+    ghost use Rattle.carte_record.specs.Places.{IsFirstPlaces};
+    ghost use Rattle.carte_record.specs.Lookups.{is_entry_of};
+
+    ghost Value = { List Entry };
+
+    ghost view = { λ a. a.entries.items };
+
+    ghost invariant = { λ a. (length a.entries.items < 2 ^ 32) × IsFirstPlaces is_entry_of a.entries.items (get name_eq a.places) };
+}
+
+impl Entries {
+    /// The empty list, whose entries will come from `alloc`. It takes no memory.
+    pub fn new(alloc: Global) -> Entries
+        ensures { result ≡ [] }
+    {
+        Entries {
+            alloc,
+            entries: Vec::new(alloc),
+            places: Table::new(alloc),
+        }
+    }
+
+    /// How many entries there are.
+    pub fn len(&self) -> usize
+        ensures number { result ≡ length self.now }
+        ensures bound { result < 2 ^ 32 }
+    {
+        self.entries.len()
+    }
+
+    /// The entry at a place counted from 0, where the list is longer than that.
+    pub fn get(&self, at: usize) -> Option<&Entry>
+        ensures { option_copied result ≡ slice_get self.now at }
+    {
+        self.entries.get(at)
+    }
+
+    /// The entries as a slice.
+    pub fn as_slice(&self) -> &[Entry]
+        ensures { result.now ≡ self.now }
+    {
+        self.entries.as_slice()
+    }
+}

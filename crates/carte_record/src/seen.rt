@@ -1,0 +1,66 @@
+ghost use Rattle.std.specs.Prelude.{◌≡◌, ◌<◌, ◌^◌, ◌∷◌, ◌++◌, [], List, length, slice_get, option_copied, is_ok, if◌then◌else◌};
+ghost use Rattle.carte_record.specs.Lookups.{first_link};
+
+use crate::table::Table;
+use carte_value::{Digest, Link, Name, NoMemory};
+use std::alloc::Global;
+use std::marker::Model;
+
+/// Names with the digests that they were seen with: a list of at most 2^32 - 1 links, seen as these links, in which a
+/// name is looked up at once.
+#[derive(Drop)]
+pub struct Seen {
+    alloc: Global,
+    links: Vec<Link>,
+    places: Table<Name, u32>,
+}
+
+impl Model for Seen {
+    ghost use Rattle.std.specs.Prelude.{List, length, ◌<◌, ◌^◌};
+    ghost use Rattle.std.specs.HashMap.{get};
+    ghost use Rattle.carte_value.specs.Names.{name_eq};
+    ghost use Rattle.carte_value.specs.declared.link.Link.{Link};
+    ghost use Rattle.carte_record.specs.Places.{IsFirstPlaces};
+    ghost use Rattle.carte_record.specs.Lookups.{is_link_of};
+
+    ghost Value = { List Link };
+
+    ghost view = { λ a. a.links.items };
+
+    ghost invariant = { λ a. (length a.links.items < 2 ^ 32) × IsFirstPlaces is_link_of a.links.items (get name_eq a.places) };
+}
+
+impl Seen {
+    /// The empty list, whose links will come from `alloc`. It takes no memory.
+    pub fn new(alloc: Global) -> Seen
+        ensures { result ≡ [] }
+    {
+        Seen {
+            alloc,
+            links: Vec::new(alloc),
+            places: Table::new(alloc),
+        }
+    }
+
+    /// How many links there are.
+    pub fn len(&self) -> usize
+        ensures number { result ≡ length self.now }
+        ensures bound { result < 2 ^ 32 }
+    {
+        self.links.len()
+    }
+
+    /// The link at a place counted from 0, where the list is longer than that.
+    pub fn get(&self, at: usize) -> Option<&Link>
+        ensures { option_copied result ≡ slice_get self.now at }
+    {
+        self.links.get(at)
+    }
+
+    /// The links as a slice.
+    pub fn as_slice(&self) -> &[Link]
+        ensures { result.now ≡ self.now }
+    {
+        self.links.as_slice()
+    }
+}
