@@ -1,5 +1,6 @@
 -- Tables of the places at which a list has a key.
 use Rattle.std.specs.Prelude.{ℕ, suc, Bool, List, [], ◌∷◌, ◌≡◌, Option, Some, None, option_map, map, if◌then◌else◌}
+use Rattle.std.specs.Option.{option_or}
 
 -- the first place at which it passes
 abbrev pub first_place : {A : Type 0} → (A → Bool) → List A → Option ℕ
@@ -18,3 +19,7 @@ IsFirstPlaces {K = K} is_of xs table = (k : K) → table k ≡ first_place (is_o
 -- the table has all places of each key
 abbrev pub ArePlaces : {K A : Type 0} → (K → A → Bool) → List A → (K → List ℕ) → Type 0
 ArePlaces {K = K} is_of xs table = (k : K) → table k ≡ places (is_of k) xs
+
+-- one key more has a place, where it had none
+abbrev pub AddsPlace : {K : Type 0} → (K → K → Bool) → (K → Option ℕ) → (K → Option ℕ) → K → ℕ → Type 0
+AddsPlace {K = K} eq old new k n = (q : K) → new q ≡ option_or (old q) (if eq k q then Some n else None)

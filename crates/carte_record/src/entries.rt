@@ -1,7 +1,8 @@
 ghost use Rattle.std.specs.Prelude.{◌≡◌, ◌<◌, ◌^◌, ◌∷◌, ◌++◌, [], List, length, slice_get, option_copied, is_ok, if◌then◌else◌};
+ghost use Rattle.carte_record.specs.Lookups.{first_entry};
 
 use crate::Entry;
-use crate::table::Table;
+use crate::table::{Table, first, push};
 use carte_value::{Name, NoMemory};
 use std::alloc::Global;
 use std::marker::Model;
@@ -61,5 +62,20 @@ impl Entries {
         ensures { result.now ≡ self.now }
     {
         self.entries.as_slice()
+    }
+
+    /// The first entry of a key, where there is one. It takes no memory.
+    pub fn find(&self, key: &Name) -> Option<&Entry>
+        ensures { option_copied result ≡ first_entry self.now key.now }
+    {
+        first(self.entries.as_slice(), &self.places, key)
+    }
+
+    /// Puts an entry behind the others. Where there is no room for it, it is dropped and nothing has changed.
+    pub fn push(&mut self, entry: Entry) -> Result<(), NoMemory>
+        ensures { self.new ≡ (if is_ok result then self.old ++ entry ∷ [] else self.old) }
+    {
+        let key = entry.key.copy(self.alloc)?;
+        push(&mut self.entries, &mut self.places, key, entry)
     }
 }

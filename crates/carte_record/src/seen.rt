@@ -1,7 +1,7 @@
 ghost use Rattle.std.specs.Prelude.{◌≡◌, ◌<◌, ◌^◌, ◌∷◌, ◌++◌, [], List, length, slice_get, option_copied, is_ok, if◌then◌else◌};
 ghost use Rattle.carte_record.specs.Lookups.{first_link};
 
-use crate::table::Table;
+use crate::table::{Table, first, push};
 use carte_value::{Digest, Link, Name, NoMemory};
 use std::alloc::Global;
 use std::marker::Model;
@@ -62,5 +62,23 @@ impl Seen {
         ensures { result.now ≡ self.now }
     {
         self.links.as_slice()
+    }
+
+    /// The digest of the first link of a name, where there is one. It takes no memory.
+    pub fn find(&self, name: &Name) -> Option<&Digest>
+        ensures { option_copied result ≡ first_link self.now name.now }
+    {
+        match first(self.links.as_slice(), &self.places, name) {
+            Some(link) => Some(&link.digest),
+            None => None,
+        }
+    }
+
+    /// Puts a link behind the others. Where there is no room for it, it is dropped and nothing has changed.
+    pub fn push(&mut self, link: Link) -> Result<(), NoMemory>
+        ensures { self.new ≡ (if is_ok result then self.old ++ link ∷ [] else self.old) }
+    {
+        let name = link.name.copy(self.alloc)?;
+        push(&mut self.links, &mut self.places, name, link)
     }
 }
