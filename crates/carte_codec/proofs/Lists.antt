@@ -15,6 +15,10 @@ pub each_last : {A : Type 0} (P : A → Type 0) (xs : List A) (x : A) → EachFi
 each_last P [] x each = (tt, each.0)
 each_last P (y ∷ ys) x each = let rest = each_last P ys x each.1 in ((each.0, rest.0), rest.1)
 
+pub each_free : {A : Type 0} (xs : List A) → EachFits (λ (x : A). Unit {0}) xs
+each_free [] = tt
+each_free (x ∷ xs) = (tt, each_free xs)
+
 -- where some items were read and no item follows, no longer list of items stands there
 pub no_longer_list : {A : Type 0} (spelled : A → List ℕ) (fits : A → Type 0) → OneSpelling spelled fits → (xs ys : List A) (r s : List ℕ) → EachFits fits xs → EachFits fits ys → length xs < length ys → IsNotAhead spelled fits r → ¬ (flat_map spelled xs ++ r ≡ flat_map spelled ys ++ s)
 no_longer_list spelled fits one xs [] r s is is' fewer none same = omega arith

@@ -85,12 +85,10 @@ list_one {spelled = spelled} {fits = fits} one = record {
 }
 
 -- what is spelled as something else is, from which it can be told
-pub as_one : {S P : Type 0} {spelled : P → List ℕ} {fits : P → Type 0} (to : S → P) (from : P → S) → ((x : S) → from (to x) ≡ x) → OneSpelling spelled fits → OneSpelling (λ x. spelled (to x)) (λ x. fits (to x))
-as_one to from back one = record {
-  one = λ v w r s is is' same.
-      let parts : (to v ≡ to w) × (r ≡ s) = one.one (to v) (to w) r s is is' same in
-      (sym (back v) ∙ ap from parts.0 ∙ back w, parts.1);
-}
+pub as_one : {S P : Type 0} {spelled : P → List ℕ} {fits : P → Type 0} (to : S → P) (from : P → S) (fits_whole : S → Type 0) → ((x : S) → fits_whole x → fits (to x) × (from (to x) ≡ x)) → OneSpelling spelled fits → OneSpelling (λ x. spelled (to x)) fits_whole
+as_one to from fits_whole back one = record { one = λ v w r s is is' same.
+    let parts : (to v ≡ to w) × (r ≡ s) = one.one (to v) (to w) r s (back v is).0 (back w is').0 same in
+    (sym (back v is).1 ∙ ap from parts.0 ∙ (back w is').1, parts.1) }
 
 pub link_one : OneSpelling spelled_link FitsLink
-link_one = as_one (λ (l : Link). (l.name, l.digest)) (λ p. let l : Link = record { name = p.0; digest = p.1 } in l) (λ l. refl) (pair_one name_one digest_one)
+link_one = as_one (λ (l : Link). (l.name, l.digest)) (λ p. let l : Link = record { name = p.0; digest = p.1 } in l) FitsLink (λ l fit. (fit, refl)) (pair_one name_one digest_one)

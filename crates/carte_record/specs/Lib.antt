@@ -3,3 +3,5 @@ pub mod Places
 pub mod Kinds
 pub mod Kept
 pub mod Folds
+pub mod Bodies
+pub mod BodyLaws

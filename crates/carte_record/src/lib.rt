@@ -2,6 +2,7 @@
 #![tactic(auto)]
 
 mod batch;
+mod codec;
 mod entries;
 mod entry;
 mod kept;
@@ -14,6 +15,7 @@ mod traces;
 mod way;
 
 pub use batch::Batch;
+pub use codec::one_body;
 pub use entries::Entries;
 pub use entry::Entry;
 pub use kept::Kept;
