@@ -126,7 +126,7 @@ fn text_token(alloc: Global, run: &str) -> Result<Option<Token>, NoMemory>
     ensures { IfOk result (λ o. o ≡ token_of closing run.now) }
 {
     match unpaired(alloc, &run[1..run.len() - 1]) {
-        Ok(text) => match Text::made(text) {
+        Ok(text) => match Text::made(text)? {
             Some(text) => Ok(Some(Token::Text(text))),
             None => Ok(None),
         },

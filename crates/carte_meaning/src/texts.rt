@@ -59,12 +59,12 @@ fn append(text: &mut String, value: &Value) -> Result<(), NoMemory>
 }
 
 /// A text as a value, or `#LEN!` where it is too long for one.
-fn made(text: String) -> Value
-    ensures { result ≡ text_value (string_bytes text) }
+fn made(text: String) -> Result<Value, NoMemory>
+    ensures { IfOk result (λ v. v ≡ text_value (string_bytes text)) }
 {
-    match Text::made(text) {
-        Some(text) => Value::Text(text),
-        None => Value::Bad(Bad::Len),
+    match Text::made(text)? {
+        Some(text) => Ok(Value::Text(text)),
+        None => Ok(Value::Bad(Bad::Len)),
     }
 }
 
@@ -81,7 +81,7 @@ pub(crate) fn join(alloc: Global, values: &[Value]) -> Result<Value, NoMemory>
             return Ok(Value::Bad(Bad::Len));
         }
     }
-    Ok(made(text))
+    made(text)
 }
 
 /// LEN: the number of bytes of a text.
@@ -109,7 +109,7 @@ pub(crate) fn upper(alloc: Global, values: &[Value]) -> Result<Value, NoMemory>
         Err(refused) => return Err(refused),
     };
     match text.as_str().to_ascii_uppercase(alloc) {
-        Ok(raised) => Ok(made(raised)),
+        Ok(raised) => made(raised),
         Err(_) => Err(NoMemory),
     }
 }
@@ -146,7 +146,7 @@ pub(crate) fn line(alloc: Global, values: &[Value]) -> Result<Value, NoMemory>
     };
     match line_at(text.as_str(), (place - 1) as usize) {
         Some(line) => match String::from_str(alloc, line) {
-            Ok(line) => Ok(made(line)),
+            Ok(line) => made(line),
             Err(_) => Err(NoMemory),
         },
         None => Ok(Value::Bad(Bad::Value)),

@@ -1,7 +1,7 @@
 use Rattle.std.proofs.Common.{sym, ap, ◌∙◌}
 use Rattle.carte_value.specs.Names.{is_lower}
-use Rattle.carte_value.proofs.Fronts.{rule_none, rule_longest}
-use Rattle.carte_value.proofs.name_text.rule_front.Goals as goal
+use Rattle.carte_value.proofs.Prefixes.{rule_none, rule_longest}
+use Rattle.carte_value.proofs.name_text.rule_prefix.Goals as goal
 
 pub returns-then-not-is_ascii_lowercase : goal.returns-then-not-is_ascii_lowercase
 returns-then-not-is_ascii_lowercase c = rule_none c.args.text.now (ap is_lower (sym c.first.ensures) ∙ sym c.is_ascii_lowercase.ensures.value ∙ c.if-not-is_ascii_lowercase.true)
