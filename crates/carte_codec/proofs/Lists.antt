@@ -1,5 +1,5 @@
 -- Lists of items that are spelled one after the other.
-use Rattle.std.proofs.Common.{◌≡◌, ℕ, ◌+◌, ◌<◌, List, [], ◌∷◌, ◌++◌, length, refl, ap, sym, ◌∙◌, append_assoc, arith}
+use Rattle.std.proofs.Common.{◌≡◌, ℕ, ◌<◌, List, [], ◌∷◌, ◌++◌, length, sym, ◌∙◌, append_assoc, arith}
 use Rattle.std.specs.List.{flat_map}
 use Rattle.carte_codec.specs.Each.{EachFits}
 use Rattle.carte_codec.specs.Spellings.{OneSpelling, IsNotAhead, FailsToRead}

@@ -5,10 +5,9 @@ use Rattle.std.specs.List.{flat_map}
 use Rattle.std.proofs.lemmas.Nat.{from_be_bytes-to_be_bytes_4}
 use Rattle.carte_value.specs.declared.digest.Digest.{Digest}
 use Rattle.carte_value.specs.declared.link.Link.{Link}
-use Rattle.carte_value.specs.declared.value.Value.{Value}
 use Rattle.carte_value.specs.Spelling.{spelling, IsValue}
 use Rattle.carte_value.proofs.Bytes as values
-use Rattle.carte_value.proofs.Bytes.{fronts_same}
+use Rattle.carte_value.proofs.Bytes.{prefixes_same}
 use Rattle.carte_codec.specs.Each.{EachFits}
 use Rattle.carte_codec.specs.Spellings.{OneSpelling}
 use Rattle.carte_codec.specs.Parts.{spelled_count, FitsCount, spelled_name, FitsName, spelled_digest, FitsDigest, spelled_bool, spelled_pair, FitsPair, spelled_option, FitsOption, spelled_list, FitsList, spelled_link, FitsLink}
@@ -16,7 +15,7 @@ use Rattle.carte_codec.specs.Parts.{spelled_count, FitsCount, spelled_name, Fits
 pub count_one : OneSpelling spelled_count FitsCount
 count_one = record {
   one = λ m n r s fits fits' same.
-      let parts : (spelled_count m ≡ spelled_count n) × (r ≡ s) = fronts_same (spelled_count m) (spelled_count n) r s refl same in
+      let parts : (spelled_count m ≡ spelled_count n) × (r ≡ s) = prefixes_same (spelled_count m) (spelled_count n) r s refl same in
       (sym (from_be_bytes-to_be_bytes_4 m fits) ∙ ap (from_be_bytes w32) parts.0 ∙ from_be_bytes-to_be_bytes_4 n fits', parts.1);
 }
 
@@ -24,13 +23,13 @@ pub name_one : OneSpelling spelled_name FitsName
 name_one = record {
   one = λ j k r s fits fits' same.
       let rest : j ++ r ≡ k ++ s = cc in
-      fronts_same j k r s (cc) rest;
+      prefixes_same j k r s (cc) rest;
 }
 
 pub digest_one : OneSpelling spelled_digest FitsDigest
 digest_one = record {
   one = λ d e r s fits fits' same.
-      let parts : (d.0 ≡ e.0) × (r ≡ s) = fronts_same d.0 e.0 r s (fits ∙ sym fits') same in
+      let parts : (d.0 ≡ e.0) × (r ≡ s) = prefixes_same d.0 e.0 r s (fits ∙ sym fits') same in
       (ap (λ (bytes : List ℕ). let made : Digest = record { 0 = bytes } in made) parts.0, parts.1);
 }
 
@@ -86,9 +85,11 @@ list_one {spelled = spelled} {fits = fits} one = record {
 
 -- what is spelled as something else is, from which it can be told
 pub as_one : {S P : Type 0} {spelled : P → List ℕ} {fits : P → Type 0} (to : S → P) (from : P → S) (fits_whole : S → Type 0) → ((x : S) → fits_whole x → fits (to x) × (from (to x) ≡ x)) → OneSpelling spelled fits → OneSpelling (λ x. spelled (to x)) fits_whole
-as_one to from fits_whole back one = record { one = λ v w r s is is' same.
-    let parts : (to v ≡ to w) × (r ≡ s) = one.one (to v) (to w) r s (back v is).0 (back w is').0 same in
-    (sym (back v is).1 ∙ ap from parts.0 ∙ (back w is').1, parts.1) }
+as_one to from fits_whole back one = record {
+  one = λ v w r s is is' same.
+      let parts : (to v ≡ to w) × (r ≡ s) = one.one (to v) (to w) r s (back v is).0 (back w is').0 same in
+      (sym (back v is).1 ∙ ap from parts.0 ∙ (back w is').1, parts.1);
+}
 
 pub link_one : OneSpelling spelled_link FitsLink
 link_one = as_one (λ (l : Link). (l.name, l.digest)) (λ p. let l : Link = record { name = p.0; digest = p.1 } in l) FitsLink (λ l fit. (fit, refl)) (pair_one name_one digest_one)

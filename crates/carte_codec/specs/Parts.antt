@@ -1,10 +1,12 @@
 -- The spellings of names, digests, truth values, pairs, options and lists.
-use Rattle.std.specs.Prelude.{ℕ, Bool, true, false, List, [], ◌∷◌, ◌++◌, ◌≡◌, ◌<◌, ◌^◌, length, IsTrue, Option, Some, None}
+use Rattle.std.specs.Prelude.{ℕ, Bool, true, false, List, [], ◌∷◌, ◌++◌, ◌≡◌, ◌<◌, ◌^◌, length, IsTrue, Option, Some, None, Result, Ok, Err}
 use Rattle.std.specs.Int.{w32, to_be_bytes}
 use Rattle.std.specs.List.{flat_map}
 use Rattle.carte_value.specs.Names.{is_name}
 use Rattle.carte_value.specs.declared.digest.Digest.{Digest}
 use Rattle.carte_value.specs.declared.link.Link.{Link}
+use Rattle.carte_codec.specs.declared.unread.Unread.{Unread}
+use Rattle.carte_codec.specs.declared.unread.Unread.TheVariants.{NotThere, NoMemory}
 use Rattle.carte_codec.specs.Each.{EachFits}
 
 -- a count in 4 bytes, the greatest first
@@ -65,3 +67,9 @@ spelled_link l = spelled_name l.name ++ spelled_digest l.digest
 
 abbrev pub FitsLink : Link → Type 0
 FitsLink l = FitsName l.name × FitsDigest l.digest
+
+-- bytes that are a name
+abbrev pub IsNameOf : List ℕ → Result (List ℕ) Unread → Type 0
+IsNameOf bytes (Ok k) = FitsName k × (k ≡ bytes)
+IsNameOf bytes (Err NotThere) = ¬ (FitsName bytes)
+IsNameOf bytes (Err NoMemory) = Unit {0}

@@ -1,4 +1,3 @@
-ghost use Rattle.std.specs.Prelude.{◌≡◌};
 ghost use Rattle.carte_value.specs.Spelling.{spelling, IsValue};
 ghost use Rattle.carte_codec.specs.Laws.{value_one};
 
@@ -14,9 +13,9 @@ impl Spelled for Value {
 
     ghost may = { λ _. Unit {0} };
 
-    fn write(&self, _out: &mut Vec<u8>) -> Result<(), NoMemory> {
+    fn write(&self, out: &mut Vec<u8>) -> Result<(), NoMemory> {
         every_value(self);
-        Err(NoMemory)
+        Value::write(self, out)
     }
 
     fn read(alloc: Global, bytes: &[u8]) -> Result<(Value, &[u8]), Unread> {
