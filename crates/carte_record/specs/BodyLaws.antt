@@ -76,14 +76,27 @@ back_of b = (b.verifying, (b.constructive, (b.deep, b.chain)))
 pub back_one : OneSpelling (spelled_pair (spelled_list spelled_trace) (spelled_pair (spelled_list spelled_trace) (spelled_pair (spelled_list spelled_trace) (spelled_option spelled_names)))) (FitsPair (FitsList FitsTrace) (FitsPair (FitsList FitsTrace) (FitsPair (FitsList FitsTrace) (FitsOption FitsNames))))
 back_one = pair_one (list_one trace_one) (pair_one (list_one trace_one) (pair_one (list_one trace_one) (option_one names_one)))
 
-abbrev pub batch_parts : Batch → Kind × (Front × Back)
+abbrev pub BatchParts : Type 0
+BatchParts = Kind × (Front × Back)
+
+abbrev pub batch_parts : Batch → BatchParts
 batch_parts b = (the_kind, (front_of b, back_of b))
 
-abbrev pub batch_of : Front → Back → Batch
-batch_of f g = record { start = f.0; values = f.1.0; seen = f.1.1.0; stale = f.1.1.1.0; entries = f.1.1.1.1; verifying = g.0; constructive = g.1.0; deep = g.1.1.0; chain = g.1.1.1 }
+abbrev pub batch_of : BatchParts → Batch
+batch_of p = record {
+  start = p.1.0.0;
+  values = p.1.0.1.0;
+  seen = p.1.0.1.1.0;
+  stale = p.1.0.1.1.1.0;
+  entries = p.1.0.1.1.1.1;
+  verifying = p.1.1.0;
+  constructive = p.1.1.1.0;
+  deep = p.1.1.1.1.0;
+  chain = p.1.1.1.1.1;
+}
 
 pub batch_one : OneSpelling spelled_batch FitsBatch
-batch_one = as_one batch_parts (λ p. batch_of p.1.0 p.1.1) FitsBatch (λ b fit. ((tt, fit), refl)) (pair_one kind_one (pair_one front_one back_one))
+batch_one = as_one batch_parts batch_of FitsBatch (λ b fit. ((tt, fit), refl)) (pair_one kind_one (pair_one front_one back_one))
 
 pub one_body : OneBody
 one_body b c body is is' =

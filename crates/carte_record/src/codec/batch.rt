@@ -38,6 +38,8 @@ type Front = (Start, (Store, (Seen, (Names, Entries))));
 
 type Back = (Traces, (Traces, (Traces, Option<Names>)));
 
+type Parts = (Kind, (Front, Back));
+
 /// The kind, and the nine parts in their order.
 impl Spelled for Batch {
     ghost spelling = { spelled_batch };
@@ -53,8 +55,8 @@ impl Spelled for Batch {
     }
 
     fn read(alloc: Global, bytes: &[u8]) -> Result<(Batch, &[u8]), Unread> {
-        match <(Kind, (Front, Back))>::read(alloc, bytes) {
-            Ok(((_, (front, back)), rest)) => Ok((of_parts(front, back), rest)),
+        match Parts::read(alloc, bytes) {
+            Ok((parts, rest)) => Ok((of_parts(parts), rest)),
             Err(unread) => Err(unread),
         }
     }
@@ -83,9 +85,10 @@ fn write_back(batch: &Batch, out: &mut Vec<u8>) -> Result<(), NoMemory>
     batch.chain.write(out)
 }
 
-fn of_parts(front: Front, back: Back) -> Batch
-    ensures { result ≡ batch_of front back }
+fn of_parts(parts: Parts) -> Batch
+    ensures { result ≡ batch_of parts }
 {
+    let (_, (front, back)) = parts;
     let (start, (values, (seen, (stale, entries)))) = front;
     let (verifying, (constructive, (deep, chain))) = back;
     Batch {
