@@ -5,6 +5,7 @@ mod batch;
 mod entries;
 mod entry;
 mod kept;
+mod places;
 mod seen;
 mod start;
 mod store;
