@@ -1,4 +1,5 @@
 pub mod Lookups
+pub mod Changes
 pub mod Places
 pub mod Kinds
 pub mod Kept

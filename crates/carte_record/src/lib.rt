@@ -6,6 +6,7 @@ mod codec;
 mod entries;
 mod entry;
 mod kept;
+mod places;
 mod seen;
 mod start;
 mod store;

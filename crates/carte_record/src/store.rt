@@ -1,8 +1,9 @@
-ghost use Rattle.std.specs.Prelude.{◌≡◌, ◌<◌, ◌^◌, ◌∷◌, ◌++◌, [], List, length, slice_get, option_map, option_copied, is_ok, if◌then◌else◌};
+ghost use Rattle.std.specs.Prelude.{◌≡◌, ◌<◌, ◌^◌, ◌∷◌, ◌++◌, [], List, length, slice_get, option_map, option_copied, is_ok, take, IfOk, if◌then◌else◌};
 ghost use Rattle.carte_value.specs.Spelling.{digest_of};
 ghost use Rattle.carte_record.specs.Lookups.{first_value};
+ghost use Rattle.carte_record.specs.Changes.{front};
 
-use crate::table::{Table, first, push};
+use crate::table::{Table, first, forget, push};
 use carte_value::{Digest, NoMemory, Value};
 use std::alloc::Global;
 use std::marker::Model;
@@ -78,6 +79,36 @@ impl Store {
         ensures { option_copied result ≡ option_map digest_of (slice_get self.now at) }
     {
         self.digests.get(at)
+    }
+
+    /// Drops the values behind the first `len`.
+    pub(crate) fn truncate(&mut self, len: usize)
+        ensures { self.new ≡ take len self.old }
+    {
+        while self.values.len() > len {
+            self.pop();
+        }
+    }
+
+    fn pop(&mut self)
+        ensures { self.new ≡ front self.old }
+    {
+        if let Some(_value) = self.values.pop() {
+            if let Some(digest) = self.digests.pop() {
+                forget(&mut self.places, &digest.0, self.values.len());
+            }
+        }
+    }
+
+    /// A second list of equal values.
+    pub fn copy(&self, alloc: Global) -> Result<Store, NoMemory>
+        ensures { IfOk result (λ copy. copy ≡ self.now) }
+    {
+        let mut store = Store::new(alloc);
+        for at in 0..self.values.len() {
+            store.push_with(self.values[at].copy(alloc)?, self.digests[at])?;
+        }
+        Ok(store)
     }
 
     /// Puts a value behind the others. Where there is no room for it, it is dropped and nothing has changed.

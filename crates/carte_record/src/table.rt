@@ -1,7 +1,8 @@
 //! Tables from keys to places in a list.
-ghost use Rattle.std.specs.Prelude.{◌≡◌, ◌<◌, ◌^◌, ◌++◌, ◌∷◌, [], Bool, length, find, slice_get, option_copied, is_ok, OnOk, OnErr, if◌then◌else◌};
+ghost use Rattle.std.specs.Prelude.{◌≡◌, ◌<◌, ◌^◌, ◌++◌, ◌∷◌, [], Bool, None, Some, IsTrue, ◌↔◌, length, find, slice_get, option_copied, is_ok, OnOk, OnErr, if◌then◌else◌};
 ghost use Rattle.std.specs.HashMap.{get};
-ghost use Rattle.carte_record.specs.Places.{IsFirstPlaces, AddsPlace};
+ghost use Rattle.carte_record.specs.Places.{first_place, IsFirstPlaces, AddsPlace, ForgetsPlace};
+ghost use Rattle.carte_record.specs.Changes.{change_first};
 
 use carte_value::NoMemory;
 use std::collections::HashMap;
@@ -21,16 +22,55 @@ pub(crate) fn first<'a, K: Eq + Hash, T>(
 ) -> Option<&'a T>
     ensures { (is_of : K → T → Bool) → IsFirstPlaces is_of items.now (get K.eq table.now) → option_copied result ≡ find (is_of key.now) items.now }
 {
-    match table.get(key) {
-        Some(at) => item(items, *at),
+    match place(table, key) {
+        Some(at) => item(items, at),
         None => None,
     }
 }
 
-fn item<T>(items: &[T], at: u32) -> Option<&T>
+fn item<T>(items: &[T], at: usize) -> Option<&T>
     ensures { option_copied result ≡ slice_get items.now at }
 {
-    items.get(at as usize)
+    items.get(at)
+}
+
+/// The first place of a key.
+pub(crate) fn place<K: Eq + Hash>(table: &Table<K, u32>, key: &K) -> Option<usize>
+    ensures { result ≡ get K.eq table.now key.now }
+{
+    match table.get(key) {
+        Some(at) => Some(*at as usize),
+        None => None,
+    }
+}
+
+/// Puts an item in the place of the first one of its key, where there is one.
+pub(crate) fn set<T: Drop>(items: &mut Vec<T>, at: Option<usize>, item: T)
+    ensures { (p : T → Bool) → at ≡ first_place p items.old.items → items.new.items ≡ change_first p (λ x. item) items.old.items }
+{
+    if let Some(at) = at {
+        if let Some(old) = items.get_mut(at) {
+            *old = item;
+        }
+    }
+}
+
+/// Takes a place that is no longer one out of the table.
+pub(crate) fn forget<K: Eq + Hash + Drop>(table: &mut Table<K, u32>, key: &K, at: usize)
+    ensures { ForgetsPlace K.eq (get K.eq table.old) (get K.eq table.new) key.now at }
+{
+    if has_place(table, key, at) {
+        table.remove(key);
+    }
+}
+
+fn has_place<K: Eq + Hash>(table: &Table<K, u32>, key: &K, at: usize) -> bool
+    ensures { IsTrue result ↔ (get K.eq table.now key.now ≡ Some at) }
+{
+    match place(table, key) {
+        Some(place) => place == at,
+        None => false,
+    }
 }
 
 /// Puts an item behind the others, and the place of its key into the table where it has none.

@@ -125,8 +125,7 @@ impl ListOf<Trace> for Traces {
     }
 
     fn put(&mut self, item: Trace) -> Result<(), NoMemory> {
-        drop(item);
-        Err(NoMemory)
+        self.push(item)
     }
 
     fn all(&self) -> &[Trace] {

@@ -1,5 +1,5 @@
 use Rattle.std.proofs.Common.{◌≡◌, sym, ◌∙◌, ap, length, rules}
-use Rattle.carte_record.proofs.Places.{place_added}
+use Rattle.carte_record.proofs.FirstPlaces.{place_added}
 use Rattle.carte_record.proofs.table.push.Goals as goal
 
 pub returns-clause-table : goal.returns-clause-table

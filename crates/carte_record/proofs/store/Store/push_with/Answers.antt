@@ -3,7 +3,7 @@ use Rattle.carte_value.specs.Names.{name_eq}
 use Rattle.carte_value.specs.Spelling.{digest_of}
 use Rattle.carte_record.specs.Lookups.{is_value_of}
 use Rattle.carte_record.proofs.Names.{name_eq_sym}
-use Rattle.carte_record.proofs.Places.{map_end}
+use Rattle.carte_record.proofs.FirstPlaces.{map_end}
 use Rattle.carte_record.proofs.store.Store.push_with.Goals as goal
 
 pub invariant_of-self-in_err-push : goal.invariant_of-self-in_err-push
