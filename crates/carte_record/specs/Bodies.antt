@@ -18,7 +18,7 @@ FitsNames = FitsList FitsName
 
 -- the kind of a body that is a batch
 abbrev pub the_kind : Kind
-the_kind = record { }
+the_kind = record {}
 
 abbrev pub spelled_kind : Kind → List ℕ
 spelled_kind k = 1 ∷ []
