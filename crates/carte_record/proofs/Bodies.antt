@@ -1,7 +1,7 @@
 -- Batches that were read from bytes.
 use Rattle.std.proofs.Common.{◌≡◌, ℕ, List, [], ◌++◌, sym, ◌∙◌, ap, append-nil, subst, Option, Some, None, Ok}
 use Rattle.carte_record.specs.declared.batch.Batch.{Batch}
-use Rattle.carte_record.specs.Bodies.{spelled_batch, FitsBatch, IsBody, IsDecoded, IsWhole}
+use Rattle.carte_record.specs.Bodies.{spelled_batch, FitsBatch, IsDecoded, IsWhole}
 use Rattle.carte_record.specs.BodyLaws.{batch_one}
 
 -- the whole bytes are a batch's exactly where nothing is left behind what was read

@@ -1,5 +1,5 @@
 -- The spellings of the parts of a batch are one, and so is a batch's.
-use Rattle.std.proofs.Common.{◌≡◌, ℕ, Bool, false, List, [], ◌∷◌, ◌++◌, refl, ap, sym, ◌∙◌, Option}
+use Rattle.std.proofs.Common.{◌≡◌, ℕ, Bool, false, List, [], ◌++◌, refl, ap, sym, ◌∙◌, Option}
 use Rattle.carte_value.specs.declared.digest.Digest.{Digest}
 use Rattle.carte_value.specs.declared.link.Link.{Link}
 use Rattle.carte_value.specs.declared.value.Value.{Value}
@@ -13,7 +13,7 @@ use Rattle.carte_record.specs.declared.start.Start.TheVariants.{GoOn, Anew, Clea
 use Rattle.carte_record.specs.declared.entry.Entry.{Entry}
 use Rattle.carte_record.specs.declared.trace.Trace.{Trace}
 use Rattle.carte_record.specs.declared.batch.Batch.{Batch}
-use Rattle.carte_record.specs.Bodies.{spelled_names, FitsNames, spelled_start, FitsStart, spelled_entry, FitsEntry, spelled_trace, FitsTrace, spelled_kind, the_kind, spelled_batch, FitsBatch, IsBody, OneBody}
+use Rattle.carte_record.specs.Bodies.{spelled_names, FitsNames, spelled_start, FitsStart, spelled_entry, FitsEntry, spelled_trace, FitsTrace, spelled_kind, the_kind, spelled_batch, FitsBatch, OneBody}
 
 starts_same : (v w : Start) (r s : List ℕ) → FitsStart v → FitsStart w → spelled_start v ++ r ≡ spelled_start w ++ s → (v ≡ w) × (r ≡ s)
 starts_same GoOn GoOn r s is is' same = (refl, cc)
