@@ -7,17 +7,9 @@ use Rattle.carte_codec.specs.declared.unread.Unread.{Unread}
 use Rattle.carte_codec.specs.declared.unread.Unread.TheVariants.{NotThere, NoMemory}
 use Rattle.carte_codec.specs.Parts.{FitsMany}
 
-pub each_more : {A : Type 0} (P : A → Type 0) (xs : List A) (x : A) → EachFits P xs → P x → EachFits P (xs ++ x ∷ [])
-each_more P [] x each last = (last, tt)
-each_more P (y ∷ ys) x each last = (each.0, each_more P ys x each.1 last)
-
-pub each_last : {A : Type 0} (P : A → Type 0) (xs : List A) (x : A) → EachFits P (xs ++ x ∷ []) → EachFits P xs × P x
-each_last P [] x each = (tt, each.0)
-each_last P (y ∷ ys) x each = let rest = each_last P ys x each.1 in ((each.0, rest.0), rest.1)
-
-pub each_free : {A : Type 0} (xs : List A) → EachFits (λ (x : A). Unit {0}) xs
-each_free [] = tt
-each_free (x ∷ xs) = (tt, each_free xs)
+pub each_as : {A : Type 0} (P Q : A → Type 0) → ((x : A) → P x → Q x) → (xs : List A) → EachFits P xs → EachFits Q xs
+each_as P Q turn [] each = tt
+each_as P Q turn (x ∷ xs) each = (turn x each.0, each_as P Q turn xs each.1)
 
 -- where some items were read and no item follows, no longer list of items stands there
 pub no_longer_list : {A : Type 0} (spelled : A → List ℕ) (fits : A → Type 0) → OneSpelling spelled fits → (xs ys : List A) (r s : List ℕ) → EachFits fits xs → EachFits fits ys → length xs < length ys → IsNotAhead spelled fits r → ¬ (flat_map spelled xs ++ r ≡ flat_map spelled ys ++ s)

@@ -4,6 +4,8 @@ mod batch;
 mod entry;
 mod lists;
 mod start;
+#[cfg(test)]
+mod tests;
 mod trace;
 
 pub use batch::one_body;
