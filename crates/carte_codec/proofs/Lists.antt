@@ -7,10 +7,6 @@ use Rattle.carte_codec.specs.declared.unread.Unread.{Unread}
 use Rattle.carte_codec.specs.declared.unread.Unread.TheVariants.{NotThere, NoMemory}
 use Rattle.carte_codec.specs.Parts.{FitsMany}
 
-pub each_as : {A : Type 0} (P Q : A → Type 0) → ((x : A) → P x → Q x) → (xs : List A) → EachFits P xs → EachFits Q xs
-each_as P Q turn [] each = tt
-each_as P Q turn (x ∷ xs) each = (turn x each.0, each_as P Q turn xs each.1)
-
 -- where some items were read and no item follows, no longer list of items stands there
 pub no_longer_list : {A : Type 0} (spelled : A → List ℕ) (fits : A → Type 0) → OneSpelling spelled fits → (xs ys : List A) (r s : List ℕ) → EachFits fits xs → EachFits fits ys → length xs < length ys → IsNotAhead spelled fits r → ¬ (flat_map spelled xs ++ r ≡ flat_map spelled ys ++ s)
 no_longer_list spelled fits one xs [] r s is is' fewer none same = omega arith

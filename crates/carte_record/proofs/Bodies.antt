@@ -1,9 +1,7 @@
 -- Batches that were read from bytes.
 use Rattle.std.proofs.Common.{◌≡◌, ℕ, List, [], ◌++◌, sym, ◌∙◌, ap, append-nil, subst, Option, Some, None, Ok}
 use Rattle.carte_record.specs.declared.batch.Batch.{Batch}
-use Rattle.carte_codec.specs.Each.{EachFits}
-use Rattle.carte_codec.proofs.Lists.{each_as}
-use Rattle.carte_record.specs.Bodies.{FitsEntry, IsUnmarked, spelled_batch, FitsBatch, IsBody, IsDecoded, IsWhole}
+use Rattle.carte_record.specs.Bodies.{spelled_batch, FitsBatch, IsDecoded, IsWhole}
 use Rattle.carte_record.specs.BodyLaws.{batch_one}
 
 -- the whole bytes are a batch's exactly where nothing is left behind what was read
@@ -13,7 +11,3 @@ decoded b rest body (Some c) fits is (same, all) = record {
   bytes = is ∙ ap (λ xs. spelled_batch b ++ xs) all ∙ append-nil (spelled_batch b) ∙ ap spelled_batch (sym same);
 }
 decoded b rest body None fits is more = λ c other. more (batch_one.one b c rest [] fits other.fits (sym is ∙ other.bytes ∙ sym (append-nil (spelled_batch c)))).1
-
--- no entry of a batch that was read is stale
-pub body_unmarked : (b : Batch) (body : List ℕ) → IsBody b body → EachFits IsUnmarked b.entries
-body_unmarked b body is = each_as FitsEntry IsUnmarked (λ e fit. fit.3) b.entries is.fits.0.1.1.1.1.1
