@@ -6,7 +6,7 @@ use crate::Unread;
 use carte_value::NoMemory;
 
 /// Puts a count in 4 bytes, the greatest first, behind `out`.
-pub fn write_count(count: usize, out: &mut Vec<u8>) -> Result<(), NoMemory>
+pub(crate) fn write_count(count: usize, out: &mut Vec<u8>) -> Result<(), NoMemory>
     requires { count < 2 ^ 32 }
     ensures { OnOk result (out.new.items ≡ out.old.items ++ spelled_count count) }
 {
@@ -15,7 +15,7 @@ pub fn write_count(count: usize, out: &mut Vec<u8>) -> Result<(), NoMemory>
 }
 
 /// The count that the bytes begin with, and the bytes behind it.
-pub fn read_count(bytes: &[u8]) -> Result<(usize, &[u8]), Unread>
+pub(crate) fn read_count(bytes: &[u8]) -> Result<(usize, &[u8]), Unread>
     ensures { IsRead spelled_count FitsCount (λ x. (x.0, x.1.now)) bytes.now result }
 {
     match bytes.split_first_chunk::<4>() {

@@ -33,7 +33,6 @@ mod truth;
 mod unread;
 mod value;
 
-pub use count::{read_count, write_count};
 pub use list::{ListOf, read_list, write_list};
 pub use spelled::Spelled;
 pub use unread::Unread;

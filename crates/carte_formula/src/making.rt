@@ -6,9 +6,9 @@ ghost use Rattle.carte_formula.specs.Lexer.{token_of, numeral, small, letters, c
 ghost use Rattle.carte_formula.specs.Runs.{RunOk};
 
 use crate::cell::Cell;
-use crate::put::put_byte;
 use crate::tokens::{Class, Token};
 use crate::{Func, Op};
+use carte_tree::put_byte;
 use carte_value::{Name, NameFault, NoMemory, Text};
 use std::alloc::Global;
 
