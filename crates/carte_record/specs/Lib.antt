@@ -1,5 +1,8 @@
 pub mod Lookups
+pub mod Changes
 pub mod Places
 pub mod Kinds
 pub mod Kept
 pub mod Folds
+pub mod Bodies
+pub mod BodyLaws

@@ -1,8 +1,13 @@
-ghost use Rattle.std.specs.Prelude.{◌≡◌, ◌<◌, ◌^◌, ◌∷◌, ◌++◌, [], List, length, slice_get, option_copied, is_ok, if◌then◌else◌};
+ghost use Rattle.std.specs.Prelude.{◌≡◌, ◌<◌, ◌^◌, ◌∷◌, ◌++◌, [], List, length, slice_get, option_copied, is_ok, take, IfOk, Bool, true, if◌then◌else◌};
+ghost use Rattle.carte_record.specs.Lookups.{first_entry, is_entry_of};
+ghost use Rattle.carte_record.specs.Kept.{staled};
+ghost use Rattle.carte_record.specs.Places.{first_place};
+ghost use Rattle.carte_record.specs.Changes.{change_first, front};
+ghost use Rattle.carte_record.specs.declared.entry.Entry.{Entry as SomeEntry};
 
 use crate::Entry;
-use crate::table::Table;
-use carte_value::{Name, NoMemory};
+use crate::table::{Table, first, forget, place, push, set};
+use carte_value::{Name, NoMemory, Same};
 use std::alloc::Global;
 use std::marker::Model;
 
@@ -61,5 +66,74 @@ impl Entries {
         ensures { result.now ≡ self.now }
     {
         self.entries.as_slice()
+    }
+
+    /// The first entry of a key, where there is one. It takes no memory.
+    pub fn find(&self, key: &Name) -> Option<&Entry>
+        ensures { option_copied result ≡ first_entry self.now key.now }
+    {
+        first(self.entries.as_slice(), &self.places, key)
+    }
+
+    /// Puts an entry in the place of the first one of its key, where there is one.
+    pub(crate) fn replace(&mut self, entry: Entry)
+        ensures { self.new ≡ change_first (is_entry_of entry.key) (λ e. entry) self.old }
+    {
+        let at = place(&self.places, &entry.key);
+        set(&mut self.entries, at, entry);
+    }
+
+    /// Marks the first entry of a key stale, where there is one.
+    pub(crate) fn mark(&mut self, key: &Name)
+        ensures { self.new ≡ change_first (is_entry_of key.now) (staled true) self.old }
+    {
+        let at = place(&self.places, key);
+        mark(&mut self.entries, at);
+    }
+
+    /// Drops the entries behind the first `len`.
+    pub(crate) fn truncate(&mut self, len: usize)
+        ensures { self.new ≡ take len self.old }
+    {
+        while self.entries.len() > len {
+            self.pop();
+        }
+    }
+
+    fn pop(&mut self)
+        ensures { self.new ≡ front self.old }
+    {
+        if let Some(entry) = self.entries.pop() {
+            forget(&mut self.places, &entry.key, self.entries.len());
+        }
+    }
+
+    /// A second list of equal entries.
+    pub fn copy(&self, alloc: Global) -> Result<Entries, NoMemory>
+        ensures { IfOk result (λ copy. copy ≡ self.now) }
+    {
+        let mut entries = Entries::new(alloc);
+        for entry in self.entries.iter() {
+            entries.push(entry.same(alloc)?)?;
+        }
+        Ok(entries)
+    }
+
+    /// Puts an entry behind the others. Where there is no room for it, it is dropped and nothing has changed.
+    pub fn push(&mut self, entry: Entry) -> Result<(), NoMemory>
+        ensures { self.new ≡ (if is_ok result then self.old ++ entry ∷ [] else self.old) }
+    {
+        let key = entry.key.copy(self.alloc)?;
+        push(&mut self.entries, &mut self.places, key, entry)
+    }
+}
+
+fn mark(entries: &mut Vec<Entry>, at: Option<usize>)
+    ensures { (p : SomeEntry → Bool) → at ≡ first_place p entries.old.items → entries.new.items ≡ change_first p (staled true) entries.old.items }
+{
+    if let Some(at) = at {
+        if let Some(entry) = entries.get_mut(at) {
+            entry.stale = true;
+        }
     }
 }

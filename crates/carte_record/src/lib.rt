@@ -2,9 +2,11 @@
 #![tactic(auto)]
 
 mod batch;
+mod codec;
 mod entries;
 mod entry;
 mod kept;
+mod places;
 mod seen;
 mod start;
 mod store;
@@ -14,6 +16,7 @@ mod traces;
 mod way;
 
 pub use batch::Batch;
+pub use codec::one_body;
 pub use entries::Entries;
 pub use entry::Entry;
 pub use kept::Kept;
