@@ -1,4 +1,4 @@
-use Rattle.std.proofs.Common.{◌≡◌, sym, ◌∙◌, ap, length, rules}
+use Rattle.std.proofs.Common.{◌≡◌, length, rules}
 use Rattle.carte_record.proofs.FirstPlaces.{place_added}
 use Rattle.carte_record.proofs.table.push.Goals as goal
 

@@ -1,4 +1,4 @@
-use Rattle.std.proofs.Common.{◌≡◌, ◌<◌, length, vec_len, true, false, sym, ◌∙◌, rules}
+use Rattle.std.proofs.Common.{◌≡◌, ◌<◌, vec_len, true, false, sym, ◌∙◌, rules}
 use Rattle.carte_record.proofs.Changed.{put_at_place, change_none}
 use Rattle.carte_record.proofs.FirstPlaces.{place_below}
 use Rattle.carte_record.proofs.table.set.Goals as goal
