@@ -12,8 +12,8 @@ use Rattle.carte_value.specs.declared.value.Value.TheVariants.{Empty}
 use Rattle.carte_value.specs.Names.{name_cmp, is_cell_name}
 use Rattle.carte_value.specs.Truths.{Truth, Extends}
 use Rattle.carte_value.proofs.Asks.{run_kept, stop_has_value}
-use Rattle.carte_formula.specs.Tree.{Tree}
-use Rattle.carte_meaning.specs.Meaning.{asks, eval}
+use Rattle.carte_tree.specs.Tree.{Tree}
+use Rattle.carte_tree.specs.Meaning.{asks, eval}
 use Rattle.carte_book.specs.Book.{Item, input, rule, Book, default_of, or_default, content, valued, settled, val, rules_among, rules_of, clean}
 
 pub valued_kept : (o : Option Item) (f g : Tree → Option Value) → ((e : Tree) (v : Value) → f e ≡ Some v → g e ≡ Some v) → (v : Value) → valued o f ≡ Some v → valued o g ≡ Some v

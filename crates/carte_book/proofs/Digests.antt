@@ -5,8 +5,8 @@ use Rattle.sha2.specs.Hashers.{Holds256}
 use Rattle.sha2.specs.declared.Sha256.{Sha256}
 use Rattle.carte_value.specs.declared.value.Value.{Value}
 use Rattle.carte_value.specs.Names.{name_cmp}
-use Rattle.carte_formula.specs.declared.expr.Expr.{Expr}
-use Rattle.carte_formula.specs.Code.{tree_of}
+use Rattle.carte_tree.specs.declared.expr.Expr.{Expr}
+use Rattle.carte_tree.specs.Code.{tree_of}
 use Rattle.carte_book.specs.declared.book.Item.{Item as CodeItem}
 use Rattle.carte_book.specs.declared.book.Item.TheVariants.{Input as InputItem, Rule as RuleItem}
 use Rattle.carte_book.specs.declared.book.Book.{Book as CodeBook}

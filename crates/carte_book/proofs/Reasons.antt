@@ -1,7 +1,7 @@
 -- There is one reason at most, and none where every target has a clean value.
 use Rattle.std.proofs.Common.{◌≡◌, ℕ, List, [], ◌∷◌, Err, refl, subst, inl, inr}
 use Rattle.carte_value.specs.Truths.{Among}
-use Rattle.carte_meaning.specs.Meaning.{eval}
+use Rattle.carte_tree.specs.Meaning.{eval}
 use Rattle.carte_book.specs.Book.{Book, clean}
 use Rattle.carte_book.specs.Needs.{IsRule}
 use Rattle.carte_book.specs.Reason.{AllClean, StuckAt, Begins, GoesRound, GoesAstray, IsReason}

@@ -9,9 +9,9 @@ use Rattle.std.proofs.lemmas.Cmp.{nat_list_cmp_total}
 use Rattle.carte_value.specs.Names.{name_cmp}
 use Rattle.carte_book.specs.declared.book.Item.{Item as CodeItem}
 use Rattle.carte_book.specs.declared.book.Item.TheVariants.{Input as InputItem, Rule as RuleItem}
-use Rattle.carte_formula.specs.declared.expr.Expr.{Expr}
-use Rattle.carte_formula.specs.Tree.{Tree}
-use Rattle.carte_formula.specs.Code.{tree_of}
+use Rattle.carte_tree.specs.declared.expr.Expr.{Expr}
+use Rattle.carte_tree.specs.Tree.{Tree}
+use Rattle.carte_tree.specs.Code.{tree_of}
 use Rattle.carte_book.specs.declared.book.Book.{Book as CodeBook}
 use Rattle.carte_book.specs.Book.{rule, default_of, or_default, item_view, book_view}
 use Rattle.carte_book.specs.Looked.{HasRules, AddsRule}

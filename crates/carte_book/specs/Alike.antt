@@ -5,11 +5,11 @@ use Rattle.carte_value.specs.Areas.{IsPlace, IsArea}
 use Rattle.carte_value.specs.Kinds.{is_name_of}
 use Rattle.carte_value.specs.declared.area.Area.{Area}
 use Rattle.carte_value.specs.declared.kind.Kind.{Kind}
-use Rattle.carte_formula.specs.Tree.{level_of, Tree, number, text, ref, neg, chain, call, Steps, no_step, step, Args, no_arg, arg, Arg, one, cells, Arity, many, between, arity, takes_ranges}
-use Rattle.carte_formula.specs.Formula.{IsWhole, IsCount, args_count, HasStep, IsExpr, AreSteps, AreArgs, IsArg, HasNames, StepsNames, ArgsNames, ArgNames}
-use Rattle.carte_formula.specs.declared.expr.Func.{Func}
-use Rattle.carte_formula.specs.declared.expr.Level.{Level}
-use Rattle.carte_formula.specs.contracts.expr.Level as levels
+use Rattle.carte_tree.specs.Tree.{level_of, Tree, number, text, ref, neg, chain, call, Steps, no_step, step, Args, no_arg, arg, Arg, one, cells, Arity, many, between, arity, takes_ranges}
+use Rattle.carte_tree.specs.Formula.{IsWhole, IsCount, args_count, HasStep, IsExpr, AreSteps, AreArgs, IsArg, HasNames, StepsNames, ArgsNames, ArgNames}
+use Rattle.carte_tree.specs.declared.expr.Func.{Func}
+use Rattle.carte_tree.specs.declared.expr.Level.{Level}
+use Rattle.carte_tree.specs.contracts.expr.Level as levels
 
 none_alike : IsProp ⊥
 none_alike x y = absurd x

@@ -8,9 +8,9 @@ use Rattle.carte_value.specs.declared.value.Value.{Value}
 use Rattle.carte_value.specs.declared.value.Value.TheVariants.{Empty}
 use Rattle.carte_value.specs.Names.{name_cmp, is_cell_name}
 use Rattle.carte_value.specs.Truths.{Truth}
-use Rattle.carte_formula.specs.Tree.{Tree}
-use Rattle.carte_formula.specs.Code.{tree_of}
-use Rattle.carte_meaning.specs.Meaning.{eval}
+use Rattle.carte_tree.specs.Tree.{Tree}
+use Rattle.carte_tree.specs.Code.{tree_of}
+use Rattle.carte_tree.specs.Meaning.{eval}
 use Rattle.carte_book.specs.declared.book.Item.{Item as CodeItem}
 use Rattle.carte_book.specs.declared.book.Item.TheVariants.{Input as InputItem, Rule as RuleItem}
 use Rattle.carte_book.specs.declared.book.Book.{Book as CodeBook}

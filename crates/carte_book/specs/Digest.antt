@@ -5,8 +5,8 @@ use Rattle.sha2.specs.Sha256.{sha256}
 use Rattle.carte_value.specs.declared.digest.Digest.{Digest}
 use Rattle.carte_value.specs.declared.kind.Kind.{Kind}
 use Rattle.carte_value.specs.declared.kind.Kind.TheVariants.{Rules, Sheet}
-use Rattle.carte_formula.specs.Tree.{Tree}
-use Rattle.carte_formula.specs.Printed.{printed}
+use Rattle.carte_tree.specs.Tree.{Tree}
+use Rattle.carte_tree.specs.Printed.{printed}
 use Rattle.carte_book.specs.Book.{Book, rules_of}
 
 abbrev pub kind_code : Kind → ℕ

@@ -4,8 +4,8 @@ use Rattle.std.specs.List.{AllByRecursion, AllByRecursion-prop}
 use Rattle.std.specs.Coded.{×_prop, Unit-prop}
 use Rattle.carte_value.specs.declared.kind.Kind.{Kind}
 use Rattle.carte_value.specs.Kinds.{is_name_of}
-use Rattle.carte_formula.specs.Code.{tree_of}
-use Rattle.carte_formula.specs.Formula.{IsExpr, HasNames}
+use Rattle.carte_tree.specs.Code.{tree_of}
+use Rattle.carte_tree.specs.Formula.{IsExpr, HasNames}
 use Rattle.carte_book.specs.Alike.{truth_alike, expr_alike, names_alike}
 use Rattle.carte_book.specs.declared.book.Item.{Item as CodeItem}
 use Rattle.carte_book.specs.declared.book.Item.TheVariants.{Input as InputItem, Rule as RuleItem}

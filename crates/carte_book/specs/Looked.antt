@@ -2,8 +2,8 @@
 use Rattle.std.specs.Prelude.{ℕ, ◌≡◌, ◌↔◌, List, Option, Some, None, true, false, ⊤, if◌then◌else◌}
 use Rattle.std.specs.BTreeSet.{BTreeSet, contains}
 use Rattle.std.specs.Ordering.{eq_by_cmp}
-use Rattle.carte_formula.specs.Code.{tree_of}
-use Rattle.carte_formula.specs.Formula.{IsExpr, HasNames}
+use Rattle.carte_tree.specs.Code.{tree_of}
+use Rattle.carte_tree.specs.Formula.{IsExpr, HasNames}
 use Rattle.carte_book.specs.declared.book.Item.{Item as CodeItem}
 use Rattle.carte_book.specs.declared.book.Item.TheVariants.{Input as InputItem, Rule as RuleItem}
 use Rattle.carte_value.specs.declared.kind.Kind.{Kind}

@@ -1,8 +1,8 @@
 -- The needs of names, and what is reached by them.
 use Rattle.std.specs.Prelude.{ℕ, ◌≡◌, List, [], Option, Some, None}
 use Rattle.carte_value.specs.Truths.{Among}
-use Rattle.carte_formula.specs.Tree.{Tree}
-use Rattle.carte_meaning.specs.Meaning.{fetched}
+use Rattle.carte_tree.specs.Tree.{Tree}
+use Rattle.carte_tree.specs.Meaning.{fetched}
 use Rattle.carte_book.specs.Book.{Item, input, rule, Book, content, clean}
 
 abbrev pub needs_of : Option Item → (Tree → List (List ℕ)) → List (List ℕ)

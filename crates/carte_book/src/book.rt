@@ -2,7 +2,7 @@ ghost use Rattle.std.specs.Prelude.{◌≡◌};
 ghost use Rattle.carte_value.specs.declared.value.Value.TheVariants.{Empty};
 ghost use Rattle.carte_book.specs.Fits.{Fits, Fits-prop};
 
-use carte_formula::Expr;
+use carte_tree::Expr;
 use carte_value::{Kind, Name, Value};
 use std::alloc::Global;
 use std::collections::BTreeMap;

@@ -1,12 +1,12 @@
 ghost use Rattle.std.specs.Prelude.{◌≡◌, ◌++◌, ℕ, List, IfOk, OnOk};
 ghost use Rattle.sha2.specs.Hashers.{Holds256};
-ghost use Rattle.carte_formula.specs.Code.{tree_of};
-ghost use Rattle.carte_formula.specs.Formula.{IsExpr};
+ghost use Rattle.carte_tree.specs.Code.{tree_of};
+ghost use Rattle.carte_tree.specs.Formula.{IsExpr};
 ghost use Rattle.carte_book.specs.Book.{book_view};
 ghost use Rattle.carte_book.specs.Digest.{kind_code, spelled_name, spelled_formula, rules_digest_of};
 
 use crate::{Book, Item};
-use carte_formula::{Expr, print};
+use carte_tree::{Expr, print};
 use carte_value::{Digest, Kind, Name, NoMemory};
 use sha2::{Digest as Hasher, Sha256};
 use std::alloc::Global;

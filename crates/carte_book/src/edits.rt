@@ -1,13 +1,13 @@
 ghost use Rattle.std.specs.Prelude.{◌≡◌, IsTrue};
 ghost use Rattle.carte_value.specs.Kinds.{is_name_of};
-ghost use Rattle.carte_formula.specs.Code.{tree_of};
-ghost use Rattle.carte_formula.specs.Formula.{IsExpr, HasNames};
+ghost use Rattle.carte_tree.specs.Code.{tree_of};
+ghost use Rattle.carte_tree.specs.Formula.{IsExpr, HasNames};
 ghost use Rattle.carte_book.specs.Fits.{FitsItem};
 ghost use Rattle.carte_book.specs.Book.{book_view, item_view, input, rule};
 ghost use Rattle.carte_book.specs.Edits.{keys_of, Adds, IsInput, Sets};
 
 use crate::{AddFault, Book, Item, Looked, SetFault};
-use carte_formula::Expr;
+use carte_tree::Expr;
 use carte_value::{Name, Value};
 
 /// As many names as a book has at most.

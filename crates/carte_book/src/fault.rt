@@ -1,5 +1,5 @@
 use crate::KeyText;
-use carte_formula::FormulaFault;
+use carte_tree::FormulaFault;
 use carte_value::Name;
 use thiserror::Error;
 

@@ -3,7 +3,7 @@ use Rattle.std.proofs.Common.{◌≡◌, ℕ, zero, suc, ◌≤◌, ◌<◌, tru
 use Rattle.std.proofs.Math.Nat.{eq-or-lt_of_le}
 use Rattle.std.proofs.lemmas.Option.{slice_get_within}
 use Rattle.carte_value.specs.Truths.{Among}
-use Rattle.carte_formula.specs.Formula.{is_static_tree}
+use Rattle.carte_tree.specs.Formula.{is_static_tree}
 use Rattle.carte_book.specs.Book.{Book}
 use Rattle.carte_book.specs.Needs.{IsRule}
 use Rattle.carte_book.specs.Dynamic.{IsStaticRule, IsDynamicRule, LeadsToDynamic, IsDynamicPath, NoDynamicPath, path_cmp, IsFirstDynamicPath}

@@ -5,7 +5,7 @@ ghost use Rattle.carte_dynamic.specs.Search.{IsDynamicAnswer, AreRefs};
 
 use crate::search::Search;
 use carte_book::{Book, Looked};
-use carte_formula::{is_static, refs};
+use carte_tree::{is_static, refs};
 use carte_value::{Name, Names, NoMemory};
 use std::alloc::Global;
 

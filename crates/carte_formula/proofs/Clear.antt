@@ -1,6 +1,7 @@
 -- What follows each token of a formula.
 use Rattle.std.proofs.Common.{ℕ, Bool, true, false, List, [], ◌∷◌, ◌≡◌, Option, Some, None, if◌then◌else◌}
-use Rattle.carte_formula.specs.Tree.{Op, sub, add, Func, Area, Tree, number, text, ref, Arg, takes_ranges, signed, Token, digits, quoted, word, cell, func, op, lpar, rpar, comma, colon}
+use Rattle.carte_tree.specs.Tree.{Tree, number, text, ref, Arg, takes_ranges, signed}
+use Rattle.carte_formula.specs.Tokens.{Op, sub, add, Func, Area, Token, digits, quoted, word, cell, func, op, lpar, rpar, comma, colon}
 use Rattle.carte_formula.specs.Machine.{Frame, sign, chain_at, group, args, State, wants, had, named, corner, half, ranged, after, cell_at, sign_at, begin, joined, go_on, next_state, parsed, with}
 
 -- what may follow an operand

@@ -3,7 +3,8 @@ use Rattle.std.proofs.Common.{ℕ, zero, suc, Bool, true, false, List, [], ◌�
 use Rattle.std.proofs.lemmas.Bool.Decides.{nat_tests}
 use Rattle.std.proofs.lemmas.Bool.{lt-ltb, le-ltb, le-leb, ne_eqb}
 use Rattle.std.proofs.lemmas.List.{append-nil}
-use Rattle.carte_formula.specs.Tree.{Op, Level, level_of, rank, Func, Tree, ref, chain, Arg, Term, steps_of, Arity, many, between, arity, enough_in, room_in, takes_ranges, called_tree, Token, op, rpar, comma, colon}
+use Rattle.carte_tree.specs.Tree.{level_of, rank, Tree, ref, chain, Arg, Term, steps_of, Arity, many, between, arity, enough_in, room_in, takes_ranges, called_tree}
+use Rattle.carte_formula.specs.Tokens.{Op, Level, Func, Token, op, rpar, comma, colon}
 use Rattle.carte_formula.specs.Grammar.{Counts, Spells, unary, single, chained, Repeats, none, more, Unary, primary, negated, posited, Primary, a_number, a_text, a_word, a_cell, a_call, a_group, Argument, formula, range, Arguments, last, next}
 use Rattle.carte_formula.specs.Machine.{Frame, sign, chain_at, group, args, wants, had, corner, after, cell_at, joined, grown, end_args, next_args, parsed, with}
 

@@ -3,7 +3,8 @@ use Rattle.std.proofs.Common.{ℕ, List, true, ◌≡◌, ◌≤◌, min, max, r
 use Rattle.carte_value.specs.Names.{is_cell_name}
 use Rattle.carte_value.specs.Areas.{area_of, cell_at, column_of, row_of, IsPlace, IsArea}
 use Rattle.carte_value.proofs.Places.{place_within, at_is_cell, column_at, row_at}
-use Rattle.carte_formula.specs.Tree.{Area, first_corner, last_corner}
+use Rattle.carte_tree.specs.Tree.{first_corner, last_corner}
+use Rattle.carte_formula.specs.Tokens.{Area}
 
 least_place : (c r d s : ℕ) → IsPlace c r → IsPlace d s → IsPlace (min c d) (min r s)
 least_place c r d s h k =

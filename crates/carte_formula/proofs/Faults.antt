@@ -2,7 +2,8 @@
 use Rattle.std.proofs.Common.{ℕ, zero, suc, Bool, true, false, List, [], ◌∷◌, ◌++◌, length, take, ◌≡◌, ◌≤◌, ◌<◌, ◌⊎◌, inl, inr, Option, Some, None, Result, Err, if◌then◌else◌, refl, sym, ◌∙◌, ap, append_assoc, length-append, arith, nat_lt, ◌==◌}
 use Rattle.std.proofs.lemmas.Bool.{ltb-true, ltb-false}
 use Rattle.std.proofs.lemmas.List.{append-nil, take-append-le, take_all}
-use Rattle.carte_formula.specs.Tree.{Op, sub, add, Level, level_of, rank, Func, Tree, number, text, ref, chain, Arg, one, cells, Term, steps_of, arity, enough_in, room_in, takes_ranges, called_tree, signed, Token, digits, quoted, word, cell, func, op, lpar, rpar, comma, colon}
+use Rattle.carte_tree.specs.Tree.{level_of, rank, Tree, number, text, ref, chain, Arg, one, cells, Term, steps_of, arity, enough_in, room_in, takes_ranges, called_tree, signed}
+use Rattle.carte_formula.specs.Tokens.{Op, sub, add, Level, Func, Token, digits, quoted, word, cell, func, op, lpar, rpar, comma, colon}
 use Rattle.carte_formula.specs.Machine.{Frame, sign, chain_at, group, args, State, wants, had, named, corner, half, ranged, after, cell_at, sign_at, begin, joined, close, split, grown, go_on, next_state, end_of, parsed, moved, with}
 use Rattle.carte_formula.specs.Reading.{FormulaFault, TooDeep, Placed, tokens_of, dropped, closed, Round, round_step, rounds, around, Shallow, ReadAs, depth_of, depth, or_syntax, deeper, tokens_read}
 use Rattle.carte_formula.proofs.Complete.{Fits, complete}

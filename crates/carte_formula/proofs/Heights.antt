@@ -3,10 +3,12 @@ use Rattle.std.proofs.Common.{ℕ, pos, zero, suc, Bool, true, false, List, [], 
 use Rattle.std.proofs.lemmas.Bool.{lt-ltb, ltb-true}
 use Rattle.std.proofs.lemmas.List.{append-nil}
 use Rattle.carte_value.specs.Names.{is_upper}
-use Rattle.carte_formula.specs.Tree.{Level, rank, Func, Tree, number, text, ref, neg, chain, call, Steps, no_step, step, Args, no_arg, arg, Arg, one, cells, Term, steps_of, args_of, is_if, Token, op, rpar, comma}
+use Rattle.carte_tree.specs.Tree.{rank, Tree, number, text, ref, neg, chain, call, Steps, no_step, step, Args, no_arg, arg, Arg, one, cells, Term, steps_of, args_of, is_if}
+use Rattle.carte_formula.specs.Tokens.{Level, Func, Token, op, rpar, comma}
 use Rattle.carte_formula.specs.Grammar.{Spells, unary, single, chained, Repeats, none, more, Unary, primary, negated, posited, Primary, a_number, a_text, a_word, a_cell, a_call, a_group, Argument, formula, range, Arguments, last, next}
 use Rattle.carte_formula.specs.Reading.{dropped, Round, round_step, rounds, Shallow}
-use Rattle.carte_formula.specs.Print.{name_by, tight, bracketed, shown, steps_shown, args_shown, later_shown, arg_shown}
+use Rattle.carte_formula.specs.Print.{name_by, bracketed, shown, steps_shown, args_shown, later_shown, arg_shown}
+use Rattle.carte_tree.specs.Printed.{tight}
 use Rattle.carte_formula.proofs.Again.{bare, Filled}
 
 -- at no token, from a round on, stands more than 64 round what follows

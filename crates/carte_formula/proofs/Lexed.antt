@@ -6,7 +6,7 @@ use Rattle.std.proofs.lemmas.Bool.{ltb-true, leb-true}
 use Rattle.carte_value.specs.Names.{is_rule_name, is_cell_name, is_digit, is_lower, is_upper, is_letter, is_name_byte}
 use Rattle.carte_value.specs.declared.kind.Kind.{Kind}
 use Rattle.carte_value.specs.declared.kind.Kind.TheVariants.{Rules, Sheet}
-use Rattle.carte_formula.specs.Tree.{eq, add, sub, mul, div, join, Func, Token, digits, quoted, word, cell, op, lpar, rpar, comma, colon}
+use Rattle.carte_formula.specs.Tokens.{eq, add, sub, mul, div, join, Func, Token, digits, quoted, word, cell, op, lpar, rpar, comma, colon}
 use Rattle.carte_formula.specs.Print.{OfKind, AllOfKind}
 use Rattle.carte_formula.specs.Reading.{Placed, tokens_of}
 use Rattle.carte_formula.specs.Lexer.{Class, numeral, small, capitals, letters, less, greater, inside, closing, Start, blank, single, begins, wrong, is_blank, sign_of, start_of, low_class, high_class, grown_run, going_on, token_of, func_token, func_of, quoted_text, Pending, idle, run, before, emit, from_start, from_run, lexed}

@@ -9,11 +9,12 @@ use Rattle.std.proofs.lemmas.List.{append-nil, take-append-le, take_all}
 use Rattle.carte_value.specs.Names.{is_rule_name, is_cell_name, is_digit, is_lower, is_upper, is_letter, is_name_byte}
 use Rattle.carte_value.specs.declared.kind.Kind.{Kind}
 use Rattle.carte_value.specs.declared.kind.Kind.TheVariants.{Rules, Sheet}
-use Rattle.carte_formula.specs.Tree.{Op, eq, ne, lt, le, gt, ge, join, add, sub, mul, div, Func, Token, digits, quoted, word, cell, func, op, lpar, rpar, comma, colon}
-use Rattle.carte_formula.specs.declared.expr.Func.TheVariants as functions
+use Rattle.carte_formula.specs.Tokens.{Op, eq, ne, lt, le, gt, ge, join, add, sub, mul, div, Func, Token, digits, quoted, word, cell, func, op, lpar, rpar, comma, colon}
+use Rattle.carte_tree.specs.declared.expr.Func.TheVariants as functions
 use Rattle.carte_formula.specs.Print.{OfKind, AllOfKind}
 use Rattle.carte_formula.specs.Reading.{Placed, tokens_of}
-use Rattle.carte_formula.specs.Lexer.{Class, numeral, small, capitals, letters, less, greater, inside, closing, Start, begins, start_of, low_class, high_class, grown_run, going_on, token_of, func_name, sheet_token, quoted_text, unpaired, Pending, idle, run, before, emit, from_start, from_run, lexed, doubled, token_bytes, text_of}
+use Rattle.carte_formula.specs.Lexer.{Class, numeral, small, capitals, letters, less, greater, inside, closing, Start, begins, start_of, low_class, high_class, grown_run, going_on, token_of, sheet_token, quoted_text, unpaired, Pending, idle, run, before, emit, from_start, from_run, lexed, token_bytes, text_of}
+use Rattle.carte_tree.specs.Printed.{func_name, doubled}
 use Rattle.carte_formula.proofs.Bytes.{and_both, and_left, and_right, or_true, within, below, above, decimal_all, decimal_value, decimal_some, first_rest, is_cell_byte, cell_parts, cell_raised, rule_parts}
 use Rattle.carte_formula.proofs.Clear.{Closing, Opening, Bracket, Clear, AllClear}
 

@@ -20,5 +20,3 @@ pub mod Unpaired
 pub mod Taking
 pub mod Formulas
 pub mod ReadWhole
-pub mod Parts
-pub mod Once

@@ -2,7 +2,8 @@
 use Rattle.std.proofs.Common.{ℕ, List, [], ◌∷◌, ◌++◌, length, take, ◌≡◌, ◌≤◌, ◌<◌, ◌+◌, Option, Some, None, Result, Ok, Err, refl, sym, ◌∙◌, ap, append_assoc, length-append, arith}
 use Rattle.std.proofs.lemmas.Bool.{le-ltb, lt-ltb}
 use Rattle.std.proofs.lemmas.List.{append-nil, take-append-le, take_all}
-use Rattle.carte_formula.specs.Tree.{Tree, Token}
+use Rattle.carte_tree.specs.Tree.{Tree}
+use Rattle.carte_formula.specs.Tokens.{Token}
 use Rattle.carte_formula.specs.Grammar.{Spells, Viable}
 use Rattle.carte_formula.specs.Machine.{State, wants, next_state, end_of, parsed, moved, with}
 use Rattle.carte_formula.specs.Reading.{FormulaFault, BadToken, BadSyntax, TooDeep, TooLong, TooWide, NoMemory, Placed, tokens_of, around, Shallow, SyntaxAt, DeepAt, ReadAs, depth, or_syntax, deeper, tokens_read}

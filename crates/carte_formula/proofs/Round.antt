@@ -2,13 +2,13 @@
 use Rattle.std.proofs.Common.{ℕ, List, [], length, ◌≡◌, ◌≤◌, ◌+◌, Result, Ok, Err, if◌then◌else◌, refl, sym, ◌∙◌, ap, arith, nat_lt}
 use Rattle.std.proofs.lemmas.Bool.{le-ltb, lt-ltb}
 use Rattle.carte_value.specs.declared.kind.Kind.{Kind}
-use Rattle.carte_formula.specs.Tree.{Tree}
+use Rattle.carte_tree.specs.Tree.{Tree}
 use Rattle.carte_formula.specs.Grammar.{Spells}
 use Rattle.carte_formula.specs.Machine.{wants}
 use Rattle.carte_formula.specs.Reading.{FormulaFault, BadToken, BadSyntax, TooDeep, TooLong, TooWide, NoMemory, Placed, tokens_of, tokens_read}
 use Rattle.carte_formula.specs.Print.{shown, AllOfKind}
 use Rattle.carte_formula.specs.Lexer.{idle, lexed, text_of}
-use Rattle.carte_formula.specs.Printed.{printed}
+use Rattle.carte_tree.specs.Printed.{printed}
 use Rattle.carte_formula.specs.Whole.{IsTold, width, with_width, wide_from, Tokens, SpelledBy, Reads}
 use Rattle.carte_formula.proofs.Complete.{complete}
 use Rattle.carte_formula.proofs.Viable.{one_tree}

@@ -3,8 +3,9 @@ use Rattle.std.proofs.Common.{ℕ, zero, suc, Bool, true, false, List, [], ◌�
 use Rattle.std.proofs.lemmas.Bool.{ltb-true, leb-true, eqb-true}
 use Rattle.std.proofs.lemmas.Bool.Decides.{nat_tests}
 use Rattle.std.proofs.lemmas.List.{append-nil}
-use Rattle.carte_formula.specs.Tree.{Op, sub, add, Level, compare, concat, sum, product, level_of, rank, Func, Tree, number, text, ref, chain, Arg, one, cells, Term, steps_of, Arity, many, between, arity, enough_in, room_in, takes_ranges, called_tree, signed, Token, digits, quoted, word, cell, func, op, lpar, rpar, comma, colon}
-use Rattle.carte_formula.specs.declared.expr.Func.TheVariants as functions
+use Rattle.carte_tree.specs.Tree.{level_of, rank, Tree, number, text, ref, chain, Arg, one, cells, Term, steps_of, Arity, many, between, arity, enough_in, room_in, takes_ranges, called_tree, signed}
+use Rattle.carte_formula.specs.Tokens.{Op, sub, add, Level, compare, concat, sum, product, Func, Token, digits, quoted, word, cell, func, op, lpar, rpar, comma, colon}
+use Rattle.carte_tree.specs.declared.expr.Func.TheVariants as functions
 use Rattle.carte_formula.specs.Grammar.{Counts, Spells, unary, single, chained, Repeats, none, more, Unary, primary, negated, posited, a_number, a_text, a_word, a_cell, a_call, a_group, Argument, formula, range, Arguments, last, next}
 use Rattle.carte_formula.specs.Machine.{Frame, sign, chain_at, group, args, State, wants, had, named, corner, half, ranged, after, cell_at, sign_at, begin, joined, close, split, ended, grown, go_on, next_state, end_of, parsed, with}
 use Rattle.carte_formula.proofs.Complete.{Fits}

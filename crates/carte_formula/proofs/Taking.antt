@@ -8,7 +8,7 @@ use Rattle.std.proofs.lemmas.Str.{IsCharBoundary-before_ascii, IsCharBoundary-af
 use Rattle.carte_value.specs.Names.{is_digit, is_lower, is_upper}
 use Rattle.carte_value.specs.declared.kind.Kind.{Kind}
 use Rattle.carte_value.specs.declared.kind.Kind.TheVariants.{Rules, Sheet}
-use Rattle.carte_formula.specs.Tree.{Token, add, sub, mul, div, join, eq, op, lpar, rpar, comma, colon}
+use Rattle.carte_formula.specs.Tokens.{Token, op, lpar, rpar, comma, colon, add, sub, mul, div, join, eq}
 use Rattle.carte_formula.specs.Reading.{FormulaFault, BadToken, BadSyntax, TooDeep, TooLong, TooWide, NoMemory, Placed}
 use Rattle.carte_formula.specs.Lexer.{Class, numeral, small, capitals, letters, less, greater, inside, closing, Start, blank, single, begins, wrong, is_blank, sign_of, start_of, low_class, high_class, idle, run, before, emit, from_start, token_of, lexed}
 use Rattle.carte_formula.specs.Runs.{RunOk, RunsTo}

@@ -3,8 +3,9 @@ use Rattle.std.proofs.Common.{ℕ, pos, zero, suc, true, List, [], ◌∷◌, �
 use Rattle.std.proofs.lemmas.Bool.{le-leb}
 use Rattle.std.proofs.lemmas.Bool.Decides.{nat_tests}
 use Rattle.carte_value.specs.Areas.{area_of}
-use Rattle.carte_formula.specs.Tree.{Func, Area, Tree, number, ref, chain, Arg, one, cells, steps_of, Arity, many, between, arity, enough_in, room_in, called_tree, signed, Token, digits, cell, lpar, rpar, comma}
-use Rattle.carte_formula.specs.declared.expr.Func.TheVariants as functions
+use Rattle.carte_tree.specs.Tree.{Tree, number, ref, chain, Arg, one, cells, steps_of, Arity, many, between, arity, enough_in, room_in, called_tree, signed}
+use Rattle.carte_formula.specs.Tokens.{Func, Area, Token, digits, cell, lpar, rpar, comma}
+use Rattle.carte_tree.specs.declared.expr.Func.TheVariants as functions
 use Rattle.carte_formula.specs.Grammar.{Spells, Viable}
 use Rattle.carte_formula.specs.Machine.{Frame, sign, chain_at, group, args, State, wants, had, named, corner, half, ranged, after, close, split, ended, grown, end_args, next_args, next_state, parsed, moved, with}
 use Rattle.carte_formula.proofs.Complete.{complete}

@@ -1,7 +1,8 @@
 -- Which tokens spell which formula.
 use Rattle.std.specs.Prelude.{ℕ, ℤ, zero, suc, true, List, [], ◌∷◌, ◌++◌, length, ◌≡◌, ◌≤◌}
 use Rattle.carte_value.specs.Areas.{area_of}
-use Rattle.carte_formula.specs.Tree.{Op, sub, add, Level, level_of, rank, Func, Tree, number, text, ref, neg, chain, Arg, one, cells, Term, steps_of, Arity, many, between, arity, takes_ranges, called_tree, Token, digits, quoted, word, cell, func, op, lpar, rpar, comma, colon}
+use Rattle.carte_tree.specs.Tree.{level_of, rank, Tree, number, text, ref, neg, chain, Arg, one, cells, Term, steps_of, Arity, many, between, arity, takes_ranges, called_tree}
+use Rattle.carte_formula.specs.Tokens.{Op, sub, add, Level, Func, Token, digits, quoted, word, cell, func, op, lpar, rpar, comma, colon}
 
 -- so many arguments are right for a function
 abbrev pub Counts : Arity → ℕ → Type 0

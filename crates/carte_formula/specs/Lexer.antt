@@ -6,8 +6,9 @@ use Rattle.std.specs.Str.Parse.{digits_value}
 use Rattle.carte_value.specs.Names.{is_digit, is_lower, is_upper, is_letter, is_name_byte, is_rule_name, is_cell_name}
 use Rattle.carte_value.specs.declared.kind.Kind.{Kind}
 use Rattle.carte_value.specs.declared.kind.Kind.TheVariants.{Rules, Sheet}
-use Rattle.carte_formula.specs.Tree.{Op, eq, ne, lt, le, gt, ge, join, add, sub, mul, div, Func, Token, digits, quoted, word, cell, func, op, lpar, rpar, comma, colon}
-use Rattle.carte_formula.specs.declared.expr.Func.TheVariants as functions
+use Rattle.carte_formula.specs.Tokens.{Op, eq, ne, lt, le, gt, ge, join, add, sub, mul, div, Func, Token, digits, quoted, word, cell, func, op, lpar, rpar, comma, colon}
+use Rattle.carte_tree.specs.Printed.{func_name, op_bytes, text_bytes}
+use Rattle.carte_tree.specs.declared.expr.Func.TheVariants as functions
 pub use Rattle.carte_formula.specs.declared.tokens.Class.{Class}
 pub use Rattle.carte_formula.specs.declared.tokens.Class.TheVariants.{Digits as numeral, Word as small, Capitals as capitals, Letters as letters, Less as less, Greater as greater, Inside as inside, Quote as closing}
 pub use Rattle.carte_formula.specs.declared.tokens.Start.{Start}
@@ -16,24 +17,6 @@ use Rattle.carte_formula.specs.Reading.{Placed}
 
 abbrev pub is_blank : ℕ → Bool
 is_blank b = ((b == 32 || b == 9) || b == 10) || b == 13
-
-abbrev pub func_name : Func → List ℕ
-func_name functions.Sum = codes "SUM"
-func_name functions.Min = codes "MIN"
-func_name functions.Max = codes "MAX"
-func_name functions.Count = codes "COUNT"
-func_name functions.Concat = codes "CONCAT"
-func_name functions.And = codes "AND"
-func_name functions.Or = codes "OR"
-func_name functions.Len = codes "LEN"
-func_name functions.Upper = codes "UPPER"
-func_name functions.Lines = codes "LINES"
-func_name functions.Line = codes "LINE"
-func_name functions.Not = codes "NOT"
-func_name functions.If = codes "IF"
-func_name functions.Pick = codes "PICK"
-func_name functions.Indirect = codes "INDIRECT"
-func_name functions.Gather = codes "GATHER"
 
 abbrev pub funcs : List Func
 funcs = functions.Sum ∷ functions.Min ∷ functions.Max ∷ functions.Count ∷ functions.Concat ∷ functions.And ∷ functions.Or ∷ functions.Len ∷ functions.Upper ∷ functions.Lines ∷ functions.Line ∷ functions.Not ∷ functions.If ∷ functions.Pick ∷ functions.Indirect ∷ functions.Gather ∷ []
@@ -160,29 +143,6 @@ lexed q idle at (b ∷ rest) = from_start (start_of q b) at b (λ p. lexed q p (
 lexed q (run c place bs) at (b ∷ rest) = from_run (grown_run c (length bs) b) c place bs (start_of q b) at b (λ p. lexed q p (at + 1) rest)
 
 -- what is printed
-abbrev pub op_bytes : Op → List ℕ
-op_bytes eq = codes "="
-op_bytes ne = codes "<>"
-op_bytes lt = codes "<"
-op_bytes le = codes "<="
-op_bytes gt = codes ">"
-op_bytes ge = codes ">="
-op_bytes join = codes "&"
-op_bytes add = codes "+"
-op_bytes sub = codes "-"
-op_bytes mul = codes "*"
-op_bytes div = codes " /"
-
-abbrev pub paired_quote : ℕ → List ℕ
-paired_quote b = if b == 34 then codes "\"\"" else b ∷ []
-
-abbrev pub doubled : List ℕ → List ℕ
-doubled [] = []
-doubled (b ∷ k) = paired_quote b ++ doubled k
-
-abbrev pub text_bytes : List ℕ → List ℕ
-text_bytes k = 34 ∷ (doubled k ++ 34 ∷ [])
-
 abbrev pub token_bytes : Token → List ℕ
 token_bytes (digits n) = signed_decimal n
 token_bytes (quoted k) = text_bytes k

@@ -1,6 +1,5 @@
-pub mod Tree
+pub mod Tokens
 pub mod Frames
-pub mod Code
 pub mod Grammar
 pub mod Machine
 pub mod Reading
@@ -10,6 +9,3 @@ pub mod Whole
 pub mod Parser
 pub mod Runs
 pub mod Takes
-pub mod Formula
-pub mod Printed
-pub mod Firsts

@@ -1,7 +1,8 @@
 -- The same, token by token.
 use Rattle.std.specs.Prelude.{ℕ, Bool, true, false, List, [], ◌∷◌, ◌++◌, length, nat_lt, ◌==◌, Option, Some, None, if◌then◌else◌}
 use Rattle.carte_value.specs.Areas.{area_of}
-use Rattle.carte_formula.specs.Tree.{Op, sub, add, Level, level_of, rank, Func, Area, Tree, number, text, ref, chain, Arg, one, cells, Term, steps_of, arity, enough_in, room_in, takes_ranges, called_tree, signed, Token, digits, quoted, word, cell, func, op, lpar, rpar, comma, colon}
+use Rattle.carte_tree.specs.Tree.{level_of, rank, Tree, number, text, ref, chain, Arg, one, cells, Term, steps_of, arity, enough_in, room_in, takes_ranges, called_tree, signed}
+use Rattle.carte_formula.specs.Tokens.{Op, sub, add, Level, Func, Area, Token, digits, quoted, word, cell, func, op, lpar, rpar, comma, colon}
 
 -- what is begun and not ended, newest first
 pub data Frame : Type 0 where

@@ -1,23 +1,16 @@
 -- The machine's states as the code holds them.
 use Rattle.std.specs.Prelude.{ℕ, true, false, nat_lt, List, map, Option, Some, None, Result, Ok, Err, ◌≡◌}
 use Rattle.carte_value.specs.declared.NoMemory.{NoMemory}
-use Rattle.carte_formula.specs.Tree.{Op, Tree, Arg, Term}
-use Rattle.carte_formula.specs.Code.{tree_of, term_of, pairs_of, arg_tree}
+use Rattle.carte_tree.specs.Tree.{Tree}
+use Rattle.carte_tree.specs.Code.{tree_of, terms_of, args_trees}
 use Rattle.carte_formula.specs.Machine.{Frame, sign, chain_at, group, args, State, wants, had, named, corner, half, ranged}
 use Rattle.carte_formula.specs.Reading.{FormulaFault, BadSyntax, TooDeep, NoMemory as OutOfMemory, depth}
-use Rattle.carte_formula.specs.declared.expr.Expr.{Expr}
-use Rattle.carte_formula.specs.declared.expr.Arg.{Arg as CodeArg}
+use Rattle.carte_tree.specs.declared.expr.Expr.{Expr}
 use Rattle.carte_formula.specs.declared.stack.OpenChain.{OpenChain}
 use Rattle.carte_formula.specs.declared.stack.Frame.{Frame as CodeFrame}
 use Rattle.carte_formula.specs.declared.stack.Frame.TheVariants as code
 use Rattle.carte_formula.specs.declared.state.State.{State as CodeState}
 use Rattle.carte_formula.specs.declared.state.State.TheVariants as states
-
-abbrev pub terms_of : List (Op × Expr) → List Term
-terms_of ps = map term_of (pairs_of ps)
-
-abbrev pub args_trees : List CodeArg → List Arg
-args_trees = map arg_tree
 
 abbrev pub open_frame : OpenChain → Frame
 open_frame c = chain_at c.level (tree_of c.first) (terms_of c.steps.items) c.last

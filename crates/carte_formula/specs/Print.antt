@@ -1,10 +1,11 @@
 -- The printed form of a formula, as tokens.
-use Rattle.std.specs.Prelude.{ℕ, pos, negsuc, Bool, true, false, List, [], ◌∷◌, ◌++◌, nat_lt, ◌≡◌, ◌≤◌, ◌<◌, ◌^◌, length, slice_index}
+use Rattle.std.specs.Prelude.{ℕ, pos, negsuc, Bool, true, false, List, [], ◌∷◌, ◌++◌, ◌≡◌, ◌≤◌, ◌<◌, ◌^◌, length, slice_index}
 use Rattle.carte_value.specs.Names.{is_upper, is_rule_name, is_cell_name}
 use Rattle.carte_value.specs.declared.kind.Kind.{Kind}
 use Rattle.carte_value.specs.declared.kind.Kind.TheVariants.{Rules, Sheet}
-use Rattle.carte_formula.specs.Tree.{first_corner, last_corner}
-use Rattle.carte_formula.specs.Tree.{sub, Level, rank, Tree, number, text, ref, neg, chain, call, Steps, no_step, step, Args, no_arg, arg, Arg, one, cells, Token, digits, quoted, word, cell, func, op, lpar, rpar, comma, colon}
+use Rattle.carte_tree.specs.Tree.{first_corner, last_corner, rank, Tree, number, text, ref, neg, chain, call, Steps, no_step, step, Args, no_arg, arg, Arg, one, cells}
+use Rattle.carte_formula.specs.Tokens.{sub, Level, Token, digits, quoted, word, cell, func, op, lpar, rpar, comma, colon}
+use Rattle.carte_tree.specs.Printed.{tight}
 
 -- a cell's name begins with an upper-case letter, a rule's with a lower-case one
 abbrev pub name_by : Bool → List ℕ → Token
@@ -13,11 +14,6 @@ name_by false k = word k
 
 abbrev pub name_token : List ℕ → Token
 name_token k = name_by (is_upper (slice_index k 0)) k
-
--- whether a formula may stand without a bracket where operators of ranks below n may stand
-abbrev pub tight : ℕ → Tree → Bool
-tight n (chain l e ss) = nat_lt (rank l) n
-tight n _ = true
 
 abbrev pub bracketed : Bool → List Token → List Token
 bracketed true ts = ts

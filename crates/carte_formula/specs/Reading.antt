@@ -1,11 +1,12 @@
 -- What reading gives for tokens and their places.
 use Rattle.std.specs.Prelude.{ℕ, Bool, true, false, List, [], ◌∷◌, ◌++◌, length, take, nat_lt, ◌≡◌, ◌≤◌, ◌<◌, ◌+◌, Option, Some, None, Result, Ok, Err, if◌then◌else◌}
-use Rattle.carte_formula.specs.Tree.{Tree, Token, digits, quoted, word, cell, func, op, lpar, rpar, comma, colon}
+use Rattle.carte_tree.specs.Tree.{Tree}
+use Rattle.carte_formula.specs.Tokens.{Token, digits, quoted, word, cell, func, op, lpar, rpar, comma, colon}
 use Rattle.carte_formula.specs.Grammar.{Spells, Viable}
 use Rattle.carte_formula.specs.Machine.{Frame, sign, chain_at, group, args, State, wants, had, named, corner, half, ranged, next_state, end_of}
 pub use Rattle.carte_formula.specs.declared.tokens.Placed.{Placed}
-pub use Rattle.carte_formula.specs.declared.fault.FormulaFault.{FormulaFault}
-pub use Rattle.carte_formula.specs.declared.fault.FormulaFault.TheVariants.{BadToken, BadSyntax, TooDeep, TooLong, TooWide, NoMemory}
+pub use Rattle.carte_tree.specs.declared.fault.FormulaFault.{FormulaFault}
+pub use Rattle.carte_tree.specs.declared.fault.FormulaFault.TheVariants.{BadToken, BadSyntax, TooDeep, TooLong, TooWide, NoMemory}
 
 abbrev pub tokens_of : List Placed → List Token
 tokens_of [] = []

@@ -3,7 +3,7 @@ use Rattle.std.specs.Prelude.{ℕ, List, [], ◌∷◌, ◌++◌, ◌≡◌, ◌
 use Rattle.std.specs.declared.alloc.Global.{Global}
 use Rattle.std.specs.declared.collections.VecDeque.{VecDeque}
 use Rattle.carte_value.specs.declared.kind.Kind.{Kind}
-use Rattle.carte_formula.specs.Tree.{Token}
+use Rattle.carte_formula.specs.Tokens.{Token}
 use Rattle.carte_formula.specs.Reading.{FormulaFault, BadToken, NoMemory, Placed}
 use Rattle.carte_formula.specs.Lexer.{idle, before, lexed}
 

@@ -2,9 +2,10 @@
 use Rattle.std.specs.Prelude.{ℕ, List, [], ◌∷◌, length, ◌≡◌, ◌≤◌, ◌<◌, ◌+◌, Option, Some, None, Result, Ok, Err, nat_lt, if◌then◌else◌}
 use Rattle.carte_value.specs.declared.kind.Kind.{Kind}
 use Rattle.carte_value.specs.Areas.{area_of, size_of}
-use Rattle.carte_formula.specs.Tree.{Tree, Token, cell, colon}
-use Rattle.carte_formula.specs.Code.{tree_of}
-use Rattle.carte_formula.specs.declared.expr.Expr.{Expr}
+use Rattle.carte_tree.specs.Tree.{Tree}
+use Rattle.carte_formula.specs.Tokens.{Token, cell, colon}
+use Rattle.carte_tree.specs.Code.{tree_of}
+use Rattle.carte_tree.specs.declared.expr.Expr.{Expr}
 use Rattle.carte_formula.specs.Grammar.{Spells}
 use Rattle.carte_formula.specs.Reading.{FormulaFault, BadToken, BadSyntax, TooDeep, TooLong, TooWide, NoMemory, Placed, tokens_of, ReadAs}
 use Rattle.carte_formula.specs.Lexer.{idle, lexed}

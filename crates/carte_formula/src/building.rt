@@ -1,31 +1,13 @@
 ghost use Rattle.std.specs.Prelude.{◌≡◌, ◌++◌, ◌∷◌, [], ◌==◌, ◌&&◌, IfOk};
-ghost use Rattle.carte_formula.specs.Tree.{neg, chain, steps_of, signed, call, args_of, filled, is_if, called_tree};
+ghost use Rattle.carte_tree.specs.Tree.{chain, steps_of, signed, call, args_of, filled, is_if, called_tree};
 ghost use Rattle.carte_formula.specs.Machine.{grown};
-ghost use Rattle.carte_formula.specs.Code.{tree_of, chain_tree};
-ghost use Rattle.carte_formula.specs.Parser.{terms_of, args_trees};
+ghost use Rattle.carte_tree.specs.Code.{tree_of, chain_tree, terms_of, args_trees};
 
 use crate::stack::OpenChain;
 use crate::{Arg, Args, Chain, Expr, Func, Level, Op, Rest};
+use carte_tree::{chain_of, neg_of};
 use carte_value::NoMemory;
 use std::alloc::Global;
-
-pub fn neg_of(alloc: Global, operand: Expr) -> Result<Expr, NoMemory>
-    ensures { IfOk result (λ e. tree_of e ≡ neg (tree_of operand)) }
-{
-    match Box::new(alloc, operand) {
-        Ok(operand) => Ok(Expr::Neg(operand)),
-        Err(_) => Err(NoMemory),
-    }
-}
-
-pub fn chain_of(alloc: Global, chain: Chain) -> Result<Expr, NoMemory>
-    ensures { IfOk result (λ e. tree_of e ≡ chain_tree chain) }
-{
-    match Box::new(alloc, chain) {
-        Ok(chain) => Ok(Expr::Chain(chain)),
-        Err(_) => Err(NoMemory),
-    }
-}
 
 /// The operand under a sign: a plus leaves no trace.
 pub fn signed(alloc: Global, minus: bool, operand: Expr) -> Result<Expr, NoMemory>

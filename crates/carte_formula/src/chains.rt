@@ -1,8 +1,8 @@
-ghost use Rattle.std.specs.Prelude.{◌≡◌, ◌≤◌, ◌++◌, ◌∷◌, [], OnOk};
-ghost use Rattle.carte_formula.specs.Tree.{rank, level_of, called_tree};
+ghost use Rattle.std.specs.Prelude.{◌≤◌, ◌≡◌, ◌++◌, ◌∷◌, [], OnOk};
+ghost use Rattle.carte_tree.specs.Tree.{rank, level_of, called_tree};
 ghost use Rattle.carte_formula.specs.Machine.{after, chain_at, joined, close, split, ended, end_args, next_args};
-ghost use Rattle.carte_formula.specs.Code.{tree_of, arg_tree};
-ghost use Rattle.carte_formula.specs.Parser.{frame_of, open_frame, frames_of, args_trees, GoesTo, EndsTo};
+ghost use Rattle.carte_tree.specs.Code.{tree_of, arg_tree, args_trees};
+ghost use Rattle.carte_formula.specs.Parser.{frame_of, open_frame, frames_of, GoesTo, EndsTo};
 
 use crate::building::{call_of, grow, signed, whole_chain, with_arg};
 use crate::operand::{after, put};
@@ -11,34 +11,6 @@ use crate::state::State;
 use crate::{Arg, Expr, Func, Level, Op};
 use carte_value::NoMemory;
 use std::alloc::Global;
-
-impl Op {
-    /// The level of the chain that an operator stands in.
-    pub fn level(self) -> Level
-        ensures { result ≡ level_of self }
-    {
-        match self {
-            Op::Join => Level::Concat,
-            Op::Add | Op::Sub => Level::Sum,
-            Op::Mul | Op::Div => Level::Product,
-            _ => Level::Compare,
-        }
-    }
-}
-
-impl Level {
-    /// How tightly its operators bind: the lower the tighter. This is Excel's order of operators.
-    pub fn rank(self) -> u8
-        ensures { result ≡ rank self }
-    {
-        match self {
-            Level::Product => 0,
-            Level::Sum => 1,
-            Level::Concat => 2,
-            Level::Compare => 3,
-        }
-    }
-}
 
 /// An operator follows an operand: the chains that bind tighter are whole.
 #[cycle(join)]

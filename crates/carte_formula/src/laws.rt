@@ -1,8 +1,8 @@
 //! What is true of texts and formulas at large. Each law is the contract of a function that does nothing.
 ghost use Rattle.std.specs.Prelude.{◌≡◌, ◌≤◌, ℕ, List, Result, Ok, length};
 ghost use Rattle.carte_value.specs.declared.kind.Kind.{Kind};
-ghost use Rattle.carte_formula.specs.Tree.{Tree};
-ghost use Rattle.carte_formula.specs.Printed.{printed};
+ghost use Rattle.carte_tree.specs.Tree.{Tree};
+ghost use Rattle.carte_tree.specs.Printed.{printed};
 ghost use Rattle.carte_formula.specs.Reading.{FormulaFault};
 ghost use Rattle.carte_formula.specs.Whole.{Reads, IsTold, SpelledBy};
 

@@ -6,9 +6,9 @@ ghost use Rattle.carte_formula.specs.Lexer.{token_of, numeral, small, letters, c
 ghost use Rattle.carte_formula.specs.Runs.{RunOk};
 
 use crate::cell::Cell;
-use crate::put::put_byte;
 use crate::tokens::{Class, Token};
 use crate::{Func, Op};
+use carte_tree::put_byte;
 use carte_value::{Name, NameFault, NoMemory, Text};
 use std::alloc::Global;
 
@@ -126,7 +126,7 @@ fn text_token(alloc: Global, run: &str) -> Result<Option<Token>, NoMemory>
     ensures { IfOk result (λ o. o ≡ token_of closing run.now) }
 {
     match unpaired(alloc, &run[1..run.len() - 1]) {
-        Ok(text) => match Text::made(text) {
+        Ok(text) => match Text::made(text)? {
             Some(text) => Ok(Some(Token::Text(text))),
             None => Ok(None),
         },

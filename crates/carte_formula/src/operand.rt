@@ -1,7 +1,7 @@
 ghost use Rattle.std.specs.Prelude.{◌≡◌, ◌∷◌, IfOk};
 ghost use Rattle.carte_formula.specs.Machine.{after, cell_at, begin, sign_at, wants, args};
-ghost use Rattle.carte_formula.specs.Code.{tree_of};
-ghost use Rattle.carte_formula.specs.Parser.{frame_of, frames_of, state_of, args_trees, GoesTo};
+ghost use Rattle.carte_tree.specs.Code.{tree_of, args_trees};
+ghost use Rattle.carte_formula.specs.Parser.{frame_of, frames_of, state_of, GoesTo};
 
 use crate::building::signed;
 use crate::cell::Cell;

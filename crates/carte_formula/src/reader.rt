@@ -1,6 +1,6 @@
 ghost use Rattle.std.specs.Prelude.{[], IfOk};
-ghost use Rattle.carte_formula.specs.Code.{tree_of};
-ghost use Rattle.carte_formula.specs.Formula.{IsExpr, HasNames};
+ghost use Rattle.carte_tree.specs.Code.{tree_of};
+ghost use Rattle.carte_tree.specs.Formula.{IsExpr, HasNames};
 ghost use Rattle.carte_formula.specs.Machine.{wants};
 ghost use Rattle.carte_formula.specs.Parser.{ReadsTo};
 ghost use Rattle.carte_formula.specs.Reading.{tokens_read};

@@ -1,6 +1,6 @@
 ghost use Rattle.carte_formula.specs.Machine.{go_on, at_name, at_corner, at_half, at_range, next_state, end_of};
-ghost use Rattle.carte_formula.specs.Code.{tree_of};
-ghost use Rattle.carte_formula.specs.Parser.{frames_of, args_trees, state_of, GoesTo, OptionGoesTo, EndsTo};
+ghost use Rattle.carte_tree.specs.Code.{tree_of, args_trees};
+ghost use Rattle.carte_formula.specs.Parser.{frames_of, state_of, GoesTo, OptionGoesTo, EndsTo};
 
 use crate::cell::Cell;
 use crate::chains::{close, end, end_args, join, next_args, split};

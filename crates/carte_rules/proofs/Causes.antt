@@ -3,9 +3,9 @@ use Rattle.std.proofs.Common.{ℕ, Bool, true, false, cond, List, length, nat_lt
 use Rattle.std.specs.FinMap.{get, insert, empty, entries}
 use Rattle.toml.specs.Data.{Data, string, integer, float, boolean, datetime, array, table, Members, no_members, member, as_str}
 use Rattle.carte_value.specs.Names.{is_rule_name, name_eq}
-use Rattle.carte_formula.specs.Tree.{Tree}
-use Rattle.carte_formula.specs.declared.fault.FormulaFault.{FormulaFault}
-use Rattle.carte_formula.specs.declared.fault.FormulaFault.TheVariants.{BadToken, BadSyntax, TooDeep, TooLong, TooWide, NoMemory}
+use Rattle.carte_tree.specs.Tree.{Tree}
+use Rattle.carte_tree.specs.declared.fault.FormulaFault.{FormulaFault}
+use Rattle.carte_tree.specs.declared.fault.FormulaFault.TheVariants.{BadToken, BadSyntax, TooDeep, TooLong, TooWide, NoMemory}
 use Rattle.carte_formula.specs.Whole.{IsTold}
 use Rattle.carte_book.specs.Book.{Book, input, rule}
 use Rattle.carte_book.specs.declared.fault.BookFault.{BookFault}

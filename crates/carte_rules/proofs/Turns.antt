@@ -2,7 +2,7 @@
 use Rattle.std.proofs.Common.{◌≡◌, ℕ, List, Result, Ok, refl, sym, subst}
 use Rattle.std.specs.FinMap.{insert}
 use Rattle.toml.specs.Data.{Data, Members, no_members, member}
-use Rattle.carte_formula.specs.Tree.{Tree}
+use Rattle.carte_tree.specs.Tree.{Tree}
 use Rattle.carte_book.specs.Book.{rule}
 use Rattle.carte_book.specs.declared.fault.BookFault.{BookFault}
 use Rattle.carte_rules.specs.Reading.{Content, input_into, inputs_into, RuleAt, RulesInto}

@@ -6,8 +6,8 @@ use Rattle.carte_value.specs.declared.kind.Kind.TheVariants.{Rules}
 use Rattle.carte_value.specs.declared.value.Value.{Value}
 use Rattle.carte_value.specs.declared.value.Value.TheVariants.{Number, Text}
 use Rattle.carte_value.specs.Names.{name_cmp, is_rule_name}
-use Rattle.carte_formula.specs.Tree.{Tree}
-use Rattle.carte_formula.specs.declared.fault.FormulaFault.{FormulaFault}
+use Rattle.carte_tree.specs.Tree.{Tree}
+use Rattle.carte_tree.specs.declared.fault.FormulaFault.{FormulaFault}
 use Rattle.carte_formula.specs.Whole.{Reads, IsTold}
 use Rattle.carte_book.specs.Book.{Item, input, rule, Book, book_view}
 use Rattle.carte_book.specs.declared.book.Book.{Book as CodeBook}

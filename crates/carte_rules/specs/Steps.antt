@@ -2,8 +2,8 @@
 use Rattle.std.specs.Prelude.{ℕ, ◌≡◌, List, Result, Ok, Err}
 use Rattle.std.specs.FinMap.{insert}
 use Rattle.toml.specs.Data.{Data, Members}
-use Rattle.carte_formula.specs.Tree.{Tree}
-use Rattle.carte_formula.specs.declared.fault.FormulaFault.TheVariants.{NoMemory as NoFormulaMemory}
+use Rattle.carte_tree.specs.Tree.{Tree}
+use Rattle.carte_tree.specs.declared.fault.FormulaFault.TheVariants.{NoMemory as NoFormulaMemory}
 use Rattle.carte_book.specs.Book.{rule, Book, book_view}
 use Rattle.carte_book.specs.declared.book.Book.{Book as CodeBook}
 use Rattle.carte_book.specs.declared.fault.BookFault.{BookFault}

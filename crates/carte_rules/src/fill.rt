@@ -2,8 +2,8 @@ ghost use Rattle.std.specs.Prelude.{◌≡◌, ◌↔◌, ◌≤◌, None, is_so
 ghost use Rattle.std.specs.FinMap.{empty, get, insert, entries};
 ghost use Rattle.carte_value.specs.declared.kind.Kind.TheVariants.{Rules};
 ghost use Rattle.carte_value.specs.Names.{is_rule_name};
-ghost use Rattle.carte_formula.specs.Code.{tree_of};
-ghost use Rattle.carte_formula.specs.Formula.{IsExpr, HasNames};
+ghost use Rattle.carte_tree.specs.Code.{tree_of};
+ghost use Rattle.carte_tree.specs.Formula.{IsExpr, HasNames};
 ghost use Rattle.carte_book.specs.Book.{Item, input, rule, book_view};
 ghost use Rattle.carte_rules.specs.Drafts.{Holds, items_of};
 ghost use Rattle.carte_rules.specs.Reading.{Content, book_of};
@@ -11,7 +11,7 @@ ghost use Rattle.carte_rules.specs.Steps.{Gives};
 
 use crate::draft::Draft;
 use carte_book::{AddFault, Book, BookFault, Looked, Which};
-use carte_formula::Expr;
+use carte_tree::Expr;
 use carte_value::{Kind, Name, NoMemory, Value};
 use std::alloc::Global;
 use std::collections::BTreeSet;

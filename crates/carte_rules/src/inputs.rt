@@ -1,4 +1,4 @@
-ghost use Rattle.std.specs.Prelude.{◌≡◌, None};
+ghost use Rattle.std.specs.Prelude.{◌≡◌, None, IfOk};
 ghost use Rattle.std.specs.FinMap.{empty, get};
 ghost use Rattle.toml.specs.View.{view, table_view};
 ghost use Rattle.carte_rules.specs.Drafts.{Holds};
@@ -8,7 +8,7 @@ ghost use Rattle.carte_rules.specs.Steps.{Leaves};
 use crate::draft::Draft;
 use crate::names::name_of;
 use carte_book::BookFault;
-use carte_value::{Text, Value};
+use carte_value::{NoMemory, Text, Value};
 use std::alloc::Global;
 use toml::Table;
 
@@ -34,25 +34,26 @@ fn read_input(
 {
     match name_of(alloc, key) {
         Ok(name) => match value_of(value) {
-            Some(value) => match draft.add_input(name, value) {
+            Ok(Some(value)) => match draft.add_input(name, value) {
                 Ok(()) => Ok(()),
                 Err(_) => Err(BookFault::NoMemory),
             },
-            None => Err(BookFault::BadValue(name)),
+            Ok(None) => Err(BookFault::BadValue(name)),
+            Err(_) => Err(BookFault::NoMemory),
         },
         Err(fault) => Err(fault),
     }
 }
 
-fn value_of(value: toml::Value) -> Option<Value>
-    ensures { result ≡ value_of (view value) }
+fn value_of(value: toml::Value) -> Result<Option<Value>, NoMemory>
+    ensures { IfOk result (λ found. found ≡ value_of (view value)) }
 {
     match value {
-        toml::Value::Integer(number) => Some(Value::Number(number)),
-        toml::Value::String(text) => match Text::made(text) {
-            Some(text) => Some(Value::Text(text)),
-            None => None,
+        toml::Value::Integer(number) => Ok(Some(Value::Number(number))),
+        toml::Value::String(text) => match Text::made(text)? {
+            Some(text) => Ok(Some(Value::Text(text))),
+            None => Ok(None),
         },
-        _ => None,
+        _ => Ok(None),
     }
 }

@@ -4,14 +4,14 @@ use Rattle.std.proofs.Math.Seq.{drop-append-add}
 use Rattle.carte_value.specs.declared.kind.Kind.{Kind}
 use Rattle.carte_value.specs.declared.value.Value.{Value}
 use Rattle.carte_value.specs.Asks.{Asks, done, and_then}
-use Rattle.carte_formula.specs.Tree.{Tree, number, text, ref, neg, chain, call, Steps, no_step, step, Args, no_arg, arg, Arg, one, cells}
-use Rattle.carte_formula.specs.declared.expr.Func.{Func}
-use Rattle.carte_formula.specs.declared.expr.Func.TheVariants as f
-use Rattle.carte_meaning.specs.Applied.{condition, negated, applied, called}
+use Rattle.carte_tree.specs.Tree.{Tree, number, text, ref, neg, chain, call, Steps, no_step, step, Args, no_arg, arg, Arg, one, cells}
+use Rattle.carte_tree.specs.declared.expr.Func.{Func}
+use Rattle.carte_tree.specs.declared.expr.Func.TheVariants as f
+use Rattle.carte_tree.specs.Applied.{condition, negated, applied, called}
 use Rattle.carte_value.specs.Areas.{cells_of}
-use Rattle.carte_meaning.specs.Found.{name_in, names_in}
-use Rattle.carte_meaning.specs.Texts.{joined}
-use Rattle.carte_meaning.specs.Meaning.{asks, asks_steps, asks_args, asks_arg, asks_all, branched, looked_up, gathered}
+use Rattle.carte_tree.specs.Found.{name_in, names_in}
+use Rattle.carte_tree.specs.Texts.{joined}
+use Rattle.carte_tree.specs.Meaning.{asks, asks_steps, asks_args, asks_arg, asks_all, branched, looked_up, gathered}
 use Rattle.carte_task.specs.declared.code.Instr.{Instr}
 use Rattle.carte_task.specs.declared.code.Instr.TheVariants as i
 use Rattle.carte_task.specs.Code.{newest, below, put, first_of, top, tested, indirected, gathering, exec}

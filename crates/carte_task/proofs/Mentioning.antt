@@ -2,9 +2,9 @@
 use Rattle.std.proofs.Common.{◌≡◌, ℕ, true, List, [], ◌∷◌, ◌++◌, refl, ap, sym, ◌∙◌, append_assoc, append-nil}
 use Rattle.carte_value.specs.declared.kind.Kind.{Kind}
 use Rattle.carte_value.specs.Areas.{cells_of}
-use Rattle.carte_formula.specs.Tree.{Tree, number, text, ref, neg, chain, call, Steps, no_step, step, Args, no_arg, arg, Arg, one, cells}
-use Rattle.carte_formula.specs.declared.expr.Func.TheVariants as f
-use Rattle.carte_formula.specs.Formula.{is_static_tree, mentions, steps_mentions, args_mentions, arg_mentions}
+use Rattle.carte_tree.specs.Tree.{Tree, number, text, ref, neg, chain, call, Steps, no_step, step, Args, no_arg, arg, Arg, one, cells}
+use Rattle.carte_tree.specs.declared.expr.Func.TheVariants as f
+use Rattle.carte_tree.specs.Formula.{is_static_tree, mentions, steps_mentions, args_mentions, arg_mentions}
 use Rattle.carte_task.specs.declared.code.Instr.{Instr}
 use Rattle.carte_task.specs.declared.code.Instr.TheVariants as i
 use Rattle.carte_task.specs.declared.task.Task.{Task}

@@ -5,11 +5,11 @@ use Rattle.carte_value.specs.declared.value.Value.{Value}
 use Rattle.carte_value.specs.Truths.{Truth, Among}
 use Rattle.carte_value.specs.Asks.{Asks, done, ask, run, asked, asked_on, answered}
 use Rattle.carte_value.proofs.Firsts.{among_firsts}
-use Rattle.carte_formula.specs.Tree.{Tree}
-use Rattle.carte_formula.specs.Formula.{refs_of, is_static_tree}
-use Rattle.carte_meaning.specs.InTurn.{HasAll, until}
-use Rattle.carte_meaning.specs.Meaning.{asks, fetched}
-use Rattle.carte_meaning.specs.Laws.{StaticEnds, StaticNeeds}
+use Rattle.carte_tree.specs.Tree.{Tree}
+use Rattle.carte_tree.specs.Formula.{refs_of, is_static_tree}
+use Rattle.carte_tree.specs.InTurn.{HasAll, until}
+use Rattle.carte_tree.specs.Meaning.{asks, fetched}
+use Rattle.carte_tree.specs.Laws.{StaticEnds, StaticNeeds}
 use Rattle.carte_task.specs.declared.effect.Halt.{Halt}
 use Rattle.carte_task.specs.declared.effect.Halt.TheVariants.{Stop, NoMemory}
 use Rattle.carte_task.specs.declared.static_task.StaticTask.{StaticTask}

@@ -5,15 +5,15 @@ use Rattle.std.proofs.Math.Dec.{eqb-suc-zero, eqb-zero-suc, eqb-suc-suc}
 use Rattle.std.proofs.lemmas.List.{take_more, map-append, take-append-drop}
 use Rattle.std.proofs.Math.ListN.{drop_of_length-le}
 use Rattle.std.specs.List.{list_all}
-use Rattle.carte_formula.specs.Tree.{Tree, call, Args, no_arg, arg, Arg, one, cells, Term, steps_of, args_of}
-use Rattle.carte_formula.specs.Code.{arg_tree, args_tree, rest_steps, tree_of, term_of, pairs_of}
-use Rattle.carte_formula.specs.declared.expr.Expr.{Expr}
-use Rattle.carte_formula.specs.declared.expr.Op.{Op}
-use Rattle.carte_formula.specs.declared.expr.Arg.{Arg as CodeArg}
-use Rattle.carte_formula.specs.declared.expr.Args.{Args as CodeArgs, the_lemmas}
-use Rattle.carte_formula.specs.declared.expr.Rest.{Rest}
-use Rattle.carte_formula.specs.declared.expr.Func.{Func}
-use Rattle.carte_formula.specs.declared.expr.Func.TheVariants as f
+use Rattle.carte_tree.specs.Tree.{Tree, call, Args, no_arg, arg, Arg, one, cells, Term, steps_of, args_of}
+use Rattle.carte_tree.specs.Code.{arg_tree, args_tree, rest_steps, tree_of, term_of, pairs_of}
+use Rattle.carte_tree.specs.declared.expr.Expr.{Expr}
+use Rattle.carte_tree.specs.declared.expr.Op.{Op}
+use Rattle.carte_tree.specs.declared.expr.Arg.{Arg as CodeArg}
+use Rattle.carte_tree.specs.declared.expr.Args.{Args as CodeArgs, the_lemmas}
+use Rattle.carte_tree.specs.declared.expr.Rest.{Rest}
+use Rattle.carte_tree.specs.declared.expr.Func.{Func}
+use Rattle.carte_tree.specs.declared.expr.Func.TheVariants as f
 use Rattle.carte_task.specs.declared.code.Instr.{Instr}
 use Rattle.carte_task.specs.declared.code.Instr.TheVariants as i
 use Rattle.carte_task.specs.declared.postfix.Form.{Form}

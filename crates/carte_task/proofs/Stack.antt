@@ -4,7 +4,7 @@ use Rattle.std.proofs.Math.Path.{fun_ext}
 use Rattle.std.proofs.Math.Seq.{drop-append_seam, take-append_seam}
 use Rattle.carte_value.specs.declared.value.Value.{Value}
 use Rattle.carte_value.specs.Asks.{Asks, done, ask, and_then}
-use Rattle.carte_meaning.specs.Meaning.{asks_all}
+use Rattle.carte_tree.specs.Meaning.{asks_all}
 use Rattle.carte_task.specs.Code.{newest, below, put, pushed}
 use Rattle.carte_task.proofs.Binding.{and_then_assoc, and_then_same, Always, always_then}
 

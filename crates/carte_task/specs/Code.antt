@@ -4,10 +4,10 @@ use Rattle.carte_value.specs.declared.kind.Kind.{Kind}
 use Rattle.carte_value.specs.declared.value.Value.{Value}
 use Rattle.carte_value.specs.declared.value.Value.TheVariants.{Empty}
 use Rattle.carte_value.specs.Asks.{Asks, done, ask}
-use Rattle.carte_meaning.specs.Applied.{condition, negated, applied, called}
+use Rattle.carte_tree.specs.Applied.{condition, negated, applied, called}
 use Rattle.carte_value.specs.Areas.{cells_of}
-use Rattle.carte_meaning.specs.Found.{name_in, names_in}
-use Rattle.carte_meaning.specs.Texts.{joined}
+use Rattle.carte_tree.specs.Found.{name_in, names_in}
+use Rattle.carte_tree.specs.Texts.{joined}
 use Rattle.carte_task.specs.declared.code.Instr.{Instr}
 use Rattle.carte_task.specs.declared.code.Instr.TheVariants as i
 

@@ -1,8 +1,8 @@
 -- The instructions of a formula, in postfix order.
 use Rattle.std.specs.Prelude.{ℕ, ◌+◌, List, [], ◌∷◌, ◌++◌, length}
 use Rattle.carte_value.specs.declared.value.Value.TheVariants.{Number, Text}
-use Rattle.carte_formula.specs.Tree.{Tree, number, text, ref, neg, chain, call, Steps, no_step, step, Args, no_arg, arg, Arg, one, cells}
-use Rattle.carte_formula.specs.declared.expr.Func.TheVariants as f
+use Rattle.carte_tree.specs.Tree.{Tree, number, text, ref, neg, chain, call, Steps, no_step, step, Args, no_arg, arg, Arg, one, cells}
+use Rattle.carte_tree.specs.declared.expr.Func.TheVariants as f
 use Rattle.carte_value.specs.Areas.{cells_of}
 use Rattle.carte_task.specs.declared.code.Instr.{Instr}
 use Rattle.carte_task.specs.declared.code.Instr.TheVariants as i

@@ -1,8 +1,8 @@
 -- How calls are written.
 use Rattle.std.specs.Prelude.{ℕ, zero, suc, Bool, true, false, if◌then◌else◌}
-use Rattle.carte_formula.specs.Tree.{Args, no_arg, arg, Arg, one, cells}
-use Rattle.carte_formula.specs.declared.expr.Func.{Func}
-use Rattle.carte_formula.specs.declared.expr.Func.TheVariants as f
+use Rattle.carte_tree.specs.Tree.{Args, no_arg, arg, Arg, one, cells}
+use Rattle.carte_tree.specs.declared.expr.Func.{Func}
+use Rattle.carte_tree.specs.declared.expr.Func.TheVariants as f
 use Rattle.carte_task.specs.declared.postfix.Form.{Form}
 use Rattle.carte_task.specs.declared.postfix.Form.TheVariants.{Choice, Indirect, Gather, Plain}
 

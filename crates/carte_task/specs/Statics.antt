@@ -5,9 +5,9 @@ use Rattle.carte_value.specs.declared.value.Value.{Value}
 use Rattle.carte_value.specs.Truths.{Truth}
 use Rattle.carte_value.specs.Asks.{Asks, done, run}
 use Rattle.carte_value.specs.Once.{once}
-use Rattle.carte_formula.specs.Tree.{Tree}
-use Rattle.carte_formula.specs.Formula.{refs_of, is_static_tree}
-use Rattle.carte_meaning.specs.Meaning.{asks, eval}
+use Rattle.carte_tree.specs.Tree.{Tree}
+use Rattle.carte_tree.specs.Formula.{refs_of, is_static_tree}
+use Rattle.carte_tree.specs.Meaning.{asks, eval}
 use Rattle.carte_task.specs.declared.effect.Halt.{Halt}
 use Rattle.carte_task.specs.declared.effect.Halt.TheVariants.{Stop, NoMemory}
 use Rattle.carte_task.specs.declared.static_task.StaticTask.{StaticTask}

@@ -3,9 +3,9 @@ use Rattle.std.specs.Prelude.{ℕ, Bool, List, [], ◌≡◌}
 use Rattle.carte_value.specs.declared.kind.Kind.{Kind}
 use Rattle.carte_value.specs.declared.value.Value.{Value}
 use Rattle.carte_value.specs.Asks.{Asks}
-use Rattle.carte_formula.specs.Tree.{Tree}
-use Rattle.carte_meaning.specs.Meaning.{asks}
-use Rattle.carte_formula.specs.Formula.{mentions, is_static_tree}
+use Rattle.carte_tree.specs.Tree.{Tree}
+use Rattle.carte_tree.specs.Meaning.{asks}
+use Rattle.carte_tree.specs.Formula.{mentions, is_static_tree}
 use Rattle.carte_task.specs.declared.task.Task.{Task}
 use Rattle.carte_task.specs.Code.{exec}
 use Rattle.carte_task.specs.Mentions.{mentions_in}

@@ -3,7 +3,7 @@ use Rattle.std.specs.Prelude.{ℕ, List, ◌≡◌, Result, Ok, Err}
 use Rattle.carte_value.specs.declared.kind.Kind.{Kind}
 use Rattle.carte_value.specs.declared.value.Value.{Value}
 use Rattle.carte_value.specs.Asks.{Asks}
-use Rattle.carte_meaning.specs.Texts.{joined}
+use Rattle.carte_tree.specs.Texts.{joined}
 use Rattle.carte_task.specs.declared.code.Instr.{Instr}
 use Rattle.carte_task.specs.declared.code.Next.{Next}
 use Rattle.carte_task.specs.declared.code.Next.TheVariants.{Behind, Joined}

@@ -1,6 +1,6 @@
 ghost use Rattle.std.specs.Prelude.{◌≡◌, IfOk};
 
-use carte_formula::{Func, Op};
+use carte_tree::{Func, Op};
 use carte_value::{Area, Name, NoMemory, Value};
 use std::alloc::Global;
 

@@ -2,15 +2,15 @@
 
 ghost use Rattle.std.specs.Prelude.{◌≡◌, ◌++◌, ◌∷◌, [], OnOk, IfOk, length};
 ghost use Rattle.std.specs.List.{list_all};
-ghost use Rattle.carte_formula.specs.Code.{tree_of, chain_tree, rest_steps, args_tree, arg_tree};
-ghost use Rattle.carte_formula.specs.Tree.{Tree, call as calls, arg, one, no_arg};
+ghost use Rattle.carte_tree.specs.Code.{tree_of, chain_tree, rest_steps, args_tree, arg_tree};
+ghost use Rattle.carte_tree.specs.Tree.{Tree, call as calls, arg, one, no_arg};
 ghost use Rattle.carte_task.specs.Forms.{form_of, are_ones, is_one};
 ghost use Rattle.carte_value.specs.Areas.{cells_of};
 ghost use Rattle.carte_task.specs.Coding.{code_of, code_of_steps, code_of_args, code_of_arg, choice, count, count_arg};
 
 use crate::areas;
 use crate::code::Instr;
-use carte_formula::{Arg, Args, Chain, Expr, Func, Rest};
+use carte_tree::{Arg, Args, Chain, Expr, Func, Rest};
 use carte_value::{NoMemory, Value};
 use std::alloc::Global;
 

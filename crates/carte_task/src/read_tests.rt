@@ -1,9 +1,9 @@
 //! What a caller of static tasks knows of them, who can look at values and knows nothing else.
 
 ghost use Rattle.std.specs.Prelude.{◌≡◌, true};
-ghost use Rattle.carte_formula.specs.Code.{tree_of};
-ghost use Rattle.carte_formula.specs.Formula.{is_static_tree, refs_of};
-ghost use Rattle.carte_meaning.specs.InTurn.{HasAll};
+ghost use Rattle.carte_tree.specs.Code.{tree_of};
+ghost use Rattle.carte_tree.specs.Formula.{is_static_tree, refs_of};
+ghost use Rattle.carte_tree.specs.InTurn.{HasAll};
 ghost use Rattle.carte_task.specs.Sights.{value_seen};
 ghost use Rattle.carte_task.specs.Statics.{IsReadFrom};
 
@@ -11,7 +11,7 @@ use crate::shown::Shown;
 use crate::told::{shown_of, text_of_ended};
 use crate::{Each, Ended, Halt, Look, Runs, Snapshot, Task};
 use carte_formula::{Expr, read};
-use carte_meaning::static_ends;
+use carte_tree::static_ends;
 use carte_value::{Kind, Name, NoMemory};
 use std::alloc::Global;
 use std::test::Fail;

@@ -2,13 +2,13 @@
 
 ghost use Rattle.std.specs.Prelude.{◌≡◌, ℕ, List, None, IfOk, is_ok, if◌then◌else◌};
 ghost use Rattle.carte_value.specs.declared.kind.Kind.{Kind as SomeKind};
-ghost use Rattle.carte_formula.specs.Tree.{Tree};
+ghost use Rattle.carte_tree.specs.Tree.{Tree};
 ghost use Rattle.carte_task.specs.Effects.{SameOwn};
 ghost use Rattle.carte_task.specs.Statics.{StaticRan, Reads, EndsOver, IsOver, IsStaticTaskOf, static_refs, static_key, with_run};
 
 use crate::progress::Progress;
 use crate::{Answers, Effect, Ended, FetchList, Halt, Never, Runs, StaticTask};
-use carte_meaning::static_needs;
+use carte_tree::static_needs;
 use carte_value::{Name, Names, NoMemory, Value, Values};
 use std::alloc::Global;
 

@@ -1,12 +1,12 @@
 ghost use Rattle.std.specs.Prelude.{◌≡◌, ℕ, List, IfOk};
 ghost use Rattle.carte_value.specs.declared.kind.Kind.{Kind as SomeKind};
-ghost use Rattle.carte_formula.specs.Tree.{Tree};
-ghost use Rattle.carte_formula.specs.Code.{tree_of};
+ghost use Rattle.carte_tree.specs.Tree.{Tree};
+ghost use Rattle.carte_tree.specs.Code.{tree_of};
 
 use crate::code::{Instr, copy_of};
 use crate::mentioned::names_in;
 use crate::{StaticTask, postfix};
-use carte_formula::{Expr, is_static};
+use carte_tree::{Expr, is_static};
 use carte_value::{Kind, Name, NoMemory};
 use std::alloc::Global;
 

@@ -1,15 +1,15 @@
 //! What each instruction does to the stack. None of them fetches: they say which names are to be looked up.
 
 ghost use Rattle.std.specs.Prelude.{◌≡◌, ◌++◌, ◌∷◌, [], List, length, IfOk, OnErr, OnOk};
-ghost use Rattle.carte_meaning.specs.Texts.{joined};
+ghost use Rattle.carte_tree.specs.Texts.{joined};
 ghost use Rattle.carte_task.specs.Code.{newest, below, put, top};
 ghost use Rattle.carte_task.specs.Turns.{Applies};
 ghost use Rattle.carte_task.specs.declared.code.Instr.TheVariants as i;
 
 use crate::areas;
 use crate::code::{Instr, Next, Pending};
-use carte_formula::{Func, Op};
-use carte_meaning::{condition, name_in, names_in};
+use carte_tree::{Func, Op};
+use carte_functions::{condition, name_in, names_in};
 use carte_value::{Area, Kind, Name, Names, NoMemory, Value};
 use std::alloc::Global;
 
@@ -144,14 +144,14 @@ fn cells(alloc: Global, kind: Kind, area: Area, values: &Vec<Value>) -> Result<P
 fn negate(alloc: Global, kind: Kind, values: &mut Vec<Value>) -> Result<Pending, NoMemory>
     ensures { Applies kind i.Negate values.old.items values.new.items result }
 {
-    let value = carte_meaning::negate(newest(values, 1));
+    let value = carte_functions::negate(newest(values, 1));
     put_behind(alloc, values, 1, value)
 }
 
 fn operate(alloc: Global, kind: Kind, op: Op, values: &mut Vec<Value>) -> Result<Pending, NoMemory>
     ensures { Applies kind (i.Apply op) values.old.items values.new.items result }
 {
-    match carte_meaning::apply(alloc, op, newest(values, 2)) {
+    match carte_functions::apply(alloc, op, newest(values, 2)) {
         Ok(value) => put_behind(alloc, values, 2, value),
         Err(refused) => Err(refused),
     }
@@ -170,7 +170,7 @@ fn call(
     if args.len() > 4294967295 {
         return Err(NoMemory);
     }
-    match carte_meaning::call(alloc, func, args) {
+    match carte_functions::call(alloc, func, args) {
         Ok(value) => put_behind(alloc, values, count, value),
         Err(refused) => Err(refused),
     }
@@ -269,7 +269,7 @@ pub(crate) fn join(alloc: Global, values: &mut Vec<Value>, count: usize) -> Resu
     ensures ok { OnOk result (values.new.items ≡ put count values.old.items (joined (newest count values.old.items))) }
     ensures err { OnErr result (values.new.items ≡ values.old.items) }
 {
-    match carte_meaning::apply(alloc, Op::Join, newest(values, count)) {
+    match carte_functions::apply(alloc, Op::Join, newest(values, count)) {
         Ok(value) => replace(values, count, value),
         Err(refused) => Err(refused),
     }

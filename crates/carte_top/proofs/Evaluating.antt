@@ -6,11 +6,11 @@ use Rattle.carte_value.specs.declared.NoMemory.{NoMemory}
 use Rattle.carte_value.specs.declared.value.Value.{Value}
 use Rattle.carte_value.specs.Names.{name_cmp}
 use Rattle.carte_value.specs.Truths.{Truth, Among, NoneTwice}
-use Rattle.carte_formula.specs.Tree.{Tree}
-use Rattle.carte_formula.specs.Formula.{refs_of}
-use Rattle.carte_meaning.specs.InTurn.{Each, HasAll}
+use Rattle.carte_tree.specs.Tree.{Tree}
+use Rattle.carte_tree.specs.Formula.{refs_of}
+use Rattle.carte_tree.specs.InTurn.{Each, HasAll}
 use Rattle.carte_value.specs.declared.kind.Kind.{Kind}
-use Rattle.carte_meaning.specs.Meaning.{eval}
+use Rattle.carte_tree.specs.Meaning.{eval}
 use Rattle.carte_task.specs.Ledger.{Ledger}
 use Rattle.carte_task.specs.Outcomes.{Outcome}
 use Rattle.carte_task.specs.Statics.{Reads}

@@ -7,7 +7,7 @@ use Rattle.std.proofs.lemmas.Cmp.{nat_list_cmp_total}
 use Rattle.carte_value.specs.declared.value.Value.{Value}
 use Rattle.carte_value.specs.Names.{name_cmp}
 use Rattle.carte_value.specs.Truths.{Extends}
-use Rattle.carte_formula.specs.Tree.{Tree}
+use Rattle.carte_tree.specs.Tree.{Tree}
 use Rattle.carte_task.specs.Sights.{value_seen}
 use Rattle.carte_book.specs.Book.{Item, input, rule, Book, content, clean}
 use Rattle.carte_book.proofs.Clean.{clean_input, clean_nothing, tied_name}

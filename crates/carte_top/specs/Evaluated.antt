@@ -5,10 +5,10 @@ use Rattle.std.specs.Ordering.{eq_by_cmp}
 use Rattle.carte_value.specs.declared.value.Value.{Value}
 use Rattle.carte_value.specs.Names.{name_cmp}
 use Rattle.carte_value.specs.Truths.{Truth, Among}
-use Rattle.carte_formula.specs.Tree.{Tree}
-use Rattle.carte_formula.specs.Formula.{refs_of, is_static_tree}
-use Rattle.carte_meaning.specs.Meaning.{eval}
-use Rattle.carte_meaning.specs.InTurn.{HasAll}
+use Rattle.carte_tree.specs.Tree.{Tree}
+use Rattle.carte_tree.specs.Formula.{refs_of, is_static_tree}
+use Rattle.carte_tree.specs.Meaning.{eval}
+use Rattle.carte_tree.specs.InTurn.{HasAll}
 use Rattle.carte_task.specs.Ledger.{Ledger}
 use Rattle.carte_task.specs.Statics.{with_run}
 use Rattle.carte_book.specs.Book.{rule, Book, content, clean}

@@ -6,8 +6,8 @@ use Rattle.carte_book.specs.declared.fault.Which.{Which}
 use Rattle.carte_book.specs.declared.fault.Which.TheVariants.{Bytes, Keys, Rows, Columns}
 use Rattle.carte_book.specs.declared.fault.BookFault.{BookFault}
 use Rattle.carte_book.specs.declared.fault.BookFault.TheVariants.{Limit, NotToml, BadTable, BadName, BadValue, Formula, Twice, NotUtf8, NoMemory as BookNoMemory}
-use Rattle.carte_formula.specs.declared.fault.FormulaFault.{FormulaFault}
-use Rattle.carte_formula.specs.declared.fault.FormulaFault.TheVariants.{BadToken, BadSyntax, TooDeep, TooLong, TooWide, NoMemory as FormulaNoMemory}
+use Rattle.carte_tree.specs.declared.fault.FormulaFault.{FormulaFault}
+use Rattle.carte_tree.specs.declared.fault.FormulaFault.TheVariants.{BadToken, BadSyntax, TooDeep, TooLong, TooWide, NoMemory as FormulaNoMemory}
 use Rattle.carte_book.specs.declared.reason.Reason.{Reason}
 use Rattle.carte_book.specs.declared.reason.Reason.TheVariants.{Cycle, Missing, Dynamic}
 use Rattle.carte_top.specs.declared.status.WordsFault.{WordsFault}

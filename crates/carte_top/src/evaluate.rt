@@ -2,10 +2,10 @@ ghost use Rattle.std.specs.Prelude.{◌≡◌, [], true, Some, None, Ok, IfOk, O
 ghost use Rattle.std.specs.BTreeMap.{get};
 ghost use Rattle.carte_value.specs.Names.{name_cmp};
 ghost use Rattle.carte_value.specs.Truths.{NoneTwice};
-ghost use Rattle.carte_formula.specs.Code.{tree_of};
-ghost use Rattle.carte_formula.specs.Formula.{refs_of, is_static_tree};
-ghost use Rattle.carte_meaning.specs.Meaning.{eval};
-ghost use Rattle.carte_meaning.specs.InTurn.{HasAll};
+ghost use Rattle.carte_tree.specs.Code.{tree_of};
+ghost use Rattle.carte_tree.specs.Formula.{refs_of, is_static_tree};
+ghost use Rattle.carte_tree.specs.Meaning.{eval};
+ghost use Rattle.carte_tree.specs.InTurn.{HasAll};
 ghost use Rattle.carte_task.specs.Statics.{with_run, IsStaticTaskOf};
 ghost use Rattle.carte_book.specs.Book.{book_view};
 ghost use Rattle.carte_topo.specs.Orders.{InOrder};
@@ -14,8 +14,7 @@ ghost use Rattle.carte_top.specs.Evaluated.{IsRunnable, Gives, Advances, IsEvalu
 
 use crate::known::Known;
 use carte_book::{Book, Looked};
-use carte_formula::Expr;
-use carte_meaning::static_ends;
+use carte_tree::{Expr, static_ends};
 use carte_task::{Each, Halt, Runs, Snapshot, StaticTask, Task};
 use carte_value::{Kind, Name, NoMemory, Value};
 use std::alloc::Global;

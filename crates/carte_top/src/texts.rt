@@ -6,7 +6,7 @@ ghost use Rattle.carte_top.specs.Texts.{which_text, formula_fault_text, book_fau
 
 use crate::{Status, WordsFault};
 use carte_book::{BookFault, Reason, Which};
-use carte_formula::FormulaFault;
+use carte_tree::FormulaFault;
 use carte_value::{Name, Names, NoMemory, quoted};
 use std::alloc::Global;
 

@@ -2,8 +2,8 @@
 use Rattle.std.proofs.Common.{◌≡◌, ℕ, List, [], ◌∷◌, slice_get, take, suc, zero, ◌+◌, ◌≤◌, length, Option, Some, None, Err, refl, sym, ◌∙◌, subst, inl, inr, ◌⊎◌, add-one, arith}
 use Rattle.std.proofs.lemmas.List.{take_all}
 use Rattle.carte_value.specs.Truths.{Among}
-use Rattle.carte_formula.specs.Formula.{refs_of}
-use Rattle.carte_meaning.specs.Meaning.{fetched}
+use Rattle.carte_tree.specs.Formula.{refs_of}
+use Rattle.carte_tree.specs.Meaning.{fetched}
 use Rattle.carte_book.specs.Book.{Item, input, rule, Book, content, clean}
 use Rattle.carte_book.specs.Needs.{Reaches, target, need, needs, needs_of}
 use Rattle.carte_book.specs.Looked.{HasRules}
@@ -16,7 +16,7 @@ use Rattle.carte_topo.specs.declared.walk.Stop.TheVariants.{Refused, NoMemory, D
 use Rattle.carte_topo.specs.Orders.{IsReady, IsOrder}
 use Rattle.carte_topo.specs.Walk.{Fresh, Path, Done}
 use Rattle.carte_topo.specs.Between.{IsWalk, IsPathFrom, IsBetween, Reached, Reaching, IsStop}
-use Rattle.carte_meaning.proofs.StaticRuns.{static_fetched}
+use Rattle.carte_tree.proofs.StaticRuns.{static_fetched}
 use Rattle.carte_topo.proofs.Stopping.{until_among}
 use Rattle.carte_topo.proofs.Ready.{each_among, ready_rule, ready_kept, ready_clean}
 use Rattle.carte_topo.proofs.Walking.{done_clean}

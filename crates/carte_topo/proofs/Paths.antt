@@ -2,7 +2,7 @@
 use Rattle.std.proofs.Common.{◌≡◌, ℕ, List, [], ◌∷◌, ◌++◌, None, refl, ap, sym, ◌∙◌, inl, inr, ◌⊎◌, append_assoc}
 use Rattle.carte_value.specs.Truths.{Among, NoneTwice}
 use Rattle.carte_value.proofs.Asks.{stop_kept}
-use Rattle.carte_meaning.specs.Meaning.{asks}
+use Rattle.carte_tree.specs.Meaning.{asks}
 use Rattle.carte_book.specs.Book.{Book, content, clean}
 use Rattle.carte_book.specs.Reason.{StuckAt, GoesRound, GoesAstray}
 use Rattle.carte_book.specs.Dynamic.{LeadsToDynamic, refs}

@@ -9,7 +9,7 @@ use Rattle.indexmap.specs.IndexSet.{insert_key}
 use Rattle.carte_value.specs.declared.value.Value.{Value}
 use Rattle.carte_value.specs.Names.{name_cmp, name_eq}
 use Rattle.carte_value.specs.Truths.{Extends, Among, NoneTwice}
-use Rattle.carte_meaning.specs.InTurn.{Each}
+use Rattle.carte_tree.specs.InTurn.{Each}
 use Rattle.carte_book.specs.Book.{Item, input, rule, Book, content, clean}
 use Rattle.carte_book.specs.Needs.{IsRule}
 use Rattle.carte_book.specs.Reason.{IsClean}

@@ -6,11 +6,11 @@ use Rattle.carte_value.specs.Truths.{Truth, Among}
 use Rattle.carte_value.specs.Asks.{asked}
 use Rattle.carte_value.proofs.Asks.{extends_self, stop_open, stop_asked, asked_known}
 use Rattle.carte_value.proofs.Firsts.{among_firsts, firsts_among}
-use Rattle.carte_formula.specs.Tree.{Tree}
-use Rattle.carte_formula.specs.Formula.{refs_of, is_static_tree}
-use Rattle.carte_meaning.specs.Meaning.{asks, eval, fetched}
-use Rattle.carte_meaning.specs.InTurn.{HasAll, until, go_on}
-use Rattle.carte_meaning.proofs.StaticRuns.{static_fetched}
+use Rattle.carte_tree.specs.Tree.{Tree}
+use Rattle.carte_tree.specs.Formula.{refs_of, is_static_tree}
+use Rattle.carte_tree.specs.Meaning.{asks, eval, fetched}
+use Rattle.carte_tree.specs.InTurn.{HasAll, until, go_on}
+use Rattle.carte_tree.proofs.StaticRuns.{static_fetched}
 
 until_has : (t : Truth) (ks : List (List ℕ)) (at : ℕ) (k : List ℕ) → HasAll t (take at ks) → slice_get ks at ≡ Some k → Among (until t ks) k
 until_has t [] at k before here = cc

@@ -4,7 +4,7 @@ use Rattle.carte_value.specs.Truths.{Among}
 use Rattle.carte_value.specs.Asks.{asked}
 use Rattle.carte_value.proofs.Asks.{stop_asked}
 use Rattle.carte_value.proofs.Firsts.{firsts_among}
-use Rattle.carte_meaning.specs.Meaning.{asks}
+use Rattle.carte_tree.specs.Meaning.{asks}
 use Rattle.carte_book.specs.Book.{Book, clean}
 use Rattle.carte_book.specs.Needs.{Reaches, target, need}
 use Rattle.carte_topo.specs.declared.walk.Frame.{Frame}

@@ -3,9 +3,9 @@ use Rattle.std.proofs.Common.{◌≡◌, ℕ, zero, suc, true, List, [], ◌∷�
 use Rattle.std.specs.Result.{result_ok}
 use Rattle.carte_value.specs.declared.value.Value.{Value}
 use Rattle.carte_value.specs.Truths.{Among}
-use Rattle.carte_formula.specs.Formula.{refs_of}
-use Rattle.carte_meaning.specs.InTurn.{HasAll}
-use Rattle.carte_meaning.specs.Meaning.{eval}
+use Rattle.carte_tree.specs.Formula.{refs_of}
+use Rattle.carte_tree.specs.InTurn.{HasAll}
+use Rattle.carte_tree.specs.Meaning.{eval}
 use Rattle.carte_book.specs.Book.{Book, clean}
 use Rattle.carte_book.specs.Needs.{Reaches}
 use Rattle.carte_book.specs.Reason.{IsClean}
@@ -14,7 +14,7 @@ use Rattle.carte_topo.specs.declared.walk.Frame.{Frame}
 use Rattle.carte_topo.specs.Orders.{IsReady, IsNext, InOrder}
 use Rattle.carte_topo.specs.Walk.{Fresh, Path, Done, names, is_ready, part, Entered, Stands, Finishes, Waits}
 use Rattle.carte_topo.specs.Between.{Finished, StopsAt, Chain, Linked, AllStand, EndsWith, IsWalk}
-use Rattle.carte_meaning.proofs.StaticRuns.{static_ends}
+use Rattle.carte_tree.proofs.StaticRuns.{static_ends}
 use Rattle.carte_topo.proofs.Stopping.{stops_there}
 use Rattle.carte_topo.proofs.Ready.{each_map, each_none, among_end, end_among, once_end, put_end, ready_is, ready_kept, is_ready_kept, ready_clean, part_clean, part_open, part_has, same_or_not, taken_elsewhere, still_fresh}
 

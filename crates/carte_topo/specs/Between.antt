@@ -4,9 +4,9 @@ use Rattle.std.specs.BTreeSet.{contains}
 use Rattle.indexmap.specs.IndexSet.{IndexSet}
 use Rattle.carte_value.specs.Names.{name_cmp}
 use Rattle.carte_value.specs.Truths.{Truth, Extends, Among, NoneTwice}
-use Rattle.carte_formula.specs.Tree.{Tree}
-use Rattle.carte_formula.specs.Formula.{refs_of, is_static_tree}
-use Rattle.carte_meaning.specs.Meaning.{eval}
+use Rattle.carte_tree.specs.Tree.{Tree}
+use Rattle.carte_tree.specs.Formula.{refs_of, is_static_tree}
+use Rattle.carte_tree.specs.Meaning.{eval}
 use Rattle.carte_book.specs.Book.{rule, Book, content, clean}
 use Rattle.carte_book.specs.Needs.{IsRule, Reaches}
 use Rattle.carte_book.specs.Reason.{IsReason, IsClean, GoesRound, GoesAstray}

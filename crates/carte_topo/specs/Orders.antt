@@ -2,9 +2,9 @@
 use Rattle.std.specs.Prelude.{ℕ, ◌≡◌, ◌⊎◌, true, List, [], ◌∷◌, ◌++◌, Some, Result, Ok, Err}
 use Rattle.carte_value.specs.declared.value.Value.{Value}
 use Rattle.carte_value.specs.Truths.{Among, NoneTwice}
-use Rattle.carte_formula.specs.Tree.{Tree}
-use Rattle.carte_formula.specs.Formula.{refs_of, is_static_tree}
-use Rattle.carte_meaning.specs.InTurn.{Each}
+use Rattle.carte_tree.specs.Tree.{Tree}
+use Rattle.carte_tree.specs.Formula.{refs_of, is_static_tree}
+use Rattle.carte_tree.specs.InTurn.{Each}
 use Rattle.carte_book.specs.Book.{input, rule, Book, content}
 use Rattle.carte_book.specs.Needs.{IsReachedRule}
 use Rattle.carte_book.specs.Reason.{AllClean}

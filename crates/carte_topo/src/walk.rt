@@ -1,14 +1,14 @@
 ghost use Rattle.std.specs.Prelude.{◌≡◌, ◌<◌, ◌≤◌, ◌∷◌, ◌++◌, [], ℕ, List, length, take, slice_get, Some, true, false, IfOk, IfErr, OnOk};
 ghost use Rattle.indexmap.specs.IndexSet.{insert_key};
 ghost use Rattle.carte_value.specs.Names.{name_eq};
-ghost use Rattle.carte_formula.specs.Code.{tree_of};
+ghost use Rattle.carte_tree.specs.Code.{tree_of};
 ghost use Rattle.carte_book.specs.Book.{rule, book_view, content};
 ghost use Rattle.carte_book.specs.declared.reason.Reason.TheVariants.{Cycle, Missing};
 ghost use Rattle.carte_topo.specs.Walk.{is_ready, AllReady, OpensAt, names, unwound, Refuses, Enters, Turns, Stands};
 ghost use Rattle.carte_topo.specs.Between.{IsBetween, Reaching};
 
 use carte_book::{Book, Looked, Reason};
-use carte_formula::{is_static, refs};
+use carte_tree::{is_static, refs};
 use carte_value::{Name, Names, NoMemory};
 use indexmap::IndexSet;
 use std::alloc::Global;

@@ -1,9 +1,13 @@
 pub mod Asks
 pub mod Firsts
+pub mod Members
+pub mod Agreeing
+pub mod Stops
 pub mod Once
 pub mod Laws
 pub mod Fetches
-pub mod Fronts
+pub mod Prefixes
+pub mod CellPrefixes
 pub mod Places
 pub mod Quotes
 pub mod Sides

@@ -6,7 +6,7 @@ use Rattle.std.proofs.lemmas.Bool.{cases_Bool, cases_lt, and_from, and_parts, or
 use Rattle.std.proofs.lemmas.Fmt.{decimal_is_IsNumeral, length-decimal-le, first_decimal, decimal-digits_value, decimal_digit}
 use Rattle.std.proofs.lemmas.Str.Parse.{IsNumeralModel, numerals_by_value, digits_value_short}
 use Rattle.carte_value.specs.Names.{is_digit, is_upper, is_row, is_cell_name}
-use Rattle.carte_value.proofs.Fronts.{row_first}
+use Rattle.carte_value.proofs.CellPrefixes.{row_first}
 use Rattle.carte_value.specs.Areas.{column_name, cell_at, column_of, row_of, IsPlace}
 
 own : IsNumeralModel (λ ds. list_all is_digit ds ≡ true) (digits_value 10)
@@ -33,14 +33,14 @@ record IsRow (x : List ℕ) : Type 0 where
 
 row_parts : (x : List ℕ) → is_row x ≡ true → IsRow x
 row_parts x row =
-    let front = and_parts (((nat_le 1 (length x) && nat_le (length x) 4) && list_all is_digit x)) (nat_le 49 (slice_index x 0)) row in
-    let counted = and_parts (nat_le 1 (length x) && nat_le (length x) 4) (list_all is_digit x) front.0 in
+    let parts = and_parts (((nat_le 1 (length x) && nat_le (length x) 4) && list_all is_digit x)) (nat_le 49 (slice_index x 0)) row in
+    let counted = and_parts (nat_le 1 (length x) && nat_le (length x) 4) (list_all is_digit x) parts.0 in
     let long = and_parts (nat_le 1 (length x)) (nat_le (length x) 4) counted.0 in
     record {
       digits = counted.1;
       some = leb-true 1 (length x) long.0;
       few = leb-true (length x) 4 long.1;
-      first = leb-true 49 (slice_index x 0) front.1;
+      first = leb-true 49 (slice_index x 0) parts.1;
     }
 
 row_small : (x : List ℕ) → IsRow x → digits_value 10 x < 10 ^ 4

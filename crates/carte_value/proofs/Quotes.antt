@@ -1,8 +1,9 @@
 -- Escaped bytes are read in one way at most.
-use Rattle.std.proofs.Common.{◌≡◌, ℕ, ◌<◌, ◌≤◌, cond, eqb, List, [], ◌∷◌, ◌++◌, length, get_or, refl, ap, sym, ◌∙◌, subst, inl, inr, ◌⊎◌, arith, append_assoc, Option, Some, None, Ok, IsUtf8}
+use Rattle.std.proofs.Common.{◌≡◌, ℕ, ◌<◌, ◌≤◌, cond, eqb, List, [], ◌∷◌, ◌++◌, length, get_or, refl, ap, sym, ◌∙◌, subst, inl, inr, ◌⊎◌, arith, append_assoc, Option, Some, None, Result, Ok, Err, IfOk, IsUtf8}
 use Rattle.std.specs.List.{flat_map}
 use Rattle.std.proofs.lemmas.Bool.{cases_eq}
 use Rattle.std.proofs.lemmas.List.{append_cancel_right}
+use Rattle.carte_value.specs.declared.NoMemory.{NoMemory}
 use Rattle.carte_value.specs.Printed.{escaped, quoted}
 use Rattle.carte_value.specs.Texts.{IsText, IsTextKept}
 use Rattle.carte_value.specs.Reading.{IsPlain, IsTextRead}
@@ -83,10 +84,11 @@ unescaped_none (o ∷ out) rest some none (b ∷ bytes) same =
     unescaped_none out rest some none bytes (escape_same o b (flat_map escaped out ++ rest) (flat_map escaped bytes) (sym (append_assoc (escaped o) (flat_map escaped out) rest) ∙ same)).1
 
 -- the text between the quotes, where it is short enough
-pub text_read : (text body bytes : List ℕ) (made : Option (List ℕ)) → text ≡ 34 ∷ (body ++ 34 ∷ []) → body ≡ flat_map escaped bytes → IsUtf8 bytes → IsTextKept bytes made → IsTextRead text (Ok made)
-text_read text body bytes (Some t) between escaped_is utf8 kept =
+pub text_read : (text body bytes : List ℕ) (made : Result (Option (List ℕ)) NoMemory) → text ≡ 34 ∷ (body ++ 34 ∷ []) → body ≡ flat_map escaped bytes → IsUtf8 bytes → IfOk made (IsTextKept bytes) → IsTextRead text made
+text_read text body bytes (Err e) between escaped_is utf8 kept = tt
+text_read text body bytes (Ok (Some t)) between escaped_is utf8 kept =
     rw kept.0 ((utf8, kept.1), between ∙ ap (λ b. 34 ∷ (b ++ 34 ∷ [])) escaped_is)
-text_read text body bytes None between escaped_is utf8 many = λ t given is.
+text_read text body bytes (Ok None) between escaped_is utf8 many = λ t given is.
     let same : bytes ≡ t = escaped_same bytes t (sym escaped_is ∙ quoted_same body t (sym between ∙ is)) in
     absurd (omega (arith, ap length same, given.1))
 

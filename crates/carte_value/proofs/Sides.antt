@@ -1,48 +1,16 @@
 -- Which cells stand in an area, and that each stands there once.
-use Rattle.std.proofs.Common.{◌≡◌, ℕ, zero, suc, ◌+◌, ◌-◌, ◌<◌, ◌≤◌, List, [], ◌∷◌, ◌++◌, map, refl, ap, sym, ◌∙◌, subst, inl, inr, ◌⊎◌, arith, IsTrue}
+use Rattle.std.proofs.Common.{◌≡◌, ℕ, zero, suc, ◌+◌, ◌-◌, ◌<◌, ◌≤◌, List, map, ap, sym, ◌∙◌, subst, inl, inr, arith, IsTrue}
 use Rattle.std.specs.List.{flat_map, range_with_len}
 use Rattle.std.proofs.lemmas.Bool.{cases_eq}
 use Rattle.carte_value.specs.declared.area.Area.{Area}
 use Rattle.carte_value.specs.Truths.{Among, NoneTwice}
 use Rattle.carte_value.specs.Names.{is_cell_name}
 use Rattle.carte_value.specs.Areas.{cell_at, column_of, row_of, IsPlace, IsArea, row_cells, cells_of, CellsByPlace, EachCellOnce, CellsWithin}
+use Rattle.carte_value.proofs.Members.{among_append, among_left, among_right, apart_append}
 use Rattle.carte_value.proofs.Places.{at_is_cell, column_at, row_at, place_within, cell_again}
 
 pub cells_by_place : CellsByPlace
 cells_by_place = record { cell = at_is_cell; column = column_at; row = row_at; place = place_within; again = cell_again }
-
--- lists of names behind one another
-
-among_append : (xs ys : List (List ℕ)) (k : List ℕ) → Among (xs ++ ys) k → Among xs k ⊎ Among ys k
-among_append [] ys k h = inr h
-among_append (x ∷ xs) ys k h = elim h [
-  | inl same ↦ inl (inl same)
-  | inr later ↦ elim (among_append xs ys k later) [
-    | inl left ↦ inl (inr left)
-    | inr right ↦ inr right
-  ]
-]
-
-among_left : (xs ys : List (List ℕ)) (k : List ℕ) → Among xs k → Among (xs ++ ys) k
-among_left [] ys k h = absurd h
-among_left (x ∷ xs) ys k h = elim h [
-  | inl same ↦ inl same
-  | inr later ↦ inr (among_left xs ys k later)
-]
-
-among_right : (xs ys : List (List ℕ)) (k : List ℕ) → Among ys k → Among (xs ++ ys) k
-among_right [] ys k h = h
-among_right (x ∷ xs) ys k h = inr (among_right xs ys k h)
-
-apart_append : (xs ys : List (List ℕ)) → NoneTwice xs → NoneTwice ys → ((k : List ℕ) → Among xs k → ¬ (Among ys k)) → NoneTwice (xs ++ ys)
-apart_append [] ys none none' apart = none'
-apart_append (x ∷ xs) ys none none' apart = (
-  (λ h. elim (among_append xs ys x h) [
-    | inl left ↦ none.0 left
-    | inr right ↦ apart x (inl refl) right
-  ]),
-  apart_append xs ys none.1 none' (λ k h. apart k (inr h)),
-)
 
 -- one row
 

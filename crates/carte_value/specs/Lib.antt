@@ -1,8 +1,10 @@
 pub mod Names
-pub mod Fronts
+pub mod Prefixes
 pub mod Kinds
 pub mod Truths
+pub mod Lists
 pub mod Asks
+pub mod Runs
 pub mod Once
 pub mod Areas
 pub mod Printed

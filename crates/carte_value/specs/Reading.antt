@@ -11,7 +11,7 @@ use Rattle.carte_value.specs.declared.value.Bad.{Bad}
 use Rattle.carte_value.specs.declared.value.Value.{Value}
 use Rattle.carte_value.specs.declared.value.Value.TheVariants as value
 
--- one or more digits, with a sign in front or without one, whose value fits i64
+-- one or more digits, with a sign before them or without one, whose value fits i64
 abbrev pub IsNumberText : List ℕ → ℤ → Type 0
 IsNumberText text n = IsNumeral 10 (without_leading_sign text) × FitsSigned w64 n × (n ≡ signed_digits_value 10 text)
 

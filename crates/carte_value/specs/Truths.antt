@@ -27,3 +27,7 @@ pub record IsListOf (P : List ℕ → Type 0) (ks : List (List ℕ)) : Type 0 wh
 abbrev pub NoneTwice : List (List ℕ) → Type 0
 NoneTwice [] = Unit {0}
 NoneTwice (k ∷ ks) = ¬ (Among ks k) × NoneTwice ks
+
+-- the name has a value
+abbrev pub HasValue : Truth → List ℕ → Type 0
+HasValue t k = (v : Value) × (t k ≡ Some v)

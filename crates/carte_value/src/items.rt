@@ -4,6 +4,9 @@ use crate::NoMemory;
 use std::alloc::Global;
 use std::marker::Model;
 
+/// The most items that a list has: 2^32 - 1.
+pub const LIST_LIMIT: usize = 4_294_967_295;
+
 /// What `copy` of a list makes of each item.
 pub trait Same: Sized {
     /// A second value that equals this one.
@@ -74,13 +77,11 @@ impl<T: Drop> Items<T> {
     pub fn push(&mut self, item: T) -> Result<(), NoMemory>
         ensures { self.new ≡ (if is_ok result then self.old ++ item ∷ [] else self.old) }
     {
-        if self.items.len() >= 4294967295 {
+        if self.items.len() >= LIST_LIMIT {
             return Err(NoMemory);
         }
-        match self.items.push(item) {
-            Ok(()) => Ok(()),
-            Err(_) => Err(NoMemory),
-        }
+        self.items.push(item)?;
+        Ok(())
     }
 
     /// Puts all items of a later list behind these, in their order. Where there is no room for them, they are dropped and nothing has changed.
@@ -88,13 +89,11 @@ impl<T: Drop> Items<T> {
         ensures { self.new ≡ (if is_ok result then self.old ++ later else self.old) }
     {
         let mut later = later.items;
-        if later.len() > 4294967295 - self.items.len() {
+        if later.len() > LIST_LIMIT - self.items.len() {
             return Err(NoMemory);
         }
-        match self.items.append(&mut later) {
-            Ok(()) => Ok(()),
-            Err(_) => Err(NoMemory),
-        }
+        self.items.append(&mut later)?;
+        Ok(())
     }
 
     /// Drops the items behind the first `len`.
@@ -112,13 +111,7 @@ impl<T: Same + Drop> Items<T> {
     {
         let mut items = Items::new(alloc);
         for item in self.items.iter() {
-            match item.same(alloc) {
-                Ok(item) => match items.push(item) {
-                    Ok(()) => {}
-                    Err(refused) => return Err(refused),
-                },
-                Err(refused) => return Err(refused),
-            }
+            items.push(item.same(alloc)?)?;
         }
         Ok(items)
     }

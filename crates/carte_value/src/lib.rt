@@ -22,6 +22,7 @@
 
 mod area;
 mod area_law;
+mod asks_law;
 mod cell_name;
 mod digest;
 mod items;
@@ -46,18 +47,19 @@ mod value;
 
 pub use area::Area;
 pub use area_law::{cells_by_place, cells_within, each_cell_once};
+pub use asks_law::{grown, stuck_is_last};
 pub use digest::Digest;
-pub use items::{Items, Same};
+pub use items::{Items, LIST_LIMIT, Same};
 pub use kind::Kind;
 pub use link::{Link, Links, Names, Values};
-pub use name::Name;
+pub use name::{NAME_LIMIT, Name};
 pub use name_fault::NameFault;
 pub use printing::quoted;
 pub use reading::read_number;
 pub use reading_law::{one_reading, printed_reads};
 pub use spelling_law::{every_value, one_spelling};
 use std::alloc::{AllocError, AllocFailed};
-pub use text::Text;
+pub use text::{TEXT_LIMIT, Text};
 pub use text_fault::TextFault;
 pub use value::{Bad, Value};
 

@@ -33,12 +33,10 @@ impl Same for Value {
 
 impl Same for Link {
     fn same(&self, alloc: Global) -> Result<Link, NoMemory> {
-        match self.name.copy(alloc) {
-            Ok(name) => Ok(Link {
-                name,
-                digest: self.digest,
-            }),
-            Err(refused) => Err(refused),
-        }
+        let name = self.name.copy(alloc)?;
+        Ok(Link {
+            name,
+            digest: self.digest,
+        })
     }
 }

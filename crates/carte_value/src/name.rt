@@ -1,4 +1,4 @@
-ghost use Rattle.std.specs.Prelude.{◌≡◌, ℕ, Some, refl, IsTrue, IfOk, string_bytes};
+ghost use Rattle.std.specs.Prelude.{◌≡◌, ℕ, Some, refl, IsTrue, IfOk};
 ghost use Rattle.std.proofs.Common.{rules};
 ghost use Rattle.std.specs.Ordering.{nat_cmp};
 ghost use Rattle.std.specs.Hash as fed;
@@ -8,33 +8,40 @@ ghost use Rattle.std.specs.Cmp.Rules.{comparing, hashing};
 ghost use Rattle.carte_value.specs.Names.{name_cmp, name_eq, is_name, is_rule_name, is_cell_name, is_cell_text};
 ghost use Rattle.carte_value.specs.Areas.{cell_at, IsPlace, IsPlaceOf};
 ghost use Rattle.carte_value.specs.Kinds.{is_name_of, is_text_of, name_of};
-ghost use Rattle.carte_value.specs.Fronts.{IsNameRead};
+ghost use Rattle.carte_value.specs.Prefixes.{IsNameRead};
 ghost use Rattle.std.specs.Str.{str_to_ascii_uppercase};
 
 use crate::cell_name::cell_name;
-use crate::name_text::{cell_front, first, is_cell, is_rule, rule_front};
+use crate::name_text::{cell_prefix, first, is_cell, is_name, is_rule, name_prefix, rule_prefix};
 use crate::place::{column, row};
 use crate::{Kind, NameFault, NoMemory};
 use std::alloc::Global;
 use std::cmp::Ordering;
 use std::hash::{Hash, Hasher};
 use std::marker::Model;
+use std::sync::ArcStr;
+
+/// The most bytes that a name of a rule file has.
+pub const NAME_LIMIT: usize = 64;
 
 /// The name of a key: of a rule or an input in a rule file, or of a cell in a sheet.
+///
+/// Its text is shared by its copies, since a name stands in many lists at once: a copy costs a pointer.
 #[derive(Debug, Drop)]
 pub struct Name {
-    text: String,
+    text: ArcStr,
 }
 
 impl Model for Name {
-    ghost use Rattle.std.specs.Prelude.{ℕ, List, IsTrue, string_bytes};
+    ghost use Rattle.std.specs.Prelude.{ℕ, List, IsTrue};
+    ghost use Rattle.std.specs.Arc.{arc_str_bytes};
     ghost use Rattle.carte_value.specs.Names.{is_name};
 
     ghost Value = { List ℕ };
 
-    ghost view = { λ k. string_bytes k.text };
+    ghost view = { λ k. arc_str_bytes k.text };
 
-    ghost invariant = { λ k. IsTrue (is_name (string_bytes k.text)) };
+    ghost invariant = { λ k. IsTrue (is_name (arc_str_bytes k.text)) };
 }
 
 impl Name {
@@ -43,12 +50,10 @@ impl Name {
         ensures { IsNameRead is_rule_name text.now text.now result }
     {
         if !is_rule(text.as_bytes()) {
-            return Err(NameFault::BadName(rule_front(text.as_bytes())));
+            return Err(NameFault::BadName(rule_prefix(text.as_bytes())));
         }
-        match String::from_str(alloc, text) {
-            Ok(text) => Ok(Name { text }),
-            Err(_) => Err(NameFault::NoMemory),
-        }
+        let text = ArcStr::from_str(alloc, text)?;
+        Ok(Name { text })
     }
 
     /// Reads a name of a cell, in either case: A to ZZ, and then a row from 1 to 9999 without leading zeros.
@@ -56,12 +61,21 @@ impl Name {
         ensures { IsNameRead is_cell_text text.now (str_to_ascii_uppercase text.now) result }
     {
         if !is_cell(text.as_bytes()) {
-            return Err(NameFault::BadName(cell_front(text.as_bytes())));
+            return Err(NameFault::BadName(cell_prefix(text.as_bytes())));
         }
-        match text.to_ascii_uppercase(alloc) {
-            Ok(text) => Ok(Name { text }),
-            Err(_) => Err(NameFault::NoMemory),
+        let text = ArcStr::from_string(text.to_ascii_uppercase(alloc)?)?;
+        Ok(Name { text })
+    }
+
+    /// The name whose text is exactly this: a name of a rule file, or a name of a cell in upper case.
+    pub fn exact(alloc: Global, text: &str) -> Result<Name, NameFault>
+        ensures { IsNameRead is_name text.now text.now result }
+    {
+        if !is_name(text.as_bytes()) {
+            return Err(NameFault::BadName(name_prefix(text.as_bytes())));
         }
+        let text = ArcStr::from_str(alloc, text)?;
+        Ok(Name { text })
     }
 
     /// Reads a name of this kind of book.
@@ -79,10 +93,8 @@ impl Name {
         requires { IsPlace column row }
         ensures { IfOk result (λ k. k ≡ cell_at column row) }
     {
-        match cell_name(alloc, column, row) {
-            Ok(text) => Ok(Name { text }),
-            Err(refused) => Err(refused),
-        }
+        let text = ArcStr::from_string(cell_name(alloc, column, row)?)?;
+        Ok(Name { text })
     }
 
     /// The column and the row of a cell, counted from 1.
@@ -128,13 +140,12 @@ impl Name {
         self.text.as_str()
     }
 
-    pub fn copy(&self, alloc: Global) -> Result<Name, NoMemory>
+    /// The same name. It shares the text, so it takes nothing from the allocator.
+    pub fn copy(&self, _alloc: Global) -> Result<Name, NoMemory>
         ensures { IfOk result (λ k. k ≡ self.now) }
     {
-        match String::from_str(alloc, self.text.as_str()) {
-            Ok(text) => Ok(Name { text }),
-            Err(_) => Err(NoMemory),
-        }
+        let text = self.text.clone()?;
+        Ok(Name { text })
     }
 }
 

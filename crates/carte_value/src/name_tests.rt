@@ -4,9 +4,9 @@ use std::collections::BTreeMap;
 use std::process::Abort;
 use std::test::Fail;
 
-/// The name that a text is read as, or the place of what is wrong.
-fn read(alloc: Global, kind: Kind, text: &str) -> Result<String, NoMemory> {
-    match Name::of(alloc, kind, text) {
+/// The text of a name, or the place of what is wrong.
+fn shown(alloc: Global, name: Result<Name, NameFault>) -> Result<String, NoMemory> {
+    match name {
         Ok(name) => Ok(String::from_str(alloc, name.text())?),
         Err(NameFault::BadName(place)) => Ok(format!(in alloc; "bad {place}")?),
         Err(NameFault::NoMemory) => Err(NoMemory),
@@ -40,8 +40,23 @@ fn names_are_read(rt: HostRuntime) -> Result<(), Fail> {
         (Kind::Sheet, "A10000", "bad 5"),
     ];
     for (kind, text, name) in table {
-        assert_eq!(&rt; read(rt.alloc(), kind, text)?.as_str(), name, "{text}");
+        let found = shown(rt.alloc(), Name::of(rt.alloc(), kind, text))?;
+        assert_eq!(&rt; found.as_str(), name, "{text}");
         assert_eq!(&rt; kind.is_name(text), !name.starts_with("bad"), "{text}");
+    }
+    let table = [
+        ("a.b/c_9", "a.b/c_9"),
+        ("ZZ9999", "ZZ9999"),
+        ("", "bad 0"),
+        ("é", "bad 0"),
+        ("aB", "bad 1"),
+        ("Ab1", "bad 1"),
+        ("A1b", "bad 2"),
+        ("AB0", "bad 2"),
+    ];
+    for (text, name) in table {
+        let found = shown(rt.alloc(), Name::exact(rt.alloc(), text))?;
+        assert_eq!(&rt; found.as_str(), name, "{text}");
     }
     Ok(())
 }
@@ -120,37 +135,42 @@ fn areas_go_row_by_row(rt: HostRuntime) -> Result<(), Fail> {
     Ok(())
 }
 
+/// What passes may be moved to another thread and be seen from two at once.
 fn crosses<T: Send + Sync>(item: T) -> T {
     item
 }
 
+/// A list crosses where its items do.
+fn list_crosses<T: Send + Sync>(items: Items<T>) -> Items<T> {
+    crosses(items)
+}
+
 fn links(alloc: Global, name: &Name) -> Result<Links, NoMemory> {
     let mut links = Links::new(alloc);
-    let digest = Value::Empty.digest();
-    links.push(Link {
-        name: name.copy(alloc)?,
-        digest,
-    })?;
+    links.push(crosses(Link {
+        name: crosses(name.copy(alloc)?),
+        digest: crosses(Value::Empty.digest()),
+    }))?;
     links.copy(alloc)
 }
 
-fn values(alloc: Global) -> Result<Values, NoMemory> {
+fn values(alloc: Global) -> Result<Values, Fail> {
     let mut values = Values::new(alloc);
-    values.push(Value::Empty)?;
-    values.push(Value::Number(7))?;
-    values.copy(alloc)
+    values.push(Value::Text(crosses(Text::of(alloc, "a")?)))?;
+    values.push(crosses(Value::Number(7)))?;
+    Ok(values.copy(alloc)?)
 }
 
 #[test]
 fn lists_keep_their_items(rt: HostRuntime) -> Result<(), Fail> {
     let alloc = rt.alloc();
     let name = Name::rule(alloc, "b")?;
-    let links = crosses(links(alloc, &name)?);
+    let links = list_crosses(links(alloc, &name)?);
     assert_eq!(&rt; links.len(), 1);
     assert!(&rt; links.get(1).is_none() && !links.is_empty());
     let link = links.get(0).ok_or("no link")?;
     assert!(&rt; link.name == name && link.digest == Value::Empty.digest());
-    let values = crosses(values(alloc)?);
+    let values = list_crosses(values(alloc)?);
     assert_eq!(&rt;
         values.get(1).ok_or("no value")?.print(alloc)?.as_str(),
         "7"
@@ -193,6 +213,6 @@ fn a_text_has_65536_bytes_at_most(rt: HostRuntime) -> Result<(), Fail> {
             Err(TextFault::TooLong(65537))
         )
     );
-    assert!(&rt; Text::made(text).is_none());
+    assert!(&rt; Text::made(text)?.is_none());
     Ok(())
 }

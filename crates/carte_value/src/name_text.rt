@@ -1,13 +1,18 @@
 ghost use Rattle.std.specs.Prelude.{◌≡◌, ◌≤◌, length, slice_index, nat_le, ◌&&◌};
 ghost use Rattle.std.specs.List.{list_all};
-ghost use Rattle.carte_value.specs.Names.{is_name_byte, is_digit, is_letter, is_row, is_rule_name, is_cell_text};
-ghost use Rattle.carte_value.specs.Fronts.{IsLongestFront, IsRun, letters_of};
+ghost use Rattle.carte_value.specs.Names.{is_name_byte, is_digit, is_letter, is_upper, is_row, is_rule_name, is_cell_text, is_cell_name, is_name};
+ghost use Rattle.carte_value.specs.Prefixes.{IsLongestPrefix, IsRun, letters_of};
+
+use crate::NAME_LIMIT;
 
 /// Whether a text is a name of a rule file.
 pub(crate) fn is_rule(text: &[u8]) -> bool
     ensures { result ≡ is_rule_name text.now }
 {
-    1 <= text.len() && text.len() <= 64 && text[0].is_ascii_lowercase() && all_of_rules(text)
+    1 <= text.len()
+        && text.len() <= NAME_LIMIT
+        && text[0].is_ascii_lowercase()
+        && all_of_rules(text)
 }
 
 /// Whether a text is a name of a cell, in either case.
@@ -18,9 +23,31 @@ pub(crate) fn is_cell(text: &[u8]) -> bool
     letters > 0 && is_row(text.split_at(letters).1)
 }
 
+/// Whether a text is a name as it stands: of a rule file, or of a cell in upper case.
+pub(crate) fn is_name(text: &[u8]) -> bool
+    ensures { result ≡ is_name text.now }
+{
+    is_rule(text) || is_upper_cell(text)
+}
+
+/// Whether a text is a name of a cell in upper case.
+fn is_upper_cell(text: &[u8]) -> bool
+    ensures { result ≡ is_cell_name text.now }
+{
+    let capitals = upper_letters(text);
+    capitals > 0 && is_row(text.split_at(capitals).1)
+}
+
+/// The length of the longest prefix that some name begins with.
+pub(crate) fn name_prefix(text: &[u8]) -> usize
+    ensures { IsLongestPrefix is_name text.now result }
+{
+    rule_prefix(text).max(upper_cell_prefix(text))
+}
+
 /// The length of the longest prefix that some name of a rule file begins with.
-pub(crate) fn rule_front(text: &[u8]) -> usize
-    ensures { IsLongestFront is_rule_name text.now result }
+pub(crate) fn rule_prefix(text: &[u8]) -> usize
+    ensures { IsLongestPrefix is_rule_name text.now result }
 {
     if !first(text).is_ascii_lowercase() {
         return 0;
@@ -29,14 +56,25 @@ pub(crate) fn rule_front(text: &[u8]) -> usize
 }
 
 /// The length of the longest prefix that some name of a cell begins with, in either case.
-pub(crate) fn cell_front(text: &[u8]) -> usize
-    ensures { IsLongestFront is_cell_text text.now result }
+pub(crate) fn cell_prefix(text: &[u8]) -> usize
+    ensures { IsLongestPrefix is_cell_text text.now result }
 {
     let letters = letters(text);
     if letters == 0 {
         return 0;
     }
-    letters + row_front(text.split_at(letters).1)
+    letters + row_prefix(text.split_at(letters).1)
+}
+
+/// The length of the longest prefix that some name of a cell in upper case begins with.
+fn upper_cell_prefix(text: &[u8]) -> usize
+    ensures { IsLongestPrefix is_cell_name text.now result }
+{
+    let capitals = upper_letters(text);
+    if capitals == 0 {
+        return 0;
+    }
+    capitals + row_prefix(text.split_at(capitals).1)
 }
 
 /// The first byte, or 0 where there is none.
@@ -68,7 +106,7 @@ fn all_of_rules(text: &[u8]) -> bool
 fn rule_bytes(text: &[u8]) -> usize
     ensures { IsRun is_name_byte 64 text.now result }
 {
-    let most = text.len().min(64);
+    let most = text.len().min(NAME_LIMIT);
     for at in 0..most {
         if !of_rules(text[at]) {
             return at;
@@ -78,13 +116,26 @@ fn rule_bytes(text: &[u8]) -> usize
 }
 
 fn letters(text: &[u8]) -> usize
-    ensures number { result ≡ letters_of text.now }
+    ensures number { result ≡ letters_of is_letter text.now }
     ensures within { result ≤ length text.now }
 {
     if text.is_empty() || !text[0].is_ascii_alphabetic() {
         return 0;
     }
     if text.len() == 1 || !text[1].is_ascii_alphabetic() {
+        return 1;
+    }
+    2
+}
+
+fn upper_letters(text: &[u8]) -> usize
+    ensures number { result ≡ letters_of is_upper text.now }
+    ensures within { result ≤ length text.now }
+{
+    if text.is_empty() || !text[0].is_ascii_uppercase() {
+        return 0;
+    }
+    if text.len() == 1 || !text[1].is_ascii_uppercase() {
         return 1;
     }
     2
@@ -102,8 +153,8 @@ fn all_digits(text: &[u8]) -> bool
     text.iter().all(|byte| byte.is_ascii_digit())
 }
 
-fn row_front(text: &[u8]) -> usize
-    ensures { IsLongestFront is_row text.now result }
+fn row_prefix(text: &[u8]) -> usize
+    ensures { IsLongestPrefix is_row text.now result }
 {
     if !starts_row(text) {
         return 0;

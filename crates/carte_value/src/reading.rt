@@ -15,10 +15,9 @@ impl Value {
         if let Some(number) = read_number(text) {
             return Ok(Some(Value::Number(number)));
         }
-        match read_text(alloc, text) {
-            Ok(Some(text)) => Ok(Some(Value::Text(text))),
-            Ok(None) => Ok(None),
-            Err(refused) => Err(refused),
+        match read_text(alloc, text)? {
+            Some(text) => Ok(Some(Value::Text(text))),
+            None => Ok(None),
         }
     }
 }
@@ -39,13 +38,12 @@ fn read_text(alloc: Global, text: &str) -> Result<Option<Text>, NoMemory>
     let Some(body) = between_quotes(text.as_bytes()) else {
         return Ok(None);
     };
-    match unescape(alloc, body) {
-        Ok(Some(bytes)) => match String::from_utf8(bytes) {
-            Ok(text) => Ok(Text::made(text)),
-            Err(_) => Ok(None),
-        },
-        Ok(None) => Ok(None),
-        Err(refused) => Err(refused),
+    let Some(bytes) = unescape(alloc, body)? else {
+        return Ok(None);
+    };
+    match String::from_utf8(bytes) {
+        Ok(text) => Text::made(text),
+        Err(_) => Ok(None),
     }
 }
 
@@ -67,9 +65,7 @@ fn unescape(alloc: Global, body: &[u8]) -> Result<Option<Vec<u8>>, NoMemory>
         let Some((byte, length)) = byte_ahead(rest) else {
             return Ok(None);
         };
-        if let Err(_) = bytes.push(byte) {
-            return Err(NoMemory);
-        }
+        bytes.push(byte)?;
         rest = rest.split_at(length).1;
     }
     Ok(Some(bytes))

@@ -1,7 +1,7 @@
-ghost use Rattle.std.specs.Prelude.{◌≡◌, ◌≤◌, length, IfOk, option_map};
+ghost use Rattle.std.specs.Prelude.{◌≡◌, ◌≤◌, ◌++◌, length, IfOk, OnOk, option_map};
 ghost use Rattle.carte_value.specs.Spelling.{spelling, digest_of, bad_code, IsDecoded, IsNumberAhead, IsTextAhead, IsBadAhead};
 
-use crate::{Bad, Digest, NoMemory, Text, TextFault, Value};
+use crate::{Bad, Digest, NoMemory, TEXT_LIMIT, Text, Value};
 use sha2::{Digest as Hasher, Sha256};
 use std::alloc::Global;
 
@@ -20,16 +20,26 @@ impl Bad {
 }
 
 impl Value {
-    /// The spelling: a byte for the kind, and then the number, the text with its length in front, or the number of the bad value.
+    /// The spelling: a byte for the kind, and then the number, the text behind its length, or the number of the bad value.
     pub fn encode(&self, alloc: Global) -> Result<Vec<u8>, NoMemory>
         ensures { IfOk result (λ bytes. bytes.items ≡ spelling self.now) }
     {
+        let mut bytes = Vec::new(alloc);
+        self.write(&mut bytes)?;
+        Ok(bytes)
+    }
+
+    /// Puts the spelling behind the bytes. Where there is no memory, a part of it may stand there.
+    pub fn write(&self, out: &mut Vec<u8>) -> Result<(), NoMemory>
+        ensures { OnOk result (out.new.items ≡ out.old.items ++ spelling self.now) }
+    {
         match self {
-            Value::Empty => Ok([0].to_vec(alloc)?),
-            Value::Number(number) => encode_number(alloc, *number),
-            Value::Text(text) => encode_text(alloc, text.text()),
-            Value::Bad(bad) => Ok([3, bad.code()].to_vec(alloc)?),
+            Value::Empty => out.push(0)?,
+            Value::Number(number) => write_number(out, *number)?,
+            Value::Text(text) => write_text(out, text.text())?,
+            Value::Bad(bad) => out.extend_from_slice([3, bad.code()].as_slice())?,
         }
+        Ok(())
     }
 
     /// The value that the bytes begin with, and the length of its spelling.
@@ -76,11 +86,12 @@ impl Value {
     }
 }
 
-fn encode_number(alloc: Global, number: i64) -> Result<Vec<u8>, NoMemory>
-    ensures { IfOk result (λ bytes. bytes.items ≡ spelling (Value.Number number)) }
+fn write_number(out: &mut Vec<u8>, number: i64) -> Result<(), NoMemory>
+    ensures { OnOk result (out.new.items ≡ out.old.items ++ spelling (Value.Number number)) }
 {
-    let [a, b, c, d, e, f, g, h] = number.to_be_bytes();
-    Ok([1, a, b, c, d, e, f, g, h].to_vec(alloc)?)
+    out.push(1)?;
+    out.extend_from_slice(number.to_be_bytes().as_slice())?;
+    Ok(())
 }
 
 fn digest_number(number: i64) -> Digest
@@ -90,15 +101,14 @@ fn digest_number(number: i64) -> Digest
     Digest(Sha256::digest([1, a, b, c, d, e, f, g, h]))
 }
 
-fn encode_text(alloc: Global, text: &str) -> Result<Vec<u8>, NoMemory>
+fn write_text(out: &mut Vec<u8>, text: &str) -> Result<(), NoMemory>
     requires { length text.now ≤ 65536 }
-    ensures { IfOk result (λ bytes. bytes.items ≡ spelling (Value.Text text.now)) }
+    ensures { OnOk result (out.new.items ≡ out.old.items ++ spelling (Value.Text text.now)) }
 {
-    let mut bytes = Vec::with_capacity(alloc, text.len() + 5)?;
-    bytes.extend_from_slice([2u8].as_slice())?;
-    bytes.extend_from_slice((text.len() as u32).to_be_bytes().as_slice())?;
-    bytes.extend_from_slice(text.as_bytes())?;
-    Ok(bytes)
+    out.push(2)?;
+    out.extend_from_slice((text.len() as u32).to_be_bytes().as_slice())?;
+    out.extend_from_slice(text.as_bytes())?;
+    Ok(())
 }
 
 fn digest_text(text: &str) -> Digest
@@ -128,7 +138,7 @@ fn text_ahead(bytes: &[u8]) -> Option<&str>
         return None;
     };
     let length = u32::from_be_bytes(*length) as usize;
-    if length > 65536 || length > rest.len() {
+    if length > TEXT_LIMIT || length > rest.len() {
         return None;
     }
     match str::from_utf8(rest.split_at(length).0) {

@@ -23,6 +23,9 @@ fn spells(
     let mut bytes = value.encode(alloc)?;
     assert_eq!(rt; hex(alloc, bytes.as_slice())?.as_str(), spelling);
     assert_eq!(rt; hex(alloc, value.digest().0.as_slice())?.as_str(), digest);
+    let mut twice = value.encode(alloc)?;
+    value.write(&mut twice)?;
+    assert_eq!(rt; twice.len(), bytes.len().saturating_mul(2));
     bytes.push(9)?;
     let again = decoded(alloc, bytes.as_slice())?;
     assert_eq!(rt; again.as_str(), spelling);
@@ -103,12 +106,11 @@ fn values_are_spelled(rt: HostRuntime) -> Result<(), Fail> {
         &bad,
         "0305",
         "67df21b268fabeed13b2f2e4cf69906b8f4df1c3af6602263347ee894f875f93",
-    )
+    )?;
+    spell_nothing(&rt, alloc)
 }
 
-#[test]
-fn other_bytes_spell_nothing(rt: HostRuntime) -> Result<(), Fail> {
-    let alloc = rt.alloc();
+fn spell_nothing(rt: &impl Abort, alloc: Global) -> Result<(), Fail> {
     let texts = [
         b"".as_slice(),
         b"\x04".as_slice(),
@@ -120,7 +122,7 @@ fn other_bytes_spell_nothing(rt: HostRuntime) -> Result<(), Fail> {
         b"\x03\x06".as_slice(),
     ];
     for bytes in texts {
-        assert_eq!(&rt; decoded(alloc, bytes)?.as_str(), "none");
+        assert_eq!(rt; decoded(alloc, bytes)?.as_str(), "none");
     }
     Ok(())
 }

@@ -4,21 +4,28 @@ ghost use Rattle.carte_value.specs.Texts.{IsText, IsTextMade, IsTextKept};
 use crate::{NoMemory, TextFault};
 use std::alloc::Global;
 use std::marker::Model;
+use std::sync::ArcStr;
+
+/// The most bytes that a text value has.
+pub const TEXT_LIMIT: usize = 65_536;
 
 /// A text that is a value: UTF-8, and at most 65,536 bytes long.
+///
+/// Its bytes are shared by its copies, since a long text may be looked up by thousands of rules: a copy costs a pointer.
 #[derive(Debug, Drop)]
 pub struct Text {
-    text: String,
+    text: ArcStr,
 }
 
 impl Model for Text {
-    ghost use Rattle.std.specs.Prelude.{ℕ, ◌≤◌, List, length, string_bytes};
+    ghost use Rattle.std.specs.Prelude.{ℕ, ◌≤◌, List, length};
+    ghost use Rattle.std.specs.Arc.{arc_str_bytes};
 
     ghost Value = { List ℕ };
 
-    ghost view = { λ t. string_bytes t.text };
+    ghost view = { λ t. arc_str_bytes t.text };
 
-    ghost invariant = { λ t. length (string_bytes t.text) ≤ 65536 };
+    ghost invariant = { λ t. length (arc_str_bytes t.text) ≤ 65536 };
 }
 
 impl Text {
@@ -26,23 +33,22 @@ impl Text {
     pub fn of(alloc: Global, text: &str) -> Result<Text, TextFault>
         ensures { IsTextMade text.now result }
     {
-        if text.len() > 65536 {
+        if text.len() > TEXT_LIMIT {
             return Err(TextFault::TooLong(text.len()));
         }
-        match String::from_str(alloc, text) {
-            Ok(text) => Ok(Text { text }),
-            Err(_) => Err(TextFault::NoMemory),
-        }
+        let text = ArcStr::from_str(alloc, text)?;
+        Ok(Text { text })
     }
 
-    /// The text as a value, where it isn't too long. It takes no memory.
-    pub fn made(text: String) -> Option<Text>
-        ensures { IsTextKept (string_bytes text) result }
+    /// The text as a value, where it isn't too long. The bytes stay where they are; only what counts the copies is new.
+    pub fn made(text: String) -> Result<Option<Text>, NoMemory>
+        ensures { IfOk result (λ made. IsTextKept (string_bytes text) made) }
     {
-        if text.len() > 65536 {
-            return None;
+        if text.len() > TEXT_LIMIT {
+            return Ok(None);
         }
-        Some(Text { text })
+        let text = ArcStr::from_string(text)?;
+        Ok(Some(Text { text }))
     }
 
     pub fn text(&self) -> &str
@@ -52,12 +58,11 @@ impl Text {
         self.text.as_str()
     }
 
-    pub fn copy(&self, alloc: Global) -> Result<Text, NoMemory>
+    /// The same text. It shares the bytes, so it takes nothing from the allocator.
+    pub fn copy(&self, _alloc: Global) -> Result<Text, NoMemory>
         ensures { IfOk result (λ t. t ≡ self.now) }
     {
-        match String::from_str(alloc, self.text.as_str()) {
-            Ok(text) => Ok(Text { text }),
-            Err(_) => Err(NoMemory),
-        }
+        let text = self.text.clone()?;
+        Ok(Text { text })
     }
 }

@@ -1,3 +1,7 @@
+ghost use Rattle.std.specs.Prelude.{◌≡◌};
+ghost use Rattle.carte_value.specs.declared.text_fault.TextFault.TheVariants as fault;
+
+use std::alloc::AllocError;
 use thiserror::Error;
 
 /// Why a text is no text value.
@@ -8,4 +12,12 @@ pub enum TextFault {
     TooLong(usize),
     #[error("no memory")]
     NoMemory,
+}
+
+impl From<AllocError> for TextFault {
+    ghost from_gives = { λ _ e. e ≡ fault.NoMemory };
+
+    fn from(_: AllocError) -> TextFault {
+        TextFault::NoMemory
+    }
 }

@@ -28,6 +28,7 @@ pub enum Value {
 }
 
 impl Value {
+    /// The same value. A text is shared with the copy.
     pub fn copy(&self, alloc: Global) -> Result<Value, NoMemory>
         ensures { IfOk result (λ v. v ≡ self.now) }
     {
@@ -35,10 +36,7 @@ impl Value {
             Value::Empty => Ok(Value::Empty),
             Value::Number(number) => Ok(Value::Number(*number)),
             Value::Bad(bad) => Ok(Value::Bad(*bad)),
-            Value::Text(text) => match text.copy(alloc) {
-                Ok(text) => Ok(Value::Text(text)),
-                Err(refused) => Err(refused),
-            },
+            Value::Text(text) => Ok(Value::Text(text.copy(alloc)?)),
         }
     }
 }

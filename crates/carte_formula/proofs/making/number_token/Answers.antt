@@ -3,7 +3,7 @@ use Rattle.std.proofs.lemmas.Result.{OkIff-at_err}
 use Rattle.std.specs.Str.Parse.{digits_value}
 use Rattle.std.proofs.lemmas.Bool.{ltb-true}
 use Rattle.std.proofs.lemmas.Str.Parse.{parse_signed_digits}
-use Rattle.carte_formula.specs.Tree.{Token, digits}
+use Rattle.carte_formula.specs.Tokens.{Token, digits}
 use Rattle.carte_formula.proofs.Bytes.{numerals}
 use Rattle.carte_formula.proofs.making.number_token.Goals as goal
 

@@ -10,4 +10,4 @@ returns-in-Ok-add_input c = λ m h new.
     let k = c.args.key.now in
     let j = c.in-Ok.name in
     let is = c.in-Ok.ensures.gives in
-    (insert m j (input c.in-Some.value), input_put k j (view c.args.value) c.in-Some.value m is c.in-Some.ensures, c.in-Ok-add_input.ensures m h (ap (get m) (same_name k j is) ∙ new))
+    (insert m j (input c.in-Ok-Some.value), input_put k j (view c.args.value) c.in-Ok-Some.value m is (rw c.in-Ok-Some.field-0-is at c.in-Ok-Some.ensures), c.in-Ok-add_input.ensures m h (ap (get m) (same_name k j is) ∙ new))

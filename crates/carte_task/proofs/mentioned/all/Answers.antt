@@ -1,4 +1,4 @@
-use Rattle.carte_formula.proofs.Once.{seen_more}
+use Rattle.carte_tree.proofs.Once.{seen_more}
 use Rattle.carte_task.proofs.mentioned.all.Goals as goal
 
 pub loop-name-preserved : goal.loop-name-preserved

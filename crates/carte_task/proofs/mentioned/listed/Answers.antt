@@ -1,5 +1,5 @@
 use Rattle.std.proofs.Common.{sym}
-use Rattle.carte_formula.proofs.Once.{keys_more}
+use Rattle.carte_tree.proofs.Once.{keys_more}
 use Rattle.carte_task.proofs.mentioned.listed.Goals as goal
 
 pub loop-at-preserved : goal.loop-at-preserved

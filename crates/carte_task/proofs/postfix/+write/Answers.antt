@@ -1,7 +1,7 @@
 use Rattle.std.proofs.Common.{◌<◌, ◌≤◌, ◌++◌, ◌∷◌, [], length, get_or, ap, sym, ◌∙◌, arith}
 use Rattle.carte_task.specs.declared.code.Instr.TheVariants as i
 use Rattle.carte_task.specs.Coding.{code_of_args, code_of_steps}
-use Rattle.carte_formula.specs.Code.{args_tree}
+use Rattle.carte_tree.specs.Code.{args_tree}
 use Rattle.carte_task.proofs.Shapes.{args_view, rest_view, plain_on, choice_written, choice_on, args_more, args_all, steps_more, steps_all}
 use Rattle.carte_task.proofs.postfix.+write.Goals as goal
 

@@ -1,6 +1,6 @@
 use Rattle.std.proofs.Common.{◌≡◌, ◌++◌, take, map}
-use Rattle.carte_formula.specs.Code.{pairs_of, arg_tree, term_of}
-use Rattle.carte_formula.specs.Tree.{steps_of, args_of}
+use Rattle.carte_tree.specs.Code.{pairs_of, arg_tree, term_of}
+use Rattle.carte_tree.specs.Tree.{steps_of, args_of}
 use Rattle.carte_task.specs.Coding.{code_of_steps, code_of_args}
 use Rattle.carte_task.proofs.postfix.+write.Given as goal
 

@@ -1,6 +1,6 @@
 use Rattle.std.proofs.Common.{◌≡◌, true, false, length, nat_eq, ap, sym, ◌∙◌}
 use Rattle.std.specs.List.{list_all}
-use Rattle.carte_formula.specs.Code.{arg_tree}
+use Rattle.carte_tree.specs.Code.{arg_tree}
 use Rattle.carte_task.specs.Forms.{is_one, are_ones}
 use Rattle.carte_task.proofs.Shapes.{ones_by_length, not_ones, args_view}
 use Rattle.carte_task.proofs.postfix.are_ones.Goals as goal

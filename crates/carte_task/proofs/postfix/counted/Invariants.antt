@@ -1,6 +1,6 @@
 use Rattle.std.proofs.Common.{◌≡◌, take, map}
-use Rattle.carte_formula.specs.Code.{arg_tree}
-use Rattle.carte_formula.specs.Tree.{args_of}
+use Rattle.carte_tree.specs.Code.{arg_tree}
+use Rattle.carte_tree.specs.Tree.{args_of}
 use Rattle.carte_task.specs.Coding.{count}
 use Rattle.carte_task.proofs.postfix.counted.Given as goal
 

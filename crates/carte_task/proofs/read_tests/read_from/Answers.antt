@@ -1,6 +1,6 @@
 use Rattle.std.proofs.Common.{◌≡◌, ℕ, List, false, Ok, Err, ap, subst, ◌∙◌}
 use Rattle.carte_value.specs.declared.NoMemory.{NoMemory}
-use Rattle.carte_formula.specs.Code.{tree_of}
+use Rattle.carte_tree.specs.Code.{tree_of}
 use Rattle.carte_task.specs.declared.effect.Halt.TheVariants.{Stop}
 use Rattle.carte_task.specs.declared.look.Stuck.{Stuck}
 use Rattle.carte_task.specs.Sights.{value_seen, IsStuck}

@@ -1,5 +1,5 @@
 use Rattle.std.proofs.Common.{false}
-use Rattle.carte_formula.specs.Code.{tree_of}
+use Rattle.carte_tree.specs.Code.{tree_of}
 use Rattle.carte_book.specs.Book.{book_view}
 use Rattle.carte_top.specs.Known.{part}
 use Rattle.carte_top.proofs.Evaluating.{copied, read_value, read_stop, apart}

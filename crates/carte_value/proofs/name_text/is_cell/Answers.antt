@@ -1,7 +1,7 @@
 use Rattle.std.proofs.Common.{◌≡◌, ◌∙◌, sym, ap, arith, false, nat_lt, ◌&&◌, drop}
 use Rattle.std.proofs.lemmas.Bool.{lt-ltb, le-ltb, and_left}
 use Rattle.carte_value.specs.Names.{is_row}
-use Rattle.carte_value.proofs.Fronts.{cell_by_letters}
+use Rattle.carte_value.proofs.CellPrefixes.{cell_by_letters}
 use Rattle.carte_value.proofs.name_text.is_cell.Goals as goal
 
 pub returns-then-letters-gt0 : goal.returns-then-letters-gt0

@@ -1,5 +1,5 @@
 use Rattle.std.proofs.Common.{refl, ap, ◌∙◌, ◌++◌}
-use Rattle.carte_formula.specs.Code.{tree_of}
+use Rattle.carte_tree.specs.Code.{tree_of}
 use Rattle.carte_task.specs.Coding.{code_of}
 use Rattle.carte_task.proofs.Mentioning.{task_made}
 use Rattle.carte_task.proofs.task.Task.of.Goals as goal

@@ -1,6 +1,0 @@
-use Rattle.std.proofs.Common.{◌≡◌, take}
-use Rattle.carte_formula.specs.Firsts.{seen_all}
-use Rattle.carte_formula.proofs.mentioned.see_cells.Given as goal
-
-abbrev pub invariant-loop-name : goal.invariant-loop-name
-invariant-loop-name l = l.seen.keys ≡ seen_all l.fn.seen.keys (take l.name-index l.name-items)

@@ -1,0 +1,3 @@
+pub mod Bests
+pub mod Sums
+pub mod Lined

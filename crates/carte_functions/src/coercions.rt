@@ -1,0 +1,45 @@
+ghost use Rattle.std.specs.Prelude.{◌≡◌, length};
+ghost use Rattle.carte_tree.specs.Coercions.{as_number, as_truth, first_bad, truth_value};
+
+use carte_value::{Bad, Value};
+
+/// A value as a number: Empty is 0, and a text is none.
+pub(crate) fn as_number(value: &Value) -> Option<i64>
+    ensures { result ≡ as_number value.now }
+{
+    match value {
+        Value::Empty => Some(0),
+        Value::Number(number) => Some(*number),
+        Value::Text(_) => None,
+        Value::Bad(_) => None,
+    }
+}
+
+/// A value as a truth: 0 and Empty are false, and a text is none.
+pub(crate) fn as_truth(value: &Value) -> Option<bool>
+    ensures { result ≡ as_truth value.now }
+{
+    match as_number(value) {
+        Some(number) => Some(number != 0),
+        None => None,
+    }
+}
+
+/// A truth as a number.
+pub(crate) fn of_truth(truth: bool) -> Value
+    ensures { result ≡ truth_value truth }
+{
+    Value::Number(if truth { 1 } else { 0 })
+}
+
+/// The first bad value, in order.
+pub(crate) fn first_bad(values: &[Value]) -> Option<Bad>
+    ensures { result ≡ first_bad values.now }
+{
+    for value in values {
+        if let Value::Bad(bad) = value {
+            return Some(*bad);
+        }
+    }
+    None
+}

@@ -1,5 +1,0 @@
-use Rattle.carte_meaning.proofs.StaticRuns.{static_fetched}
-use Rattle.carte_meaning.proofs.laws.static_needs.Goals as goal
-
-pub returns : goal.returns
-returns c = static_fetched

@@ -1,5 +1,0 @@
-use Rattle.carte_meaning.proofs.Sums.{IsSumTo}
-use Rattle.carte_meaning.proofs.numbers.sum.Given as goal
-
-abbrev pub invariant-loop-value : goal.invariant-loop-value
-invariant-loop-value l = IsSumTo l.values l.value-index l.sum

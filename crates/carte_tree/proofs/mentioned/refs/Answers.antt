@@ -1,0 +1,12 @@
+use Rattle.std.proofs.Common.{◌≡◌, [], rules}
+use Rattle.carte_tree.specs.Code.{tree_of}
+use Rattle.carte_tree.specs.Firsts.{seen_all}
+use Rattle.carte_tree.specs.Formula.{mentions}
+use Rattle.carte_tree.proofs.Once.{listed_firsts}
+use Rattle.carte_tree.proofs.mentioned.refs.Goals as goal
+
+pub returns-in-Ok : goal.returns-in-Ok
+returns-in-Ok c =
+    let none : c.new-seen.result.keys ≡ [] = search rules in
+    let seen : c.see_expr.new.seen.keys ≡ seen_all c.new-seen.result.keys (mentions (tree_of c.args.expr.now)) = search rules in
+    listed_firsts c.listed.result c.see_expr.new.seen.keys c.new-seen.result.keys (mentions (tree_of c.args.expr.now)) none seen c.listed.ensures

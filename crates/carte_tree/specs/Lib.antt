@@ -1,0 +1,15 @@
+pub mod Tree
+pub mod Code
+pub mod Formula
+pub mod Firsts
+pub mod Printed
+pub mod Coercions
+pub mod Numbers
+pub mod Order
+pub mod Texts
+pub mod Found
+pub mod Applied
+pub mod Meaning
+pub mod Best
+pub mod InTurn
+pub mod Laws

@@ -1,0 +1,27 @@
+ghost use Rattle.std.specs.Prelude.{◌≡◌, IfOk};
+ghost use Rattle.carte_tree.specs.Tree.{neg};
+ghost use Rattle.carte_tree.specs.Code.{tree_of, chain_tree};
+
+use crate::{Chain, Expr};
+use carte_value::NoMemory;
+use std::alloc::Global;
+
+/// The formula with a minus before it.
+pub fn neg_of(alloc: Global, operand: Expr) -> Result<Expr, NoMemory>
+    ensures { IfOk result (λ e. tree_of e ≡ neg (tree_of operand)) }
+{
+    match Box::new(alloc, operand) {
+        Ok(operand) => Ok(Expr::Neg(operand)),
+        Err(_) => Err(NoMemory),
+    }
+}
+
+/// A chain as a formula.
+pub fn chain_of(alloc: Global, chain: Chain) -> Result<Expr, NoMemory>
+    ensures { IfOk result (λ e. tree_of e ≡ chain_tree chain) }
+{
+    match Box::new(alloc, chain) {
+        Ok(chain) => Ok(Expr::Chain(chain)),
+        Err(_) => Err(NoMemory),
+    }
+}

@@ -1,0 +1,105 @@
+ghost use Rattle.std.specs.Prelude.{◌≡◌, IfOk, OnOk};
+ghost use Rattle.carte_value.specs.Areas.{IsArea, cells_of};
+ghost use Rattle.carte_tree.specs.Firsts.{seen_also, seen_all};
+ghost use Rattle.carte_tree.specs.Code.{tree_of, chain_tree, args_tree, arg_tree};
+ghost use Rattle.carte_tree.specs.Formula.{IsExpr, AreCallArgs, IsCallArg, mentions, args_mentions, arg_mentions, refs_of};
+
+use crate::{Arg, Args, Chain, Expr};
+use carte_value::{Area, Name, Names, NoMemory};
+use indexmap::IndexSet;
+use std::alloc::Global;
+
+/// The names that a formula refers to, each once, in the order of their first places. Ranges are spelt out row by row,
+/// each row from left to right.
+pub fn refs(alloc: Global, expr: &Expr) -> Result<Names, NoMemory>
+    requires { IsExpr (tree_of expr.now) }
+    ensures { IfOk result (λ ks. ks ≡ refs_of (tree_of expr.now)) }
+{
+    let mut seen = IndexSet::new(alloc);
+    match see_expr(alloc, expr, &mut seen) {
+        Ok(()) => listed(alloc, &seen),
+        Err(refused) => Err(refused),
+    }
+}
+
+#[cycle(refs)]
+fn see_expr(alloc: Global, expr: &Expr, seen: &mut IndexSet<Name>) -> Result<(), NoMemory>
+    requires { IsExpr (tree_of expr.now) }
+    ensures { OnOk result (seen.new.keys ≡ seen_all seen.old.keys (mentions (tree_of expr.now))) }
+{
+    match expr {
+        Expr::Number(_) | Expr::Text(_) => Ok(()),
+        Expr::Ref(name) => see(alloc, name, seen),
+        Expr::Neg(operand) => see_expr(alloc, operand, seen),
+        Expr::Chain(chain) => see_chain(alloc, chain, seen),
+        Expr::Call(_, args) => see_args(alloc, args, seen),
+    }
+}
+
+#[cycle(refs)]
+fn see_chain(alloc: Global, chain: &Chain, seen: &mut IndexSet<Name>) -> Result<(), NoMemory>
+    requires { IsExpr (chain_tree chain.now) }
+    ensures { OnOk result (seen.new.keys ≡ seen_all seen.old.keys (mentions (chain_tree chain.now))) }
+{
+    see_expr(alloc, &chain.first, seen)?;
+    for (_, operand) in chain.rest.items.iter() {
+        see_expr(alloc, operand, seen)?;
+    }
+    Ok(())
+}
+
+#[cycle(refs)]
+fn see_args(alloc: Global, args: &Args, seen: &mut IndexSet<Name>) -> Result<(), NoMemory>
+    requires { AreCallArgs (args_tree args.now) }
+    ensures { OnOk result (seen.new.keys ≡ seen_all seen.old.keys (args_mentions (args_tree args.now))) }
+{
+    for arg in args.items.iter() {
+        see_arg(alloc, arg, seen)?;
+    }
+    Ok(())
+}
+
+#[cycle(refs)]
+fn see_arg(alloc: Global, arg: &Arg, seen: &mut IndexSet<Name>) -> Result<(), NoMemory>
+    requires { IsCallArg (arg_tree arg.now) }
+    ensures { OnOk result (seen.new.keys ≡ seen_all seen.old.keys (arg_mentions (arg_tree arg.now))) }
+{
+    match arg {
+        Arg::One(expr) => see_expr(alloc, expr, seen),
+        Arg::Cells(area) => see_cells(alloc, area, seen),
+    }
+}
+
+fn see_cells(alloc: Global, area: &Area, seen: &mut IndexSet<Name>) -> Result<(), NoMemory>
+    requires { IsArea area.now }
+    ensures { OnOk result (seen.new.keys ≡ seen_all seen.old.keys (cells_of area.now)) }
+{
+    let names = area.names(alloc)?;
+    for name in names.as_slice() {
+        see(alloc, name, seen)?;
+    }
+    Ok(())
+}
+
+fn see(alloc: Global, name: &Name, seen: &mut IndexSet<Name>) -> Result<(), NoMemory>
+    ensures { OnOk result (seen.new.keys ≡ seen_also seen.old.keys name.now) }
+{
+    let name = name.copy(alloc)?;
+    match seen.insert(name) {
+        Ok(_) => Ok(()),
+        Err(_) => Err(NoMemory),
+    }
+}
+
+fn listed(alloc: Global, seen: &IndexSet<Name>) -> Result<Names, NoMemory>
+    ensures { IfOk result (λ ks. ks ≡ seen.now.keys) }
+{
+    let mut names = Names::new(alloc);
+    for at in 0..seen.len() {
+        match seen.get_index(at) {
+            Some(name) => names.push(name.copy(alloc)?)?,
+            None => unreachable!(),
+        }
+    }
+    Ok(names)
+}

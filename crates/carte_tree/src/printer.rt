@@ -1,0 +1,147 @@
+ghost use Rattle.std.specs.Prelude.{◌≡◌, ◌++◌, codes, IfOk, OnOk, string_bytes};
+ghost use Rattle.carte_value.specs.Areas.{IsArea, IsPlace, cell_at};
+ghost use Rattle.carte_tree.specs.Tree.{neg, rank, first_corner, last_corner};
+ghost use Rattle.carte_tree.specs.Printed.{tight, func_name, in_brackets, printed, steps_printed, args_printed, arg_printed};
+ghost use Rattle.carte_tree.specs.Code.{tree_of, chain_tree, rest_steps, args_tree, arg_tree};
+ghost use Rattle.carte_tree.specs.Formula.{IsExpr, AreSteps, AreArgs, IsArg};
+
+use crate::put::{put, put_number, put_text};
+use crate::{Arg, Args, Chain, Expr, Func, Level, Rest};
+use carte_value::{Area, Name, NoMemory};
+use std::alloc::Global;
+
+/// The canonical text of a formula. Read in a book of its kind it is this formula again, where it has at most 4,096 bytes.
+pub fn print(alloc: Global, expr: &Expr) -> Result<String, NoMemory>
+    requires { IsExpr (tree_of expr.now) }
+    ensures { IfOk result (λ t. string_bytes t ≡ printed (tree_of expr.now)) }
+{
+    let mut out = String::new(alloc);
+    match print_expr(alloc, &mut out, expr) {
+        Ok(()) => Ok(out),
+        Err(refused) => Err(refused),
+    }
+}
+
+#[cycle(print)]
+fn print_expr(alloc: Global, out: &mut String, expr: &Expr) -> Result<(), NoMemory>
+    requires { IsExpr (tree_of expr.now) }
+    ensures { OnOk result (string_bytes out.new ≡ string_bytes out.old ++ printed (tree_of expr.now)) }
+{
+    match expr {
+        Expr::Number(number) => put_number(out, *number),
+        Expr::Text(text) => put_text(alloc, out, text.text()),
+        Expr::Ref(name) => put(out, name.text()),
+        Expr::Neg(operand) => print_neg(alloc, out, operand),
+        Expr::Chain(chain) => print_chain(alloc, out, chain),
+        Expr::Call(func, args) => print_call(alloc, out, *func, args),
+    }
+}
+
+#[cycle(print)]
+fn print_neg(alloc: Global, out: &mut String, operand: &Expr) -> Result<(), NoMemory>
+    requires { IsExpr (tree_of operand.now) }
+    ensures { OnOk result (string_bytes out.new ≡ string_bytes out.old ++ printed (neg (tree_of operand.now))) }
+{
+    put(out, "-")?;
+    print_held(alloc, out, 0, operand)
+}
+
+#[cycle(print)]
+fn print_chain(alloc: Global, out: &mut String, chain: &Chain) -> Result<(), NoMemory>
+    requires { IsExpr (chain_tree chain.now) }
+    ensures { OnOk result (string_bytes out.new ≡ string_bytes out.old ++ printed (chain_tree chain.now)) }
+{
+    print_held(alloc, out, chain.level.rank(), &chain.first)?;
+    print_rest(alloc, out, chain.level, &chain.rest)
+}
+
+/// An operand where chains of operators that bind tighter than a rank need no bracket.
+#[cycle(print)]
+fn print_held(alloc: Global, out: &mut String, rank: u8, expr: &Expr) -> Result<(), NoMemory>
+    requires { IsExpr (tree_of expr.now) }
+    ensures { OnOk result (string_bytes out.new ≡ string_bytes out.old ++ in_brackets (tight rank (tree_of expr.now)) (printed (tree_of expr.now))) }
+{
+    if is_tight(rank, expr) {
+        return print_expr(alloc, out, expr);
+    }
+    put(out, "(")?;
+    print_expr(alloc, out, expr)?;
+    put(out, ")")
+}
+
+#[cycle(print)]
+fn print_rest(alloc: Global, out: &mut String, level: Level, rest: &Rest) -> Result<(), NoMemory>
+    requires { AreSteps level (rest_steps rest.now) }
+    ensures { OnOk result (string_bytes out.new ≡ string_bytes out.old ++ steps_printed level (rest_steps rest.now)) }
+{
+    for (op, operand) in rest.items.iter() {
+        put(out, op.text())?;
+        print_held(alloc, out, level.rank(), operand)?;
+    }
+    Ok(())
+}
+
+#[cycle(print)]
+fn print_call(alloc: Global, out: &mut String, func: Func, args: &Args) -> Result<(), NoMemory>
+    requires { AreArgs func (args_tree args.now) }
+    ensures { OnOk result (string_bytes out.new ≡ string_bytes out.old ++ (func_name func ++ (codes "(" ++ (args_printed (args_tree args.now) ++ codes ")")))) }
+{
+    put(out, func.name())?;
+    put(out, "(")?;
+    print_args(alloc, out, func, args)?;
+    put(out, ")")
+}
+
+#[cycle(print)]
+fn print_args(alloc: Global, out: &mut String, func: Func, args: &Args) -> Result<(), NoMemory>
+    requires { AreArgs func (args_tree args.now) }
+    ensures { OnOk result (string_bytes out.new ≡ string_bytes out.old ++ args_printed (args_tree args.now)) }
+{
+    for (at, arg) in args.items.iter().enumerate() {
+        if at > 0 {
+            put(out, ",")?;
+        }
+        print_arg(alloc, out, func, arg)?;
+    }
+    Ok(())
+}
+
+#[cycle(print)]
+fn print_arg(alloc: Global, out: &mut String, func: Func, arg: &Arg) -> Result<(), NoMemory>
+    requires { IsArg func (arg_tree arg.now) }
+    ensures { OnOk result (string_bytes out.new ≡ string_bytes out.old ++ arg_printed (arg_tree arg.now)) }
+{
+    match arg {
+        Arg::One(expr) => print_expr(alloc, out, expr),
+        Arg::Cells(area) => print_area(alloc, out, area),
+    }
+}
+
+fn print_area(alloc: Global, out: &mut String, area: &Area) -> Result<(), NoMemory>
+    requires { IsArea area.now }
+    ensures { OnOk result (string_bytes out.new ≡ string_bytes out.old ++ (first_corner area.now ++ (codes ":" ++ last_corner area.now))) }
+{
+    print_cell(alloc, out, area.left, area.top)?;
+    put(out, ":")?;
+    print_cell(alloc, out, area.right, area.bottom)
+}
+
+fn print_cell(alloc: Global, out: &mut String, column: u32, row: u32) -> Result<(), NoMemory>
+    requires { IsPlace column row }
+    ensures { OnOk result (string_bytes out.new ≡ string_bytes out.old ++ cell_at column row) }
+{
+    match Name::cell_at(alloc, column, row) {
+        Ok(name) => put(out, name.text()),
+        Err(refused) => Err(refused),
+    }
+}
+
+/// Whether a formula needs no bracket where operators bind looser than a rank.
+fn is_tight(rank: u8, expr: &Expr) -> bool
+    ensures { result ≡ tight rank (tree_of expr.now) }
+{
+    match expr {
+        Expr::Chain(chain) => chain.level.rank() < rank,
+        _ => true,
+    }
+}

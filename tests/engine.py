@@ -1,0 +1,201 @@
+"""What a build over kept information does, read a second time: marking, held keys, runs, and what is left.
+
+It shares no code with the program. `build` gives the reply or the refusal, the rules that ran, and what is kept
+afterwards, for the schedulers `topological` and `suspending` and the rebuilders `dirty`, `verifying`,
+`constructive` and `deep`. A book is its inputs and its rules, as `reference.read_book` gives them.
+"""
+import copy
+import hashlib
+from dataclasses import dataclass, field
+
+from formulas import Bad, evaluate, printed
+from reference import Refused, Stuck, refs, refuse_dynamic
+
+CODES = {Bad.DIV0: 1, Bad.VALUE: 2, Bad.REF: 3, Bad.NUM: 4, Bad.LEN: 5}
+WAYS = ("verifying", "constructive", "deep")
+
+
+def spelling(value):
+    if isinstance(value, Bad):
+        return bytes([3, CODES[value]])
+    if isinstance(value, bytes):
+        return b"\2" + len(value).to_bytes(4, "big") + value
+    return b"\1" + value.to_bytes(8, "big", signed=True)
+
+
+def digest(value):
+    return hashlib.sha256(spelling(value)).digest()
+
+
+@dataclass
+class Entry:
+    result: bytes
+    needs: tuple
+    stale: bool = False
+    shallow: bool = False
+
+    @property
+    def fresh(self):
+        return not self.stale and not self.shallow
+
+
+@dataclass
+class Kept:
+    rules: object = None
+    seen: dict = field(default_factory=dict)
+    entries: dict = field(default_factory=dict)
+    traces: dict = field(default_factory=lambda: {way: {} for way in WAYS})
+    store: dict = field(default_factory=dict)
+
+
+class Book:
+    """Clean values and needs, each worked out once and afresh from the inputs."""
+
+    def __init__(self, inputs, rules):
+        self.inputs, self.rules = inputs, rules
+        self.values, self.needs, self.under_way = dict(inputs), {}, set()
+
+    def clean(self, name):
+        """The clean value of a name, or None."""
+        if name in self.values or name not in self.rules:
+            return self.values.get(name)
+        if name in self.under_way:
+            return None
+        self.under_way.add(name)
+        needs = []
+
+        def look(need):
+            if need not in needs:
+                needs.append(need)
+            found = self.clean(need)
+            if found is None:
+                raise Stuck(need)
+            return found
+
+        try:
+            self.values[name] = evaluate(self.rules[name], look)
+        except Stuck:
+            self.values[name] = None
+        self.under_way.discard(name)
+        self.needs[name] = tuple(needs)
+        return self.values[name]
+
+    def needs_of(self, name):
+        self.clean(name)
+        return self.needs.get(name, ())
+
+    def beneath(self, name):
+        """The inputs met when needs are walked depth first, each at its first place."""
+        if name in self.inputs:
+            return (name,)
+        found = {}
+        for need in self.needs_of(name):
+            found.update(dict.fromkeys(self.beneath(need)))
+        return tuple(found)
+
+    def links(self, names):
+        return tuple((name, digest(self.clean(name))) for name in names)
+
+    def stuck_path(self, targets):
+        for target in targets:
+            if self.clean(target) is not None:
+                continue
+            path = [target]
+            while path[-1] not in path[:-1]:
+                if path[-1] not in self.rules:
+                    return "missing", path
+                path.append(self.needs_of(path[-1])[-1])
+            return "cycle", path
+        return None
+
+
+def begin(kept, book):
+    """What a build begins with: nothing under other rules, and else the stale entries marked."""
+    if kept.rules != book.rules:
+        return Kept()
+    begun = copy.deepcopy(kept)
+    changed = {name for name, seen in kept.seen.items() if name not in book.inputs or digest(book.inputs[name]) != seen}
+    while True:
+        more = {key for key, entry in kept.entries.items() if key not in changed and changed.intersection(entry.needs)}
+        if not more:
+            break
+        changed |= more
+    for key in changed & kept.entries.keys():
+        begun.entries[key].stale = True
+    return begun
+
+
+def now(book, way, name):
+    """The digest that a link's name has now."""
+    value = book.inputs.get(name) if way == "deep" else book.clean(name)
+    return None if value is None else digest(value)
+
+
+def is_held(rebuilder, begun, book, key):
+    entry = begun.entries.get(key)
+    if rebuilder == "dirty":
+        return entry is not None and entry.fresh
+    return any(all(now(book, rebuilder, name) == seen for name, seen in links)
+               and (rebuilder != "verifying" or entry.result == result)
+               for links, result in begun.traces[rebuilder].get(key, ()))
+
+
+def treated(scheduler, rebuilder, begun, book, targets):
+    found, ahead = [], list(targets)
+    while ahead:
+        name = ahead.pop(0)
+        if name in found or name not in book.rules:
+            continue
+        found.append(name)
+        followed = scheduler == "topological" or rebuilder in ("verifying", "constructive") or not is_held(rebuilder, begun, book, name)
+        ahead += book.needs_of(name) if followed else ()
+    return found
+
+
+def finish(rebuilder, left, begun, book, key, ran):
+    result = digest(book.clean(key))
+    entry = left.entries.get(key)
+    if rebuilder != "deep":
+        new = Entry(result, book.needs_of(key))
+    elif entry is not None and entry.fresh:
+        new = entry
+    else:
+        new = Entry(result, book.beneath(key), shallow=True)
+    if new != entry:
+        left.entries[key] = new
+        left.seen.update((name, digest(book.inputs[name])) for name in new.needs if name in book.inputs)
+    if ran:
+        left.store.setdefault(result, book.clean(key))
+    if ran and rebuilder in WAYS:
+        links = book.links(book.beneath(key) if rebuilder == "deep" else book.needs_of(key))
+        older = [trace for trace in left.traces[rebuilder].get(key, []) if trace != (links, result)]
+        left.traces[rebuilder][key] = [(links, result)] + older
+
+
+def build(kept, inputs, rules, targets, scheduler="suspending", rebuilder="verifying", listed=False):
+    """The reply or the reason with its path, the rules that ran, and what is kept afterwards."""
+    book = Book(inputs, rules)
+    begun = begin(kept, book)
+    left = copy.deepcopy(begun)
+    reason = None
+    if scheduler == "topological":
+        try:
+            refuse_dynamic(rules, targets)
+        except Refused as refused:
+            reason = refused.args
+    reason = reason or book.stuck_path(targets)
+    done = []
+    if not (reason and scheduler == "topological"):
+        done = [key for key in treated(scheduler, rebuilder, begun, book, targets) if book.clean(key) is not None]
+    ran = [key for key in done if not is_held(rebuilder, begun, book, key)]
+    for key in done:
+        finish(rebuilder, left, begun, book, key, key in ran)
+    if done:
+        left.rules = rules
+    elif kept.rules != rules:
+        left = kept
+    if reason:
+        return reason, sorted(ran), left
+    lines = [target + b" = " + printed(book.clean(target)) + b"\n" for target in targets]
+    lines += [b"ran " + key + b"\n" for key in sorted(ran)] if listed else []
+    return b"".join(lines) + b"ran %d, given up 0, reused %d\n" % (len(ran), len(done) - len(ran)), sorted(ran), left
