@@ -21,10 +21,8 @@ use std::alloc::Global;
 pub fn read_words(alloc: Global, words: &[Word]) -> Result<Words, WordsFault>
     ensures { Gives (words_of words.now) result }
 {
-    match parse(alloc, words) {
-        Ok(matches) => read_matches(alloc, &matches),
-        Err(fault) => Err(fault),
-    }
+    let matches = parse(alloc, words)?;
+    read_matches(alloc, &matches)
 }
 
 fn read_matches(alloc: Global, matches: &ArgMatches) -> Result<Words, WordsFault>
@@ -63,10 +61,7 @@ fn word_at(alloc: Global, matches: &ArgMatches, id: &str) -> Result<Word, WordsF
     ensures { Gives (or_words (first_of id.now (rows_of (found_of matches.now)))) result }
 {
     match value_at(matches, id) {
-        Some(text) => match Word::of(alloc, text) {
-            Ok(word) => Ok(word),
-            Err(_) => Err(WordsFault::NoMemory),
-        },
+        Some(text) => Ok(Word::of(alloc, text)?),
         None => Err(WordsFault::Words),
     }
 }

@@ -49,20 +49,18 @@ fn read_command(alloc: Global, kind: Kind, word: &str, rest: &str) -> Result<Opt
 fn read_build(alloc: Global, kind: Kind, rest: &str) -> Result<Option<Line>, NoMemory>
     ensures { IsMeant (Follows kind (codes "build") rest.now) result }
 {
-    match read_keys(alloc, kind, rest) {
-        Ok(Some(names)) => Ok(Some(Line::Build(names))),
-        Ok(None) => Ok(None),
-        Err(refused) => Err(refused),
+    match read_keys(alloc, kind, rest)? {
+        Some(names) => Ok(Some(Line::Build(names))),
+        None => Ok(None),
     }
 }
 
 fn read_explain(alloc: Global, kind: Kind, rest: &str) -> Result<Option<Line>, NoMemory>
     ensures { IsMeant (Follows kind (codes "explain") rest.now) result }
 {
-    match read_keys(alloc, kind, rest) {
-        Ok(Some(names)) => Ok(Some(Line::Explain(names))),
-        Ok(None) => Ok(None),
-        Err(refused) => Err(refused),
+    match read_keys(alloc, kind, rest)? {
+        Some(names) => Ok(Some(Line::Explain(names))),
+        None => Ok(None),
     }
 }
 
@@ -90,15 +88,12 @@ fn read_set(alloc: Global, kind: Kind, rest: &str) -> Result<Option<Line>, NoMem
     let Some((word, rest)) = next_word(rest) else {
         return Ok(None);
     };
-    let name = match read_name(alloc, kind, word) {
-        Ok(Some(name)) => name,
-        Ok(None) => return Ok(None),
-        Err(refused) => return Err(refused),
+    let Some(name) = read_name(alloc, kind, word)? else {
+        return Ok(None);
     };
-    match Value::read(alloc, skip(rest)) {
-        Ok(Some(value)) => Ok(Some(Line::Set(name, value))),
-        Ok(None) => Ok(None),
-        Err(refused) => Err(refused),
+    match Value::read(alloc, skip(rest))? {
+        Some(value) => Ok(Some(Line::Set(name, value))),
+        None => Ok(None),
     }
 }
 
@@ -106,17 +101,13 @@ fn read_set(alloc: Global, kind: Kind, rest: &str) -> Result<Option<Line>, NoMem
 fn read_keys(alloc: Global, kind: Kind, text: &str) -> Result<Option<Names>, NoMemory>
     ensures { AreKeys kind text.now result }
 {
-    match read_names(alloc, kind, text) {
-        Ok(Some(names)) => {
-            if names.is_empty() {
-                Ok(None)
-            } else {
-                Ok(Some(names))
-            }
-        }
-        Ok(None) => Ok(None),
-        Err(refused) => Err(refused),
+    let Some(names) = read_names(alloc, kind, text)? else {
+        return Ok(None);
+    };
+    if names.is_empty() {
+        return Ok(None);
     }
+    Ok(Some(names))
 }
 
 fn read_names(alloc: Global, kind: Kind, text: &str) -> Result<Option<Names>, NoMemory>
