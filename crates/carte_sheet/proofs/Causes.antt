@@ -1,5 +1,5 @@
 -- No fault of bytes is the want of memory.
-use Rattle.std.proofs.Common.{◌≡◌, ℕ, ◌+◌, ◌==◌, Bool, true, false, cond, nat_lt, List, [], ◌∷◌, length, drop, Result, Ok, Err, sym, subst}
+use Rattle.std.proofs.Common.{ℕ, ◌+◌, ◌==◌, Bool, true, false, cond, nat_lt, List, [], ◌∷◌, length, drop, Result, Ok, Err, sym, subst}
 use Rattle.std.specs.Prelude.{MatchBool, slice_index}
 use Rattle.std.specs.Str.{is_utf8}
 use Rattle.std.specs.FinMap.{empty, entries}

@@ -1,5 +1,5 @@
 -- Cells of places, and contents that have only earlier cells.
-use Rattle.std.proofs.Common.{◌≡◌, ◌⊎◌, inl, inr, ℕ, ◌+◌, ◌<◌, ◌≤◌, Bool, true, false, cond, nat_lt, List, Option, Some, None, is_some, Result, Ok, Err, IsTrue, refl, ap, sym, ◌∙◌, subst, arith}
+use Rattle.std.proofs.Common.{◌≡◌, inl, inr, ℕ, ◌+◌, ◌≤◌, Bool, true, false, cond, nat_lt, List, Option, Some, None, is_some, Ok, Err, IsTrue, refl, ap, sym, ◌∙◌, subst, arith}
 use Rattle.std.specs.Ordering.{eq_by_cmp}
 use Rattle.std.specs.FinMap.{get, insert, empty, get-insert, get-empty}
 use Rattle.std.proofs.lemmas.Bool.{false≢true}
@@ -10,7 +10,6 @@ use Rattle.carte_value.specs.Areas.{cell_at, row_of, column_of, IsPlace}
 use Rattle.carte_value.proofs.Sides.{cells_by_place}
 use Rattle.carte_book.proofs.Clean.{tied_name}
 use Rattle.carte_book.specs.Book.{Item}
-use Rattle.carte_book.specs.declared.fault.BookFault.{BookFault}
 use Rattle.carte_book.specs.declared.fault.BookFault.TheVariants.{Limit}
 use Rattle.carte_book.specs.declared.fault.Which.TheVariants.{Rows, Columns}
 use Rattle.carte_sheet.specs.Reading.{Content, cell_of}

@@ -1,5 +1,6 @@
 pub mod Unique
 pub mod Causes
+pub mod Outcomes
 mod DraftLemmas
 mod Cells
 mod Fields

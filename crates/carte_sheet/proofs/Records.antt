@@ -1,7 +1,7 @@
 -- The records of a text, one after the other.
 use Rattle.std.proofs.Common.{◌≡◌, ◌⊎◌, inl, inr, ℕ, zero, suc, ◌+◌, ◌-◌, ◌<◌, ◌≤◌, ◌==◌, Bool, true, false, cond, List, [], ◌∷◌, ◌++◌, length, Option, Some, None, refl, ap, sym, ◌∙◌, subst, arith, add-one}
 use Rattle.std.proofs.lemmas.Bool.{false≢true}
-use Rattle.csv.specs.Machine.{Read, step, in_field, start_field, start_record, after_end, ends_with, ends_at_end, is_end, fields_after, field_after, next_record}
+use Rattle.csv.specs.Machine.{Read, step, in_field, start_field, start_record, ends_with, ends_at_end, is_end, fields_after, field_after, next_record}
 use Rattle.csv.specs.Reading.{default_config, records_from, records_next, Reached, strip_bom}
 use Rattle.csv.specs.declared.parser.State.{State}
 use Rattle.csv.specs.declared.parser.State.TheVariants as st

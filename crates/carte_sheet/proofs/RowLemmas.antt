@@ -1,5 +1,5 @@
 -- One turn over the fields of a row, and over the rows.
-use Rattle.std.proofs.Common.{◌≡◌, ℕ, ◌+◌, ◌<◌, List, [], ◌∷◌, length, drop, get_or, Some, add-one, ◌∙◌, ap, Result, Ok, Err, refl, sym, subst}
+use Rattle.std.proofs.Common.{◌≡◌, ℕ, ◌+◌, ◌<◌, List, [], ◌∷◌, length, drop, get_or, Some, add-one, Result, Ok, Err, refl, sym, subst}
 use Rattle.std.proofs.Math.Seq.{drop-cons}
 use Rattle.csv.specs.Records.{field_at}
 use Rattle.csv.proofs.RecordFacts.{field-get}

@@ -11,6 +11,11 @@ pub fn sheet_is_unique()
     ensures { (bytes : List ℕ) (r s : Result Book BookFault) → BookOf bytes r → BookOf bytes s → r ≡ s }
 {}
 
+/// Bytes are a book, or have a fault.
+pub fn sheet_is_told()
+    ensures { (bytes : List ℕ) → (r : Result Book BookFault) × BookOf bytes r }
+{}
+
 /// The want of memory is never what bytes are, nor that in reading a formula.
 #[tactic(auto, using(crate::proofs::Causes::of_bytes))]
 pub fn fault_is_of_bytes()

@@ -1,4 +1,4 @@
-use Rattle.std.proofs.Common.{◌≡◌, ℕ, ◌+◌, ◌<◌, ◌≤◌, List, [], drop, length, Ok, arith}
+use Rattle.std.proofs.Common.{◌+◌, ◌<◌, ◌≤◌, [], drop, length, Ok, arith}
 use Rattle.std.proofs.lemmas.List.{drop_all}
 use Rattle.csv.specs.Records.{fields_of}
 use Rattle.std.specs.List.{slice_index_or}
