@@ -1,12 +1,10 @@
 ghost use Rattle.std.specs.Prelude.{IsTrue, IfOk};
 ghost use Rattle.carte_value.specs.Kinds.{is_name_of};
-ghost use Rattle.carte_tree.specs.Code.{tree_of};
-ghost use Rattle.carte_tree.specs.Formula.{IsExpr, HasNames};
 ghost use Rattle.carte_book.specs.Book.{book_view};
 
 use crate::*;
 use carte_book::{Book, Reason};
-use carte_tree::{Arg, Args, Expr, Func};
+use carte_formula::read;
 use carte_value::{Kind, Name, Names, Value};
 use std::alloc::Global;
 use std::rt::HostRuntime;
@@ -23,36 +21,27 @@ fn name(alloc: Global, book: &Book, text: &str) -> Result<Name, Fail>
     Ok(name)
 }
 
-/// One name, the sum of two, or what the text at a name refers to, written behind a question mark.
-fn formula(alloc: Global, book: &Book, text: &str) -> Result<Expr, Fail>
-    ensures formula { IfOk result (λ e. IsExpr (tree_of e)) }
-    ensures names { IfOk result (λ e. HasNames (book_view book.now).kind (tree_of e)) }
-{
-    if let Some((first, second)) = text.split_once(' ') {
-        let first = Arg::One(Expr::Ref(name(alloc, book, first)?));
-        let second = Arg::One(Expr::Ref(name(alloc, book, second)?));
-        let items = vec![in alloc; first, second]?;
-        return Ok(Expr::Call(Func::Sum, Args { items }));
-    }
-    if let Some(asked) = text.strip_prefix('?') {
-        let items = vec![in alloc; Arg::One(Expr::Ref(name(alloc, book, asked)?))]?;
-        return Ok(Expr::Call(Func::Indirect, Args { items }));
-    }
-    Ok(Expr::Ref(name(alloc, book, text)?))
+fn add_rule(alloc: Global, book: &mut Book, at: &str, text: &str) -> Result<(), Fail> {
+    let name = name(alloc, book, at)?;
+    let expr = read(alloc, book.kind(), text)?;
+    book.add_rule(name, expr)?;
+    Ok(())
+}
+
+fn add_input(alloc: Global, book: &mut Book, at: &str) -> Result<(), Fail> {
+    let name = name(alloc, book, at)?;
+    book.add_input(name, Value::Number(1))?;
+    Ok(())
 }
 
 /// A rule file whose inputs are `x` and `y`, with rules written as `name: formula`.
 fn book_of(alloc: Global, rules: &str) -> Result<Book, Fail> {
     let mut book = Book::new(alloc, Kind::Rules);
-    for input in ["x", "y"] {
-        let name = name(alloc, &book, input)?;
-        book.add_input(name, Value::Number(1))?;
-    }
+    add_input(alloc, &mut book, "x")?;
+    add_input(alloc, &mut book, "y")?;
     for rule in rules.split("; ") {
         let (at, text) = rule.split_once(": ").ok_or("no rule")?;
-        let name = name(alloc, &book, at)?;
-        let formula = formula(alloc, &book, text)?;
-        book.add_rule(name, formula)?;
+        add_rule(alloc, &mut book, at, text)?;
     }
     Ok(book)
 }
@@ -85,13 +74,13 @@ fn ordered(alloc: Global, book: &Book, targets: &Names) -> Result<String, Fail> 
     }
 }
 
-const DIAMOND: &str = "base: x y; left: base x; right: y base; top: left right";
+const DIAMOND: &str = "base: x + y; left: base + x; right: y + base; top: left + right";
 
 const STUCK: &str =
-    "good: x; one: two; two: good three; three: one; self: x self; lost: good far; far: nowhere; both: self one";
+    "good: x; one: two; two: good + three; three: one; self: x + self; lost: good + far; far: nowhere; both: self + one";
 
 const DYNAMIC: &str =
-    "pick: ?x; way: pick; gone: nowhere way; round: round pick; later: y way; stuck: stuck";
+    "pick: INDIRECT(x); way: pick; gone: nowhere + way; round: round + pick; later: y + way; stuck: stuck";
 
 /// Worked out by hand: depth first with references in their order, the reason of the first stuck target, and before it
 /// the shortest path to a dynamic rule, of equally short ones the first in byte order.
@@ -105,7 +94,7 @@ fn orders_and_reasons(rt: HostRuntime) -> Result<(), Fail> {
         (DIAMOND, "base base x", "order base"),
         (DIAMOND, "x y", "order"),
         (DIAMOND, "", "order"),
-        ("a: x; b: ?x; stuck: stuck", "a", "order a"),
+        ("a: x; b: INDIRECT(x); stuck: stuck", "a", "order a"),
         (STUCK, "one", "cycle one two three one"),
         (STUCK, "self", "cycle self self"),
         (STUCK, "both", "cycle both self self"),
@@ -132,19 +121,35 @@ fn orders_and_reasons(rt: HostRuntime) -> Result<(), Fail> {
 fn first_dynamic_paths(rt: HostRuntime) -> Result<(), Fail> {
     let alloc = rt.alloc();
     let rows = [
-        ("t: ?x", "t", "path t"),
-        ("t: b a; a: ?x; b: ?x", "t", "path t a"),
-        ("t: b2 b10; b2: ?x; b10: ?x", "t", "path t b10"),
-        ("t: a b; a: z; b: c; c: ?x; z: ?x", "t", "path t a z"),
-        ("t: b a; a: c; c: d; d: ?x; b: z; z: ?x", "t", "path t b z"),
-        ("s: a; a: b; b: ?x; t: b", "s t", "path t b"),
-        ("s: t; t: ?x", "s t", "path t"),
-        ("s: ?x; t: ?x", "t s t", "path s"),
-        ("t: u; u: t v; v: u w; w: ?t", "t", "path t u v w"),
-        ("t: a x; a: y; d: ?t", "t", "none"),
+        ("t: INDIRECT(x)", "t", "path t"),
+        ("t: b + a; a: INDIRECT(x); b: INDIRECT(x)", "t", "path t a"),
+        (
+            "t: b2 + b10; b2: INDIRECT(x); b10: INDIRECT(x)",
+            "t",
+            "path t b10",
+        ),
+        (
+            "t: a + b; a: z; b: c; c: INDIRECT(x); z: INDIRECT(x)",
+            "t",
+            "path t a z",
+        ),
+        (
+            "t: b + a; a: c; c: d; d: INDIRECT(x); b: z; z: INDIRECT(x)",
+            "t",
+            "path t b z",
+        ),
+        ("s: a; a: b; b: INDIRECT(x); t: b", "s t", "path t b"),
+        ("s: t; t: INDIRECT(x)", "s t", "path t"),
+        ("s: INDIRECT(x); t: INDIRECT(x)", "t s t", "path s"),
+        (
+            "t: u; u: t + v; v: u + w; w: INDIRECT(t)",
+            "t",
+            "path t u v w",
+        ),
+        ("t: a + x; a: y; d: INDIRECT(t)", "t", "none"),
         ("t: u; u: t", "t u", "none"),
-        ("d: ?x", "x", "none"),
-        ("d: ?x", "", "none"),
+        ("d: INDIRECT(x)", "x", "none"),
+        ("d: INDIRECT(x)", "", "none"),
     ];
     for (rules, targets, want) in rows {
         let book = book_of(alloc, rules)?;
