@@ -1,6 +1,7 @@
 //! Operators and functions by their names.
 
-ghost use Rattle.std.specs.Prelude.{◌≡◌, ◌<◌, ◌^◌, true, length, None, IfOk};
+ghost use Rattle.std.specs.Prelude.{◌≡◌, ◌<◌, ◌^◌, true, length, None, IfOk, IfErr};
+ghost use Rattle.carte_tree.specs.declared.expr.Op.TheVariants.{Join};
 ghost use Rattle.carte_tree.specs.Coercions.{first_bad};
 ghost use Rattle.carte_tree.specs.Applied.{applied, called, condition, is_strict, negated, pick};
 
@@ -15,9 +16,10 @@ use carte_value::{Bad, NoMemory, Value};
 use std::alloc::Global;
 
 /// What an operator makes of the values of its two operands: the first bad one, and else `#VALUE!` where one has the wrong kind.
-/// Of another number of values it makes Empty; no formula has such an operator.
+/// Of another number of values it makes Empty; no formula has such an operator. Memory is wanted for `&` alone.
 pub fn apply(alloc: Global, op: Op, values: &[Value]) -> Result<Value, NoMemory>
-    ensures { IfOk result (λ v. v ≡ applied op values.now) }
+    ensures value { IfOk result (λ v. v ≡ applied op values.now) }
+    ensures memory { IfErr result (λ e. (op ≡ Join) × (first_bad values.now ≡ None)) }
 {
     if let Some(bad) = first_bad(values) {
         return Ok(Value::Bad(bad));

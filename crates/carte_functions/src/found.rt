@@ -1,7 +1,9 @@
 //! The names that texts are, for INDIRECT and GATHER.
 
-ghost use Rattle.std.specs.Prelude.{◌≡◌, IfOk};
-ghost use Rattle.carte_tree.specs.Coercions.{each_as};
+ghost use Rattle.std.specs.Prelude.{◌≡◌, [], ◌∷◌, true, None, IsTrue, IfOk, IfErr};
+ghost use Rattle.std.specs.Result.{is_ok};
+ghost use Rattle.carte_value.specs.Kinds.{is_text_of};
+ghost use Rattle.carte_tree.specs.Coercions.{each_as, first_bad};
 ghost use Rattle.carte_tree.specs.Found.{name_in, named, names_in};
 ghost use Rattle.carte_tree.specs.Texts.{lines};
 
@@ -12,7 +14,8 @@ use std::alloc::Global;
 
 /// The name of this kind that a text is read as, where it is.
 fn named(alloc: Global, kind: Kind, text: &str) -> Result<Option<Name>, NoMemory>
-    ensures { IfOk result (λ found. found ≡ named kind text.now) }
+    ensures named { IfOk result (λ found. found ≡ named kind text.now) }
+    ensures memory { IfErr result (λ e. IsTrue (is_text_of kind text.now)) }
 {
     match Name::of(alloc, kind, text) {
         Ok(name) => Ok(Some(name)),
@@ -23,8 +26,10 @@ fn named(alloc: Global, kind: Kind, text: &str) -> Result<Option<Name>, NoMemory
 
 /// The name that INDIRECT looks up: the text of this kind that a value is, of a cell in either case.
 /// Where the value is another, this is what INDIRECT gives: a bad value itself, and else `#REF!`.
+/// Memory is wanted for a name alone.
 pub fn name_in(alloc: Global, kind: Kind, value: &Value) -> Result<Result<Name, Value>, NoMemory>
-    ensures { IfOk result (λ found. found ≡ name_in kind value.now) }
+    ensures name { IfOk result (λ found. found ≡ name_in kind value.now) }
+    ensures memory { IfErr result (λ e. is_ok (name_in kind value.now) ≡ true) }
 {
     match value {
         Value::Text(text) => match named(alloc, kind, text.text())? {
@@ -43,9 +48,14 @@ fn names_of(alloc: Global, kind: Kind, text: &str) -> Result<Option<Names>, NoMe
     let mut names = Names::new(alloc);
     let mut rest = text;
     while let Some((line, behind)) = first_line(rest) {
-        match named(alloc, kind, line)? {
-            Some(name) => names.push(name)?,
-            None => return Ok(None),
+        match named(alloc, kind, line) {
+            Ok(Some(name)) => {
+                if let Err(refused) = names.push(name) {
+                    return Err(refused);
+                }
+            }
+            Ok(None) => return Ok(None),
+            Err(refused) => return Err(refused),
         }
         rest = behind;
     }
@@ -54,9 +64,10 @@ fn names_of(alloc: Global, kind: Kind, text: &str) -> Result<Option<Names>, NoMe
 
 /// The names that GATHER looks up: those that the lines of a value's text are.
 /// Where a line is none, this is what GATHER gives: a bad value itself, and else `#REF!`.
-/// A text without lines has no such line, and a number's one line never is a name.
+/// A text without lines has no such line, and a number's one line never is a name. No memory is wanted for a bad value.
 pub fn names_in(alloc: Global, kind: Kind, value: &Value) -> Result<Result<Names, Value>, NoMemory>
-    ensures { IfOk result (λ found. found ≡ names_in kind value.now) }
+    ensures names { IfOk result (λ found. found ≡ names_in kind value.now) }
+    ensures memory { IfErr result (λ e. first_bad (value.now ∷ []) ≡ None) }
 {
     if let Value::Bad(bad) = value {
         return Ok(Err(Value::Bad(*bad)));

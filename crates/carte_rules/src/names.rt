@@ -27,11 +27,15 @@ pub(crate) fn new_name(alloc: Global, key: &str, draft: &Draft) -> Result<Name, 
     ensures gives { (m : Content) → Holds draft.now m → Gives (λ k. k) (new_name key.now m) result }
     ensures name { IfOk result (λ k. IsTrue (is_rule_name k)) }
 {
-    let name = name_of(alloc, key)?;
-    if draft.has(&name) {
-        Err(BookFault::Twice(name))
-    } else {
-        Ok(name)
+    match name_of(alloc, key) {
+        Ok(name) => {
+            if draft.has(&name) {
+                Err(BookFault::Twice(name))
+            } else {
+                Ok(name)
+            }
+        }
+        Err(fault) => Err(fault),
     }
 }
 

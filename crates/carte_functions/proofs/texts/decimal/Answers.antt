@@ -10,5 +10,5 @@ pub returns-clause-bound : goal.returns-clause-bound
 returns-clause-bound c =
     let fits : mag c.args.number < 2 ^ 63 = c.ranges.number.sfits in
     let short : length (signed_decimal c.args.number) ≤ 20 + 1 = length_signed_le 20 c.args.number (omega (arith, fits)) fits in
-    let is : string_bytes c.in_ok-must.field-0 ≡ signed_decimal c.args.number = rw (to_z-of_z w64 c.args.number c.ranges.number) at c.in_ok-must.ensures.ok in
+    let is : string_bytes c.in_ok-format.field-0 ≡ signed_decimal c.args.number = rw (to_z-of_z w64 c.args.number c.ranges.number) at c.in_ok-format.ensures.ok in
     rw is (omega (arith, short))

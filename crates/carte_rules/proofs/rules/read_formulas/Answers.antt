@@ -1,4 +1,5 @@
-use Rattle.std.proofs.Common.{◌≡◌, subst, Ok, rules}
+use Rattle.std.proofs.Common.{◌≡◌, subst, sym, refl, Ok, Err, rules}
+use Rattle.std.proofs.lemmas.Result.{err_from_is_err_and}
 use Rattle.std.specs.FinMap.{insert}
 use Rattle.toml.specs.Data.{Members, no_members, member}
 use Rattle.toml.specs.View.{view, table_view, members_view}
@@ -29,3 +30,11 @@ returns c = λ m h.
     let i = c.loop-key.invariant.1 m h in
     let last : members_view c.loop-key.key-iterator ≡ no_members = search rules in
     (i.0, i.2 (Ok i.0) (rules_end _ i.0 last), i.1)
+
+pub returns-in_err-read_rule : goal.returns-in_err-read_rule
+returns-in_err-read_rule c =
+    let p = err_from_is_err_and c.from_residual.result c.from_residual.ensures.1 in
+    rw (p.1, p.2) (λ m h cause.
+    let i = c.loop-key.invariant.1 m h in
+    let turn : members_view c.loop-key.key-iterator ≡ member c.as_str.result.now (view c.in-Some.value) (members_view c.next.new.self) = search rules in
+    i.2 (Err c.in_err-read_rule.field-0.0) (subst (λ (ms : Members). RulesInto ms i.0 (Err c.in_err-read_rule.field-0.0)) (sym turn) (Err c.in_err-read_rule.field-0.0, c.in_err-read_rule.ensures i.0 i.1 cause, refl)))
