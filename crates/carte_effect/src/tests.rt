@@ -33,7 +33,7 @@ impl Look for Rules {
     }
 }
 
-fn rules(missing: bool) -> Rules {
+fn look_of(missing: bool) -> Rules {
     Rules {
         value: Value::Number(7),
         missing,
@@ -94,7 +94,7 @@ fn lists(rt: HostRuntime) -> Result<(), Fail> {
         (false, "a B2 A1", "not done: B2"),
         (true, "a b C3 d", "missing: C3"),
     ] {
-        let look = rules(missing);
+        let look = look_of(missing);
         let mut list = Each::of(Snapshot::of(&look));
         let told = fetched(alloc, &mut list, &names_of(alloc, names)?)?;
         assert_eq!(rt; told.as_str(), want);
@@ -106,7 +106,7 @@ fn lists(rt: HostRuntime) -> Result<(), Fail> {
 #[test]
 fn tracked(rt: HostRuntime) -> Result<(), Fail> {
     let alloc = rt.alloc();
-    let look = rules(false);
+    let look = look_of(false);
     let mut tracked = Tracked::of(alloc, Snapshot::of(&look));
     for name in names_of(alloc, "b A1 a b")?.as_slice() {
         match tracked.fetch(alloc, name) {

@@ -48,6 +48,7 @@ impl Machine {
     }
 
     /// Goes on to the end, which is counted, or to a name without an answer. After a halt it stands before the fetch that halted, and keeps what was answered.
+    /// Each name is answered at most once. How often a fetch that finds no memory is tried isn't promised.
     pub fn drive<E: Effect>(
         &mut self,
         alloc: Global,
