@@ -27,6 +27,8 @@ mod seen;
 mod start;
 mod store;
 mod table;
+#[cfg(test)]
+mod tests;
 mod trace;
 mod traces;
 mod way;
