@@ -1,13 +1,13 @@
 -- What applying a batch makes of a state, and what its images keep.
-use Rattle.std.proofs.Common.{◌≡◌, ℕ, ◌+◌, ◌<◌, ◌≤◌, Bool, true, false, if◌then◌else◌, List, [], ◌∷◌, ◌++◌, refl, sym, ◌∙◌, ap, subst, arith, inl, inr}
-use Rattle.carte_io.specs.Disk.{Leaves, Story, Throughout}
+use Rattle.std.proofs.Common.{◌≡◌, ℕ, ◌<◌, Bool, true, false, if◌then◌else◌, List, [], ◌∷◌, ◌++◌, refl, sym, ◌∙◌, ap, subst, arith, inl}
+use Rattle.carte_io.specs.Disk.{Leaves, Story}
 use Rattle.carte_io.specs.Stations.{Step, StepsThrough}
 use Rattle.carte_io.proofs.Acknowledged.{step_as, steps_none, steps_one}
 use Rattle.carte_io.proofs.Images.{settled_image, throughout_none}
-use Rattle.carte_journal.specs.Frames.{BodyAt, Ends, reading}
-use Rattle.carte_journal.specs.Journals.{IsAtRest, IsReadAs, Standing, calls_of, committed, step_of}
+use Rattle.carte_journal.specs.Frames.{Ends, reading}
+use Rattle.carte_journal.specs.Journals.{IsAtRest, IsReadAs, calls_of, step_of}
 use Rattle.carte_journal.proofs.Commits.{some_calls}
-use Rattle.carte_record.specs.Bodies.{IsBody, spelled_batch}
+use Rattle.carte_record.specs.Bodies.{IsBody}
 use Rattle.carte_record.specs.Folds.{apply}
 use Rattle.carte_record.specs.Kept.{SomeKept, nothing_kept}
 use Rattle.carte_record.specs.declared.batch.Batch.{Batch}

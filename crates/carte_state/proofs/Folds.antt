@@ -1,13 +1,13 @@
 -- Laws of what bodies make, one after another.
-use Rattle.std.proofs.Common.{◌≡◌, ◌⊎◌, ℕ, ◌+◌, ◌<◌, List, [], ◌∷◌, ◌++◌, length, take, drop, get_or, refl, sym, ◌∙◌, ap, subst, inl, inr}
+use Rattle.std.proofs.Common.{◌≡◌, ℕ, ◌+◌, ◌<◌, List, [], ◌∷◌, ◌++◌, length, take, drop, get_or, sym, ◌∙◌, ap, subst, inl, inr}
 use Rattle.std.proofs.lemmas.List.{drop_more, take_more, take-append-drop}
-use Rattle.carte_journal.specs.Frames.{Bad, BodyAt, Ends, Reading, reading}
+use Rattle.carte_journal.specs.Frames.{Bad, BodyAt, Ends, Reading}
 use Rattle.carte_record.specs.Bodies.{IsBody}
 use Rattle.carte_record.specs.BodyLaws.{one_body}
 use Rattle.carte_record.specs.Folds.{apply}
 use Rattle.carte_record.specs.Kept.{SomeKept, nothing_kept}
 use Rattle.carte_record.specs.declared.batch.Batch.{Batch}
-use Rattle.carte_state.specs.Folding.{BadAtOne, HasBadBody, IsBadBody, IsBadState, IsFolded, Keeps, KeepsOne, KeepsOrBad}
+use Rattle.carte_state.specs.Folding.{BadAtOne, IsBadBody, IsFolded, KeepsOne, KeepsOrBad}
 
 -- the bodies up to a place and one more, and all of them cut there
 pub body_further : (bodies : List BodyAt) (i : ℕ) (body : BodyAt) → i < length bodies → body ≡ get_or bodies i body

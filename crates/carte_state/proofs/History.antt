@@ -1,6 +1,5 @@
 -- What was acknowledged in any run of a history is kept by each later file.
-use Rattle.std.proofs.Common.{◌≡◌, ◌⊎◌, ℕ, ◌+◌, ◌≤◌, Bool, true, false, if◌then◌else◌, List, [], ◌∷◌, ◌++◌, arith, refl, sym, ◌∙◌, ap, subst, inl, inr, append-nil}
-use Rattle.carte_io.specs.Disk.{IsImage, Story}
+use Rattle.std.proofs.Common.{◌≡◌, ℕ, Bool, true, false, if◌then◌else◌, List, [], ◌∷◌, ◌++◌, arith, refl, sym, ap, subst, inl, inr}
 use Rattle.carte_io.specs.Stations.{IsAtOneOf, Step, StepsThrough, last_of}
 use Rattle.carte_io.proofs.Acknowledged.{steps_stand}
 use Rattle.carte_io.proofs.Images.{reads_image}
@@ -11,9 +10,9 @@ use Rattle.carte_record.specs.Kept.{SomeKept}
 use Rattle.carte_record.specs.declared.batch.Batch.{Batch}
 use Rattle.carte_record.specs.Empty.{is_empty}
 use Rattle.carte_state.specs.Folding.{Keeps}
-use Rattle.carte_state.specs.Histories.{AreRuns, Batches, HistoryKeeps, IsRun, KeepsAfter}
+use Rattle.carte_state.specs.Histories.{Batches, HistoryKeeps, IsRun}
 use Rattle.carte_state.specs.Runs.{applied, journal_behind, steps_of}
-use Rattle.carte_state.specs.States.{journal_after, kept_in, step_for}
+use Rattle.carte_state.specs.States.{journal_after, kept_in}
 use Rattle.carte_state.proofs.Applies.{kept_leaves}
 use Rattle.carte_state.proofs.Folds.{keeps_one}
 use Rattle.carte_state.proofs.Runs.{calls_in-steps_of, last_of-steps_of, steps_of-append}

@@ -1,5 +1,5 @@
 -- What a state stands for, and what a batch makes of it.
-use Rattle.std.specs.Prelude.{◌≡◌, ◌⊎◌, ℕ, ◌+◌, ◌≤◌, true, if◌then◌else◌, List, [], ◌∷◌}
+use Rattle.std.specs.Prelude.{◌≡◌, ◌⊎◌, ℕ, ◌≤◌, true, if◌then◌else◌, List, [], ◌∷◌}
 use Rattle.carte_io.specs.Disk.{Story}
 use Rattle.carte_io.specs.Stations.{Step}
 use Rattle.carte_journal.specs.Frames.{BodyAt}

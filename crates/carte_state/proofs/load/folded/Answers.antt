@@ -1,4 +1,4 @@
-use Rattle.std.proofs.Common.{◌+◌, ◌≡◌, ◌∙◌, Err, List, ap, drop, subst, sym, take}
+use Rattle.std.proofs.Common.{◌+◌, ◌≡◌, Err, List, ap, drop, subst, sym, take}
 use Rattle.std.proofs.lemmas.Result.{err_from_is_err_and}
 use Rattle.carte_journal.specs.Frames.{BodyAt}
 use Rattle.carte_journal.specs.declared.faults.LoadFault.TheVariants.{BadState}

@@ -1,9 +1,8 @@
-use Rattle.std.proofs.Common.{◌+◌, ◌∙◌, ◌≡◌, ap, arith, drop, refl, sym, subst, take}
+use Rattle.std.proofs.Common.{◌∙◌, ap, arith, refl, subst}
 use Rattle.std.proofs.lemmas.Result.{err_from_is_err_and}
 use Rattle.carte_io.specs.Stations.{StepsThrough}
 use Rattle.carte_journal.specs.Journals.{Standing}
 use Rattle.carte_state.specs.Folding.{Keeps}
-use Rattle.carte_state.specs.Runs.{steps_of}
 use Rattle.carte_state.specs.States.{kept_in, step_for}
 use Rattle.carte_state.proofs.Runs.{ends_in, kept_further, made_further, none_yet, one_more, place_further, steps_to, unmarked_in, whole_after}
 use Rattle.carte_state.proofs.many.apply_all.Goals as goal
