@@ -10,16 +10,16 @@ use Rattle.carte_value.specs.Truths.{Truth, Among, NoneTwice}
 use Rattle.carte_value.specs.Asks.{Asks, done, ask, run, answered, firsts}
 use Rattle.carte_value.specs.Once.{Answers, answer_in, once_on, once, Went, AnswersOf}
 use Rattle.carte_value.proofs.Firsts.{among_filter}
-use Rattle.carte_task.specs.Effects.{paired}
-use Rattle.carte_task.specs.Lists.{ValuesOf}
+use Rattle.carte_effect.specs.Effects.{paired}
+use Rattle.carte_effect.specs.Lists.{ValuesOf}
 use Rattle.carte_value.specs.declared.kind.Kind.{Kind}
 use Rattle.carte_task.specs.declared.code.Instr.{Instr}
 use Rattle.carte_task.specs.declared.progress.Progress.{Progress}
-use Rattle.carte_task.specs.declared.refs_only.Never.{Never}
+use Rattle.carte_effect.specs.declared.refs_only.Never.{Never}
 use Rattle.carte_task.specs.declared.static_task.StaticTask.{StaticTask}
 use Rattle.carte_task.specs.Code.{top}
 use Rattle.carte_task.specs.State.{answers_in, rest_in, Proceeds}
-use Rattle.carte_task.specs.Outcomes.{Outcome}
+use Rattle.carte_effect.specs.Outcomes.{Outcome}
 use Rattle.carte_task.specs.Statics.{static_refs, static_asks, IsStaticEnd, EndsOver}
 
 -- names that each stand once

@@ -8,11 +8,11 @@ use Rattle.carte_value.specs.Once.{Answers, answer_in, once_on, once, Went, or_e
 use Rattle.carte_value.proofs.Once.{went_on}
 use Rattle.carte_value.proofs.Laws.{answer_new, and_known, machine_runs, machine_fetches}
 use Rattle.carte_value.proofs.Fetches.{fetches}
-use Rattle.carte_task.specs.declared.effect.Halt.{Halt}
-use Rattle.carte_task.specs.declared.effect.Halt.TheVariants.{Stop, NoMemory}
-use Rattle.carte_task.specs.Outcomes.{Outcome, links_of}
+use Rattle.carte_effect.specs.declared.effect.Halt.{Halt}
+use Rattle.carte_effect.specs.declared.effect.Halt.TheVariants.{Stop, NoMemory}
+use Rattle.carte_effect.specs.Outcomes.{Outcome, links_of}
 use Rattle.carte_task.specs.Machines.{State, GoesOn, Drove}
-use Rattle.carte_task.specs.Laws.{IsSound, looks_up, Steps}
+use Rattle.carte_task.specs.Laws.{IsUnderWay, looks_up, Steps}
 
 -- further answers that the truth gives anyhow change nothing
 knows_anyhow : (t : Truth) (a b : Answers) → AnswersOf t b → and_answers (a ++ b) t ≡ and_answers a t
@@ -63,7 +63,7 @@ link_names [] = refl
 link_names ((k, v) ∷ a) = ap (λ ks. k ∷ ks) (link_names a)
 
 -- over the truth and the answers of before, it runs as what is left over the truth, and looks up what was answered and then what is left
-runs_on : (t : Truth) (log0 log : Option Answers) (p q : State) → GoesOn t log0 log p q → IsSound p → (run (and_answers p.answers t) p.whole ≡ run t q.rest) × (looks_up (and_answers p.answers t) p ≡ names_of q.answers ++ asked (and_answers p.answers t) q.rest)
+runs_on : (t : Truth) (log0 log : Option Answers) (p q : State) → GoesOn t log0 log p q → IsUnderWay p → (run (and_answers p.answers t) p.whole ≡ run t q.rest) × (looks_up (and_answers p.answers t) p ≡ names_of q.answers ++ asked (and_answers p.answers t) q.rest)
 runs_on t log0 log p q on sound =
     let further = on.along.further in
     let way : Went (once [] p.whole) (p.answers ++ further) q.rest = went_on (once [] p.whole) p.rest q.rest p.answers further sound on.along.led.went in
@@ -74,14 +74,14 @@ runs_on t log0 log p q on sound =
     )
 
 -- the machine stays sound
-pub sound_on : (t : Truth) (log0 log : Option Answers) (p q : State) → GoesOn t log0 log p q → IsSound p → IsSound q
+pub sound_on : (t : Truth) (log0 log : Option Answers) (p q : State) → GoesOn t log0 log p q → IsUnderWay p → IsUnderWay q
 sound_on t log0 log p q on sound =
     let way : Went (once [] p.whole) (p.answers ++ on.along.further) q.rest = went_on (once [] p.whole) p.rest q.rest p.answers on.along.further sound on.along.led.went in
     let P : Answers → Type 0 = λ a. Went (once [] p.whole) a q.rest in
     let Q : Asks Value → Type 0 = λ m. Went (once [] m) q.answers q.rest in
     subst Q (sym on.whole) (subst P (sym on.along.answers) way)
 
-pub drove_steps : {S : Type 0} (t : Truth) (own : List ℕ → S → Type 0) (log0 log : Option Answers) (p q : State) (result : Result Outcome (Halt S)) → Drove t own log0 log p q result → IsSound p → Steps t own p q result
+pub drove_steps : {S : Type 0} (t : Truth) (own : List ℕ → S → Type 0) (log0 log : Option Answers) (p q : State) (result : Result Outcome (Halt S)) → Drove t own log0 log p q result → IsUnderWay p → Steps t own p q result
 drove_steps t own log0 log p q (Ok o) (on, end, ended) sound =
     let both = runs_on t log0 log p q on sound in
     let names : names_of q.answers ≡ looks_up (and_answers p.answers t) p = sym (both.1 ∙ ap (λ m. names_of q.answers ++ asked (and_answers p.answers t) m) end.value ∙ append-nil (names_of q.answers)) in

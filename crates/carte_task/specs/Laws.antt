@@ -3,14 +3,14 @@ use Rattle.std.specs.Prelude.{ℕ, List, [], ◌∷◌, ◌++◌, ◌≡◌, map
 use Rattle.carte_value.specs.Truths.{Truth}
 use Rattle.carte_value.specs.Asks.{run, asked, firsts}
 use Rattle.carte_value.specs.Once.{once, Went, and_answers, names_of}
-use Rattle.carte_task.specs.declared.effect.Halt.{Halt}
-use Rattle.carte_task.specs.declared.effect.Halt.TheVariants.{Stop, NoMemory}
-use Rattle.carte_task.specs.Outcomes.{Outcome}
+use Rattle.carte_effect.specs.declared.effect.Halt.{Halt}
+use Rattle.carte_effect.specs.declared.effect.Halt.TheVariants.{Stop, NoMemory}
+use Rattle.carte_effect.specs.Outcomes.{Outcome}
 use Rattle.carte_task.specs.Machines.{State}
 
 -- its answers lead from the start of what it computes to what is left
-abbrev pub IsSound : State → Type 0
-IsSound p = Went (once [] p.whole) p.answers p.rest
+abbrev pub IsUnderWay : State → Type 0
+IsUnderWay p = Went (once [] p.whole) p.answers p.rest
 
 -- the names that it looks up over a truth, each once, up to and with the first without a value
 abbrev pub looks_up : Truth → State → List (List ℕ)

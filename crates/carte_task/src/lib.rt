@@ -28,27 +28,19 @@ mod check;
 #[cfg(test)]
 mod check_tests;
 mod code;
-mod each;
-mod effect;
 #[cfg(test)]
 mod effect_tests;
-mod ended;
 #[cfg(test)]
 mod formula_rows;
 #[cfg(test)]
 mod formula_tests;
-mod job;
-mod list;
-mod look;
 mod machine;
-mod made;
+mod machine_job;
 mod mentioned;
 mod postfix;
 mod progress;
 #[cfg(test)]
 mod read_tests;
-mod refs_only;
-mod runs;
 #[cfg(test)]
 mod shown;
 mod static_run;
@@ -58,20 +50,13 @@ mod task;
 mod task_tests;
 #[cfg(test)]
 mod told;
-mod tracked;
 mod turns;
 
+pub use carte_effect::{
+    Answers, Each, Effect, Ended, FetchList, Halt, Job, Look, Made, Never, RefsOnly, Reuse, Runs,
+    Seen, Snapshot, Stuck, Tracked,
+};
 pub use check::{Check, Verdict};
-pub use each::Each;
-pub use effect::{Effect, Halt};
-pub use ended::Ended;
-pub use job::Job;
-pub use list::{Answers, FetchList};
-pub use look::{Look, Seen, Snapshot, Stuck};
 pub use machine::Machine;
-pub use made::{Made, Reuse};
-pub use refs_only::{Never, RefsOnly};
-pub use runs::Runs;
 pub use static_task::StaticTask;
 pub use task::Task;
-pub use tracked::Tracked;

@@ -4,7 +4,7 @@ ghost use Rattle.carte_task.specs.declared.code.Instr.{Instr};
 ghost use Rattle.indexmap.specs.IndexMap.{insert_entry};
 ghost use Rattle.carte_value.specs.Names.{name_eq};
 ghost use Rattle.carte_value.specs.Truths.{NoneTwice};
-ghost use Rattle.carte_task.specs.Effects.{SameOwn, paired};
+ghost use Rattle.carte_effect.specs.Effects.{SameStops, paired};
 ghost use Rattle.carte_task.specs.Answered.{Answered};
 
 use crate::code::{Instr, Next};
@@ -32,8 +32,8 @@ fn answer<E: Effect>(
     effect: &mut E,
 ) -> Result<Value, Halt<E::Stop>>
     ensures truth { E.truth effect.new ≡ E.truth effect.old }
-    ensures own { SameOwn (E.own effect.old) (E.own effect.new) }
-    ensures answered { Answered (E.truth effect.old) (E.own effect.old) (E.log effect.old) (E.log effect.new) answers.old.entries answers.new.entries name.now result }
+    ensures stops { SameStops (E.stops effect.old) (E.stops effect.new) }
+    ensures answered { Answered (E.truth effect.old) (E.stops effect.old) (E.log effect.old) (E.log effect.new) answers.old.entries answers.new.entries name.now result }
 {
     if let Some(value) = answers.get(name) {
         return match value.copy(alloc) {
@@ -65,7 +65,7 @@ impl Progress {
     ghost use Rattle.carte_task.specs.State.{answers_in, pending, rest_in, Looked, Proceeds, Stepped};
     ghost use Rattle.carte_value.specs.Once.{once};
     ghost use Rattle.carte_task.specs.Code.{exec, top};
-    ghost use Rattle.carte_task.specs.Outcomes.{links_of};
+    ghost use Rattle.carte_effect.specs.Outcomes.{links_of};
 
     /// At the start of its code.
     pub(crate) fn new(alloc: Global) -> Progress
@@ -129,9 +129,9 @@ impl Progress {
     /// Looks up the names that are to be looked up first, each onto the stack.
     fn look_up<E: Effect>(&mut self, alloc: Global, effect: &mut E) -> Result<(), Halt<E::Stop>>
         ensures truth { E.truth effect.new ≡ E.truth effect.old }
-        ensures own { SameOwn (E.own effect.old) (E.own effect.new) }
+        ensures stops { SameStops (E.stops effect.old) (E.stops effect.new) }
         ensures kept { (self.new.at ≡ self.old.at) × (self.new.next ≡ self.old.next) }
-        ensures looked { Looked (E.truth effect.old) (E.own effect.old) (E.log effect.old) (E.log effect.new) self.old self.new result }
+        ensures looked { Looked (E.truth effect.old) (E.stops effect.old) (E.log effect.old) (E.log effect.new) self.old self.new result }
     {
         while self.looked < self.names.len() {
             if let Err(_refused) = self.values.reserve(1) {
@@ -203,8 +203,8 @@ impl Progress {
         effect: &mut E,
     ) -> Result<(), Halt<E::Stop>>
         ensures truth { E.truth effect.new ≡ E.truth effect.old }
-        ensures own { SameOwn (E.own effect.old) (E.own effect.new) }
-        ensures proceeds { Proceeds kind code.now (E.truth effect.old) (E.own effect.old) (E.log effect.old) (E.log effect.new) self.old self.new result }
+        ensures stops { SameStops (E.stops effect.old) (E.stops effect.new) }
+        ensures proceeds { Proceeds kind code.now (E.truth effect.old) (E.stops effect.old) (E.log effect.old) (E.log effect.new) self.old self.new result }
     {
         'turns: loop {
             match self.look_up(alloc, effect) {

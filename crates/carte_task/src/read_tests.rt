@@ -4,7 +4,7 @@ ghost use Rattle.std.specs.Prelude.{◌≡◌, true};
 ghost use Rattle.carte_tree.specs.Code.{tree_of};
 ghost use Rattle.carte_tree.specs.Formula.{is_static_tree, refs_of};
 ghost use Rattle.carte_tree.specs.InTurn.{HasAll};
-ghost use Rattle.carte_task.specs.Sights.{value_seen};
+ghost use Rattle.carte_effect.specs.Sights.{value_seen};
 ghost use Rattle.carte_task.specs.Statics.{IsReadFrom};
 
 use crate::shown::Shown;

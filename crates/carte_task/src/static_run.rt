@@ -3,7 +3,7 @@
 ghost use Rattle.std.specs.Prelude.{◌≡◌, ℕ, List, None, IfOk, is_ok, if◌then◌else◌};
 ghost use Rattle.carte_value.specs.declared.kind.Kind.{Kind as SomeKind};
 ghost use Rattle.carte_tree.specs.Tree.{Tree};
-ghost use Rattle.carte_task.specs.Effects.{SameOwn};
+ghost use Rattle.carte_effect.specs.Effects.{SameStops};
 ghost use Rattle.carte_task.specs.Statics.{StaticRan, Reads, EndsOver, IsOver, IsStaticTaskOf, static_refs, static_key, with_run};
 
 use crate::progress::Progress;
@@ -28,9 +28,9 @@ impl StaticTask {
         runs: &mut Runs,
     ) -> Result<Option<Ended>, Halt<B::Stop>>
         ensures truth { B.truth list.new ≡ B.truth list.old }
-        ensures own { SameOwn (B.own list.old) (B.own list.new) }
-        ensures ran { StaticRan (B.truth list.old) (B.own list.old) B.withholds (B.log list.old) (B.log list.new) self.now runs.old runs.new result }
-        ensures reads { (kind : SomeKind) (k : List ℕ) (e : Tree) → IsStaticTaskOf kind k e self.now → Reads kind (B.truth list.old) (B.own list.old) B.withholds k e runs.old runs.new result }
+        ensures stops { SameStops (B.stops list.old) (B.stops list.new) }
+        ensures ran { StaticRan (B.truth list.old) (B.stops list.old) B.withholds (B.log list.old) (B.log list.new) self.now runs.old runs.new result }
+        ensures reads { (kind : SomeKind) (k : List ℕ) (e : Tree) → IsStaticTaskOf kind k e self.now → Reads kind (B.truth list.old) (B.stops list.old) B.withholds k e runs.old runs.new result }
     {
         static_needs();
         self.ask(alloc, list, runs)
@@ -43,8 +43,8 @@ impl StaticTask {
         runs: &mut Runs,
     ) -> Result<Option<Ended>, Halt<B::Stop>>
         ensures truth { B.truth list.new ≡ B.truth list.old }
-        ensures own { SameOwn (B.own list.old) (B.own list.new) }
-        ensures ran { StaticRan (B.truth list.old) (B.own list.old) B.withholds (B.log list.old) (B.log list.new) self.now runs.old runs.new result }
+        ensures stops { SameStops (B.stops list.old) (B.stops list.new) }
+        ensures ran { StaticRan (B.truth list.old) (B.stops list.old) B.withholds (B.log list.old) (B.log list.new) self.now runs.old runs.new result }
     {
         let answers = match list.fetch_list(alloc, &self.refs) {
             Ok(answers) => answers,
@@ -103,7 +103,7 @@ impl Effect for Nothing {
 
     ghost truth = { λ s k. None };
 
-    ghost own = { λ s k stop. Unit {0} };
+    ghost stops = { λ s k stop. Unit {0} };
 
     ghost log = { λ s. None };
 

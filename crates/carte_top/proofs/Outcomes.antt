@@ -6,7 +6,7 @@ use Rattle.carte_book.specs.Book.{Book, book_view, clean}
 use Rattle.carte_book.specs.Reason.{AllClean}
 use Rattle.carte_book.specs.declared.book.Book.{Book as CodeBook}
 use Rattle.carte_rules.specs.Reading.{BookOf}
-use Rattle.carte_task.specs.Ledger.{Ledger}
+use Rattle.carte_effect.specs.Ledger.{Ledger}
 use Rattle.carte_top.specs.declared.status.Status.{Status}
 use Rattle.carte_top.specs.declared.status.Status.TheVariants.{Done, BookRefused, Usage, BuildRefused, ReadFault, WriteFault, NoMemory}
 use Rattle.carte_top.specs.Known.{Done as DoneMap, part}

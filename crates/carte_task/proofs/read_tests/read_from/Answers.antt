@@ -1,9 +1,9 @@
 use Rattle.std.proofs.Common.{◌≡◌, ℕ, List, false, Ok, Err, ap, subst, ◌∙◌}
 use Rattle.carte_value.specs.declared.NoMemory.{NoMemory}
 use Rattle.carte_tree.specs.Code.{tree_of}
-use Rattle.carte_task.specs.declared.effect.Halt.TheVariants.{Stop}
-use Rattle.carte_task.specs.declared.look.Stuck.{Stuck}
-use Rattle.carte_task.specs.Sights.{value_seen, IsStuck}
+use Rattle.carte_effect.specs.declared.effect.Halt.TheVariants.{Stop}
+use Rattle.carte_effect.specs.declared.look.Stuck.{Stuck}
+use Rattle.carte_effect.specs.Sights.{value_seen, IsStuck}
 use Rattle.carte_task.specs.Statics.{IsStaticOf, Reads}
 use Rattle.carte_task.proofs.Readings.{read_whole, read_on}
 use Rattle.carte_task.proofs.read_tests.read_from.Goals as goal
