@@ -1,0 +1,13 @@
+pub mod Agreeing
+pub mod Fresh
+pub mod Tests
+pub mod Begun
+pub mod Held
+pub mod Beneath
+pub mod Deep
+pub mod Entries
+pub mod Written
+pub mod NowFresh
+pub mod Added
+pub mod Rebased
+pub mod LeftSound
