@@ -1,0 +1,7 @@
+mod Rows
+mod Parses
+mod Naming
+mod Cutting
+mod Trims
+mod Commands
+pub mod Meanings

@@ -1,0 +1,6 @@
+pub mod Arguments
+pub mod Tables
+pub mod Words
+pub mod Parsed
+pub mod Cuts
+pub mod Lines

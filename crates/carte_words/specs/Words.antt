@@ -1,0 +1,122 @@
+-- What words ask for, or the first fault why they ask for nothing.
+use Rattle.std.specs.Prelude.{ℕ, ◌≡◌, Bool, true, false, List, [], ◌∷◌, codes, Option, Some, None, Result, Ok, Err, option_and_then, unwrap_or, bytes_eq, if◌then◌else◌}
+use Rattle.clap.specs.Words.{Kinds, Row, Text, first_of, all_of}
+use Rattle.carte_value.specs.Kinds.{is_text_of, name_of}
+use Rattle.carte_value.specs.declared.kind.Kind.{Kind}
+use Rattle.carte_words.specs.declared.words.Command.{Command}
+use Rattle.carte_words.specs.declared.words.Command.TheVariants as command
+use Rattle.carte_words.specs.declared.words.Words.{Words as Asked}
+use Rattle.carte_words.specs.declared.choices.Choices.{Choices}
+use Rattle.carte_words.specs.declared.fault.WordsFault.{WordsFault}
+use Rattle.carte_words.specs.declared.fault.WordsFault.TheVariants.{Words, NoTarget, TargetsNotTaken, BadTarget, NoMemory}
+use Rattle.carte_words.specs.Arguments.{faults_of, values_of}
+use Rattle.carte_words.specs.Tables.{command_named, scheduler_named, rebuilder_named, kind_named, kind_by_ending}
+
+-- a fault is the end, and else it goes on
+infixl 10 ◌>>=◌
+abbrev pub ◌>>=◌ : {A B : Type 0} → Result A WordsFault → (A → Result B WordsFault) → Result B WordsFault
+(Ok a) >>= f = f a
+(Err fault) >>= f = Err fault
+
+abbrev pub or_words : {A : Type 0} → Option A → Result A WordsFault
+or_words (Some a) = Ok a
+or_words None = Err Words
+
+-- ---- the values of the arguments
+
+abbrev pub is_set : Option Text → Bool
+is_set (Some t) = bytes_eq t (codes "true")
+is_set None = false
+
+-- the kind that is said, or that of the book's ending
+abbrev pub kind_of : Option Text → Text → Option Kind
+kind_of (Some t) book = kind_named t
+kind_of None book = Some (kind_by_ending book)
+
+-- what is chosen besides the files and the targets
+abbrev pub choices_of : List Row → Text → Option Choices
+choices_of rows book =
+    option_and_then (λ c. option_and_then (λ k. option_and_then (λ s. option_and_then (λ r. Some (record {
+      command = c;
+      kind = k;
+      scheduler = s;
+      rebuilder = r;
+      list = is_set (first_of (codes "list") rows);
+    }))
+    (option_and_then rebuilder_named (first_of (codes "rebuilder") rows)))
+    (option_and_then scheduler_named (first_of (codes "scheduler") rows)))
+    (kind_of (first_of (codes "kind") rows) book))
+    (option_and_then command_named (first_of (codes "command") rows))
+
+-- ---- the targets
+
+abbrev pub takes_targets : Command → Bool
+takes_targets command.Build = true
+takes_targets command.Session = false
+takes_targets command.Explain = true
+takes_targets command.Clean = false
+
+abbrev pub name_in : Kind → Text → Result Text WordsFault
+name_in kind t = if is_text_of kind t then Ok (name_of kind t) else Err (BadTarget t)
+
+abbrev pub put_first : Text → Result (List Text) WordsFault → Result (List Text) WordsFault
+put_first k (Ok ks) = Ok (k ∷ ks)
+put_first k (Err fault) = Err fault
+
+-- all of them, or the first that is no name of the kind
+abbrev pub names_in : Kind → List Text → Result (List Text) WordsFault
+names_in kind [] = Ok []
+names_in kind (t ∷ ts) = name_in kind t >>= (λ k. put_first k (names_in kind ts))
+
+-- one or more
+abbrev pub some_in : Kind → List Text → Result (List Text) WordsFault
+some_in kind [] = Err NoTarget
+some_in kind (t ∷ ts) = names_in kind (t ∷ ts)
+
+abbrev pub none_in : List Text → Result (List Text) WordsFault
+none_in [] = Ok []
+none_in (t ∷ ts) = Err TargetsNotTaken
+
+abbrev pub targets_of : Choices → List Text → Result (List Text) WordsFault
+targets_of c ts = if takes_targets c.command then some_in c.kind ts else none_in ts
+
+-- ---- all of it
+
+abbrev pub words_with : Text → Text → Choices → List Text → Asked
+words_with book state c targets = record {
+  command = c.command;
+  book = book;
+  state = state;
+  kind = c.kind;
+  scheduler = c.scheduler;
+  rebuilder = c.rebuilder;
+  list = c.list;
+  targets = targets;
+}
+
+abbrev pub chosen_of : List Row → Text → Text → Result Asked WordsFault
+chosen_of rows book state = or_words (choices_of rows book) >>= (λ c.
+    targets_of c (unwrap_or (all_of (codes "target") rows) []) >>= (λ ts. Ok (words_with book state c ts)))
+
+abbrev pub meaning_of : List Row → Result Asked WordsFault
+meaning_of rows = or_words (first_of (codes "book") rows) >>= (λ book.
+    or_words (first_of (codes "state") rows) >>= (λ state. chosen_of rows book state))
+
+abbrev pub taken_of : Kinds → List Row → Result Asked WordsFault
+taken_of [] rows = meaning_of rows
+taken_of (fault ∷ faults) rows = Err Words
+
+abbrev pub words_of : List Text → Result Asked WordsFault
+words_of words = taken_of (faults_of words) (values_of words)
+
+-- ---- what readers answer
+
+-- not the want of memory
+abbrev pub IsCause : WordsFault → Type 0
+IsCause NoMemory = ⊥
+IsCause _ = Unit {0}
+
+-- that, but that memory may run out
+abbrev pub Gives : {A : Type 0} → Result A WordsFault → Result A WordsFault → Type 0
+Gives o (Ok a) = o ≡ Ok a
+Gives o (Err fault) = IsCause fault → o ≡ Err fault

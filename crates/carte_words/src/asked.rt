@@ -1,0 +1,72 @@
+ghost use Rattle.std.specs.Prelude.{◌≡◌};
+ghost use Rattle.clap.specs.Words.{first_of, found_of, rows_of};
+ghost use Rattle.carte_words.specs.Words.{words_of, meaning_of, chosen_of, or_words, Gives};
+
+use crate::choices::{choose, value_at};
+use crate::parse::parse;
+use crate::targets::read_targets;
+use crate::{Word, Words, WordsFault};
+use clap::ArgMatches;
+use std::alloc::Global;
+
+/// What the words of the command line ask for, without the program's name:
+/// `COMMAND BOOK STATE [options] [TARGET..]`, where options may stand between and behind the targets, too.
+///
+/// The commands are `build`, `session`, `explain` and `clean`. The options, each at most once, are
+/// `--scheduler topological` or `suspending` (the default), `--rebuilder dirty`, `verifying` (the default),
+/// `constructive` or `deep`, `--kind rules` or `sheet`, and `--list`. Without `--kind` a book is a sheet where its
+/// word ends with `.csv`, and else a rule file. Behind `--` every word is a target.
+///
+/// The fault is the first of these: `Words`; `NoTarget`; `TargetsNotTaken`; `BadTarget`.
+pub fn read_words(alloc: Global, words: &[Word]) -> Result<Words, WordsFault>
+    ensures { Gives (words_of words.now) result }
+{
+    match parse(alloc, words) {
+        Ok(matches) => read_matches(alloc, &matches),
+        Err(fault) => Err(fault),
+    }
+}
+
+fn read_matches(alloc: Global, matches: &ArgMatches) -> Result<Words, WordsFault>
+    ensures { Gives (meaning_of (rows_of (found_of matches.now))) result }
+{
+    let book = word_at(alloc, matches, "book")?;
+    let state = word_at(alloc, matches, "state")?;
+    read_chosen(alloc, matches, book, state)
+}
+
+fn read_chosen(
+    alloc: Global,
+    matches: &ArgMatches,
+    book: Word,
+    state: Word,
+) -> Result<Words, WordsFault>
+    ensures { Gives (chosen_of (rows_of (found_of matches.now)) book state) result }
+{
+    let Some(choices) = choose(matches, book.text()) else {
+        return Err(WordsFault::Words);
+    };
+    let targets = read_targets(alloc, matches, choices)?;
+    Ok(Words {
+        command: choices.command,
+        book,
+        state,
+        kind: choices.kind,
+        scheduler: choices.scheduler,
+        rebuilder: choices.rebuilder,
+        list: choices.list,
+        targets,
+    })
+}
+
+fn word_at(alloc: Global, matches: &ArgMatches, id: &str) -> Result<Word, WordsFault>
+    ensures { Gives (or_words (first_of id.now (rows_of (found_of matches.now)))) result }
+{
+    match value_at(matches, id) {
+        Some(text) => match Word::of(alloc, text) {
+            Ok(word) => Ok(word),
+            Err(_) => Err(WordsFault::NoMemory),
+        },
+        None => Err(WordsFault::Words),
+    }
+}

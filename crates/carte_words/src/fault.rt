@@ -1,0 +1,17 @@
+use crate::Word;
+
+/// Why words ask for nothing: the first of these, in this order.
+#[derive(Debug, Drop)]
+pub enum WordsFault {
+    /// They are no words of the command: one is missing or too many, an option isn't known or stands twice, or its
+    /// value is none of those that it may have.
+    Words,
+    /// There is no key to build or to explain.
+    NoTarget,
+    /// There are keys where `session` or `clean` takes none.
+    TargetsNotTaken,
+    /// The first target that is no name of the book's kind.
+    BadTarget(Word),
+    /// There was no memory for them. It may come in place of any answer.
+    NoMemory,
+}
