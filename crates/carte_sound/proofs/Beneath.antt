@@ -6,8 +6,8 @@ use Rattle.carte_value.specs.Asks.{firsts, asked}
 use Rattle.carte_value.specs.Truths.{Truth, Among}
 use Rattle.carte_value.proofs.Asks.{asked_kept, asked_known}
 use Rattle.carte_value.proofs.Firsts.{among_firsts, firsts_among}
-use Rattle.carte_formula.specs.Tree.{Tree}
-use Rattle.carte_meaning.specs.Meaning.{asks, eval, fetched}
+use Rattle.carte_tree.specs.Tree.{Tree}
+use Rattle.carte_tree.specs.Meaning.{asks, eval, fetched}
 use Rattle.carte_book.specs.Book.{Item, input, rule, Book, content, valued, val, rules_of, clean}
 use Rattle.carte_book.specs.Needs.{needs}
 use Rattle.carte_book.proofs.Clean.{ended, clean_input, clean_nothing, val_clean}

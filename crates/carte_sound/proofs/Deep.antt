@@ -7,7 +7,7 @@ use Rattle.carte_value.specs.Asks.{firsts}
 use Rattle.carte_value.specs.Spelling.{digest_of}
 use Rattle.carte_value.specs.Truths.{Truth, Among}
 use Rattle.carte_value.proofs.Firsts.{among_firsts, firsts_among}
-use Rattle.carte_formula.specs.Tree.{Tree}
+use Rattle.carte_tree.specs.Tree.{Tree}
 use Rattle.carte_book.specs.Book.{Item, input, rule, Book, content, val, rules_of, clean}
 use Rattle.carte_book.specs.Needs.{needs}
 use Rattle.carte_book.proofs.Clean.{clean_input, val_kept, val_clean}

@@ -7,8 +7,8 @@ use Rattle.carte_value.specs.Truths.{Truth, Among}
 use Rattle.carte_value.specs.Spelling.{digest_of}
 use Rattle.carte_value.proofs.Asks.{asked_known}
 use Rattle.carte_value.proofs.Firsts.{among_firsts, firsts_among}
-use Rattle.carte_formula.specs.Tree.{Tree}
-use Rattle.carte_meaning.specs.Meaning.{asks, eval, fetched}
+use Rattle.carte_tree.specs.Tree.{Tree}
+use Rattle.carte_tree.specs.Meaning.{asks, eval, fetched}
 use Rattle.carte_book.specs.Book.{Item, input, rule, Book, content, valued, val, rules_of, clean}
 use Rattle.carte_book.specs.Needs.{IsRule, needs, needs_of}
 use Rattle.carte_book.proofs.Clean.{ended, clean_rule, clean_input, clean_nothing, val_clean}

@@ -5,7 +5,7 @@ use Rattle.carte_value.specs.declared.value.Value.{Value}
 use Rattle.carte_value.specs.Names.{name_eq}
 use Rattle.carte_value.specs.Spelling.{digest_of}
 use Rattle.carte_value.specs.Truths.{Among}
-use Rattle.carte_formula.specs.Tree.{Tree}
+use Rattle.carte_tree.specs.Tree.{Tree}
 use Rattle.carte_book.specs.Book.{Item, input, rule, Book, content, clean}
 use Rattle.carte_book.specs.Needs.{IsRule, needs}
 use Rattle.carte_book.specs.Digest.{rules_digest_of}
