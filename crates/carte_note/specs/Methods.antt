@@ -1,0 +1,8 @@
+-- The rebuilders by what they do with a finished key.
+use Rattle.carte_sound.specs.Held.{How, dirty, tracing}
+use Rattle.carte_note.specs.declared.method.Method.{Method}
+use Rattle.carte_note.specs.declared.method.Method.TheVariants.{Dirty, Tracing}
+
+abbrev pub how_of : Method → How
+how_of Dirty = dirty
+how_of (Tracing w) = tracing w
