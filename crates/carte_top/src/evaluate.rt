@@ -14,8 +14,8 @@ ghost use Rattle.carte_top.specs.Evaluated.{IsRunnable, Gives, Advances, IsEvalu
 
 use crate::known::Known;
 use carte_book::{Book, Looked};
-use carte_tree::{Expr, static_ends};
 use carte_task::{Each, Halt, Runs, Snapshot, StaticTask, Task};
+use carte_tree::{Expr, static_ends};
 use carte_value::{Kind, Name, NoMemory, Value};
 use std::alloc::Global;
 use std::collections::BTreeMap;
