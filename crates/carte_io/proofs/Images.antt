@@ -1,7 +1,7 @@
 -- Laws of images and of what a crash leaves, for callers that write.
 use Rattle.std.proofs.Common.{◌≡◌, ℕ, ◌+◌, ◌≤◌, List, [], ◌∷◌, ◌++◌, length, arith, refl, sym, ◌∙◌, ap, subst, inl, inr, append_assoc}
 use Rattle.std.proofs.lemmas.Grind.{same_number_lists}
-use Rattle.carte_io.specs.Disk.{EachImage, FailsToSync, FailsToWrite, IsImage, IsSettled, IsTorn, LeavesOnly, Moment, Story, did_sync, longest, moments, put_at, wrote, written_at}
+use Rattle.carte_io.specs.Disk.{CountsUp, EachMoment, IsImage, IsSettled, IsTorn, Leaves, LeavesOnly, Moment, Story, Throughout, longest, moments}
 
 -- of a settled disk a crash leaves exactly what a read gives
 pub settled_image : (m : Moment) (image : List ℕ) → IsSettled m → IsImage m image → image ≡ m.reads
@@ -16,49 +16,88 @@ reads_image m settled =
     subst (λ ranges. IsTorn ranges m.synced m.reads) (sym settled.written)
     (subst (λ bytes. IsTorn [] bytes m.reads) (sym settled.synced) (record { no_shorter = omega arith; no_longer = omega arith; outside = λ i within out. refl }))
 
-each_more : (P Q : List ℕ → Type 0) (ms : List Moment) → ((c : List ℕ) → P c → Q c) → EachImage P ms → EachImage Q ms
-each_more P Q [] f each = tt
-each_more P Q (m ∷ ms) f each = ((λ c image. f c (each.0 c image)), each_more P Q ms f each.1)
+-- moments that have more
+each_more : (Q R : Moment → Type 0) (ms : List Moment) → ((m : Moment) → Q m → R m) → EachMoment Q ms → EachMoment R ms
+each_more Q R [] f each = tt
+each_more Q R (m ∷ ms) f each = (f m each.0, each_more Q R ms f each.1)
 
-each_append : (P : List ℕ → Type 0) (ms ns : List Moment) → EachImage P ms → EachImage P ns → EachImage P (ms ++ ns)
-each_append P [] ns each other = other
-each_append P (m ∷ ms) ns each other = (each.0, each_append P ms ns each.1 other)
+each_append : (Q : Moment → Type 0) (ms ns : List Moment) → EachMoment Q ms → EachMoment Q ns → EachMoment Q (ms ++ ns)
+each_append Q [] ns each other = other
+each_append Q (m ∷ ms) ns each other = (each.0, each_append Q ms ns each.1 other)
 
-pub leaves_more : (old new : Story) (P Q : List ℕ → Type 0) → ((c : List ℕ) → P c → Q c) → LeavesOnly old new P → LeavesOnly old new Q
-leaves_more old new P Q f leaves = record {
-  later = leaves.later;
-  goes_on = leaves.goes_on;
-  first = λ c image. f c (leaves.first c image);
-  each = each_more P Q leaves.later f leaves.each;
+pub throughout_more : (old new : Story) (Q R : Moment → Type 0) → ((m : Moment) → Q m → R m) → Throughout old new Q → Throughout old new R
+throughout_more old new Q R f all = record {
+  later = all.later;
+  goes_on = all.goes_on;
+  first = f old.now all.first;
+  each = each_more Q R all.later f all.each;
 }
 
-pub leaves_then : (old mid new : Story) (P : List ℕ → Type 0) → LeavesOnly old mid P → LeavesOnly mid new P → LeavesOnly old new P
-leaves_then old mid new P one two = record {
+pub throughout_then : (old mid new : Story) (Q : Moment → Type 0) → Throughout old mid Q → Throughout mid new Q → Throughout old new Q
+throughout_then old mid new Q one two = record {
   later = two.later ++ one.later;
   goes_on = two.goes_on ∙ ap (λ ms. two.later ++ ms) one.goes_on ∙ sym (append_assoc two.later one.later (moments old));
   first = one.first;
-  each = each_append P two.later one.later two.each one.each;
+  each = each_append Q two.later one.later two.each one.each;
 }
 
 -- no moment has passed
-pub leaves_none : (old new : Story) (P : List ℕ → Type 0) → new ≡ old → ((c : List ℕ) → IsImage old.now c → P c) → LeavesOnly old new P
-leaves_none old new P is now = record { later = []; goes_on = ap moments is; first = now; each = tt }
+pub throughout_none : (old new : Story) (Q : Moment → Type 0) → new ≡ old → Q old.now → Throughout old new Q
+throughout_none old new Q is now = record { later = []; goes_on = ap moments is; first = now; each = tt }
 
 -- one moment has passed
-pub leaves_one : (old new : Story) (P : List ℕ → Type 0) (m : Moment) → moments new ≡ m ∷ moments old
-    → ((c : List ℕ) → IsImage old.now c → P c) → ((c : List ℕ) → IsImage m c → P c) → LeavesOnly old new P
-leaves_one old new P m is first now = record { later = m ∷ []; goes_on = is; first = first; each = (now, tt) }
+pub throughout_one : (old new : Story) (Q : Moment → Type 0) (m : Moment) → moments new ≡ m ∷ moments old → Q old.now → Q m → Throughout old new Q
+throughout_one old new Q m is first now = record { later = m ∷ []; goes_on = is; first = first; each = (now, tt) }
 
-last_of : (old new : Story) (P : List ℕ → Type 0) (later : List Moment) → moments new ≡ later ++ moments old
-    → ((c : List ℕ) → IsImage old.now c → P c) → EachImage P later → (c : List ℕ) → IsImage new.now c → P c
-last_of old new P [] goes_on first each c image =
-    let is : new.now ≡ old.now = cc in first c (subst (λ (m : Moment). IsImage m c) is image)
-last_of old new P (m ∷ ms) goes_on first each c image =
-    let is : new.now ≡ m = cc in each.0 c (subst (λ (n : Moment). IsImage n c) is image)
+last_moment : (old new : Story) (Q : Moment → Type 0) (later : List Moment) → moments new ≡ later ++ moments old → Q old.now → EachMoment Q later → Q new.now
+last_moment old new Q [] goes_on first each = let is : new.now ≡ old.now = cc in subst Q (sym is) first
+last_moment old new Q (m ∷ ms) goes_on first each = let is : new.now ≡ m = cc in subst Q (sym is) each.0
+
+-- the moment now is one of those since then
+pub throughout_last : (old new : Story) (Q : Moment → Type 0) → Throughout old new Q → Q new.now
+throughout_last old new Q all = last_moment old new Q all.later all.goes_on all.first all.each
+
+-- how many calls had passed at moments, the newest first, in front of others
+each_counted : (n k : ℕ) (Q : Moment → Type 0) (later older : List Moment) → EachMoment (λ m. m.passed ≤ n) (later ++ older)
+    → EachMoment (λ m. k ≤ m.passed) later → EachMoment Q later → EachMoment (λ m. Q m × (k ≤ m.passed) × (m.passed ≤ n)) later
+each_counted n k Q [] older few many each = tt
+each_counted n k Q (m ∷ later) older few many each = ((each.0, many.0, few.0), each_counted n k Q later older few.1 many.1 each.1)
+
+few_first : (n : ℕ) (later : List Moment) (m : Moment) (ms : List Moment) → EachMoment (λ m. m.passed ≤ n) (later ++ (m ∷ ms)) → m.passed ≤ n
+few_first n [] m ms few = few.0
+few_first n (l ∷ later) m ms few = few_first n later m ms few.1
+
+each_many : (later : List Moment) (m : Moment) (ms : List Moment) → CountsUp (later ++ (m ∷ ms)) → EachMoment (λ l. m.passed ≤ l.passed) later
+each_many [] m ms up = tt
+each_many (l ∷ later) m ms up = (few_first l.passed later m ms up.0, each_many later m ms up.1)
+
+-- at each of them had as many calls passed as at the first, and no more than at the last
+pub throughout_counted : (old new : Story) (Q : Moment → Type 0) → CountsUp (moments new) → Throughout old new Q
+    → Throughout old new (λ m. Q m × (old.now.passed ≤ m.passed) × (m.passed ≤ new.now.passed))
+throughout_counted old new Q up all =
+    let few : EachMoment (λ m. m.passed ≤ new.now.passed) (all.later ++ moments old) =
+    subst (EachMoment (λ m. m.passed ≤ new.now.passed)) all.goes_on (omega arith, up.0) in
+    let many : EachMoment (λ m. old.now.passed ≤ m.passed) all.later = each_many all.later old.now old.past (subst CountsUp all.goes_on up) in
+    record {
+      later = all.later;
+      goes_on = all.goes_on;
+      first = (all.first, omega arith, few_first new.now.passed all.later old.now old.past few);
+      each = each_counted new.now.passed old.now.passed Q all.later (moments old) few many all.each;
+    }
+
+-- the same of images
+pub leaves_more : (old new : Story) (P Q : List ℕ → Type 0) → ((c : List ℕ) → P c → Q c) → LeavesOnly old new P → LeavesOnly old new Q
+leaves_more old new P Q f = throughout_more old new (Leaves P) (Leaves Q) (λ m leaves c image. f c (leaves c image))
+
+pub leaves_then : (old mid new : Story) (P : List ℕ → Type 0) → LeavesOnly old mid P → LeavesOnly mid new P → LeavesOnly old new P
+leaves_then old mid new P = throughout_then old mid new (Leaves P)
+
+pub leaves_none : (old new : Story) (P : List ℕ → Type 0) → new ≡ old → ((c : List ℕ) → IsImage old.now c → P c) → LeavesOnly old new P
+leaves_none old new P = throughout_none old new (Leaves P)
 
 -- what a crash now leaves is one of the things that a crash since then left
 pub leaves_last : (old new : Story) (P : List ℕ → Type 0) → LeavesOnly old new P → (c : List ℕ) → IsImage new.now c → P c
-leaves_last old new P leaves = last_of old new P leaves.later leaves.goes_on leaves.first leaves.each
+leaves_last old new P = throughout_last old new (Leaves P)
 
 longest_more : (n : ℕ) (range : ℕ × ℕ) (ranges : List (ℕ × ℕ)) → longest n ranges ≤ longest n (range ∷ ranges)
 longest_more n range ranges = omega arith
@@ -73,66 +112,3 @@ torn_more range ranges old new torn = record {
 
 pub torn_none : (old : List ℕ) → IsTorn [] old old
 torn_none old = record { no_shorter = omega arith; no_longer = omega arith; outside = λ i within out. refl }
-
--- writes over a settled disk, and then a sync
-module _ (s : Story) where
-  -- these ranges were written since s, at which all was synced
-  pub record Writing (ranges : List (ℕ × ℕ)) (t : Story) : Type 0 where
-    pub so_far : LeavesOnly s t (IsTorn ranges s.now.reads)
-    pub synced : t.now.synced ≡ s.now.reads
-    pub written : t.now.written ≡ ranges
-
-  -- an image now is the old file, torn in these ranges
-  torn_now : (ranges : List (ℕ × ℕ)) (t : Story) → t.now.synced ≡ s.now.reads → t.now.written ≡ ranges
-      → (c : List ℕ) → IsImage t.now c → IsTorn ranges s.now.reads c
-  torn_now ranges t synced written c image =
-      subst (λ old. IsTorn ranges old c) synced (subst (λ rs. IsTorn rs t.now.synced c) written image)
-
-  pub started : IsSettled s.now → Writing [] s
-  started settled = record {
-    so_far = leaves_none s s (IsTorn [] s.now.reads) refl (torn_now [] s settled.synced settled.written);
-    synced = settled.synced;
-    written = settled.written;
-  }
-
-  -- a write may tear its range too, from the moment on at which it is called
-  wider : (at n : ℕ) (ranges : List (ℕ × ℕ)) (t : Story) → Writing ranges t → LeavesOnly s t (IsTorn ((at, at + n) ∷ ranges) s.now.reads)
-  wider at n ranges t so = leaves_more s t (IsTorn ranges s.now.reads) _ (λ c torn. torn_more (at, at + n) ranges s.now.reads c torn) so.so_far
-
-  -- one moment more, which has this range too
-  wrote_some : (at n : ℕ) (ranges : List (ℕ × ℕ)) (t u : Story) (reads : List ℕ) → Writing ranges t
-      → moments u ≡ written_at t.now at n reads ∷ moments t → LeavesOnly s u (IsTorn ((at, at + n) ∷ ranges) s.now.reads)
-  wrote_some at n ranges t u reads so is =
-      leaves_then s t u (IsTorn ((at, at + n) ∷ ranges) s.now.reads) (wider at n ranges t so)
-      (leaves_one t u (IsTorn ((at, at + n) ∷ ranges) s.now.reads) (written_at t.now at n reads) is
-      (λ c image. torn_more (at, at + n) ranges s.now.reads c (torn_now ranges t so.synced so.written c image))
-      (λ c image. subst (λ old. IsTorn ((at, at + n) ∷ ranges) old c) so.synced (subst (λ rs. IsTorn ((at, at + n) ∷ rs) t.now.synced c) so.written image)))
-
-  pub goes_on : (at : ℕ) (piece : List ℕ) (ranges : List (ℕ × ℕ)) (t u : Story) → Writing ranges t → u ≡ wrote at piece t
-      → Writing ((at, at + length piece) ∷ ranges) u
-  goes_on at piece ranges t u so is = record {
-    so_far = wrote_some at (length piece) ranges t u (put_at t.now.reads at piece) so (ap moments is);
-    synced = ap (λ (v : Story). v.now.synced) is ∙ so.synced;
-    written = ap (λ (v : Story). v.now.written) is ∙ ap (λ rs. (at, at + length piece) ∷ rs) so.written;
-  }
-
-  pub write_fails : (at n : ℕ) (ranges : List (ℕ × ℕ)) (t u : Story) → Writing ranges t → FailsToWrite at n t u
-      → LeavesOnly s u (IsTorn ((at, at + n) ∷ ranges) s.now.reads)
-  write_fails at n ranges t u so (inl same) =
-      subst (λ v. LeavesOnly s v (IsTorn ((at, at + n) ∷ ranges) s.now.reads)) (sym same) (wider at n ranges t so)
-  write_fails at n ranges t u so (inr (reads, torn, is)) = wrote_some at n ranges t u reads so (ap moments is)
-
-  pub sync_fails : (ranges : List (ℕ × ℕ)) (t u : Story) → Writing ranges t → FailsToSync t u → LeavesOnly s u (IsTorn ranges s.now.reads)
-  sync_fails ranges t u so (inl same) = subst (λ v. LeavesOnly s v (IsTorn ranges s.now.reads)) (sym same) so.so_far
-  sync_fails ranges t u so (inr (reads, image, is)) =
-      leaves_then s t u (IsTorn ranges s.now.reads) so.so_far
-      (leaves_one t u (IsTorn ranges s.now.reads) (record { reads = reads; synced = t.now.synced; written = t.now.written }) (ap moments is)
-      (torn_now ranges t so.synced so.written) (torn_now ranges t so.synced so.written))
-
-  pub sync_passes : (ranges : List (ℕ × ℕ)) (t u : Story) → Writing ranges t → IsImage t.now t.now.reads → u ≡ did_sync t
-      → LeavesOnly s u (IsTorn ranges s.now.reads)
-  sync_passes ranges t u so reads is =
-      leaves_then s t u (IsTorn ranges s.now.reads) so.so_far
-      (leaves_one t u (IsTorn ranges s.now.reads) (did_sync t).now (ap moments is) (torn_now ranges t so.synced so.written)
-      (λ c image. subst (IsTorn ranges s.now.reads) (sym (settled_image (did_sync t).now c (record { synced = refl; written = refl }) image))
-      (torn_now ranges t so.synced so.written t.now.reads reads)))

@@ -1,9 +1,10 @@
 -- A disk in memory: its story goes on by each call that passes, and its bytes with it.
-use Rattle.std.proofs.Common.{◌≡◌, ℕ, ◌+◌, ◌-◌, ◌≤◌, List, [], ◌∷◌, ◌++◌, length, take, drop, replicate, arith, rules, refl, sym, ◌∙◌, ap, inl, inr, length-append, length-take, length-drop}
+use Rattle.std.proofs.Common.{◌≡◌, ℕ, ◌+◌, ◌-◌, ◌≤◌, ◌<◌, false, Option, Some, None, List, [], ◌∷◌, ◌++◌, length, take, drop, replicate, arith, rules, refl, sym, ◌∙◌, ap, inl, inr, length-append, length-take, length-drop}
 use Rattle.std.proofs.lemmas.Bool.{cases_lt}
+use Rattle.std.proofs.lemmas.Bool.Decides.{nat_tests}
 use Rattle.std.proofs.lemmas.List.{places, same_lists, length-replicate}
 use Rattle.carte_io.specs.Disk.{Story, put_at, wrote, did_sync}
-use Rattle.carte_io.specs.MemDisks.{MemoryOfDisk, after_call, after_calls, begun, story_of}
+use Rattle.carte_io.specs.MemDisks.{MemoryOfDisk, after_call, after_calls, begun, bounded, is_stopped, most_of, story_of}
 use Rattle.carte_io.specs.declared.passed.Passed.{Passed}
 use Rattle.carte_io.specs.declared.passed.Passed.TheVariants.{Wrote, Synced}
 
@@ -13,23 +14,33 @@ after_calls-push s [] call = refl
 after_calls-push s (Wrote at piece ∷ calls) call = after_calls-push (wrote at piece s) calls call
 after_calls-push s (Synced ∷ calls) call = after_calls-push (did_sync s) calls call
 
-pub passed-after_calls : (s : Story) (calls : List Passed) → (after_calls s calls).passed ≡ s.passed + length calls
-passed-after_calls s [] = omega arith
-passed-after_calls s (Wrote at piece ∷ calls) = omega (arith, passed-after_calls (wrote at piece s) calls)
-passed-after_calls s (Synced ∷ calls) = omega (arith, passed-after_calls (did_sync s) calls)
-
 -- what a read gives after one call more
 pub reads_on : (s : Story) (calls after : List Passed) (call : Passed) (reads : List ℕ) → after ≡ calls ++ call ∷ []
     → reads ≡ (after_call (after_calls s calls) call).now.reads → reads ≡ (after_calls s after).now.reads
 reads_on s calls after call reads is so = so ∙ sym (ap (λ t. t.now.reads) (ap (after_calls s) is ∙ after_calls-push s calls call))
 
+-- where it wasn't stopped one call more is let pass, and in all as many as before
+most_on : (stop : Option ℕ) (n : ℕ) → is_stopped stop n ≡ false → most_of stop (n + 1) ≡ most_of stop n
+most_on None n on = refl
+most_on (Some stop) n on = ap Some (let lt : n < stop = grind (arith, nat_tests) in omega arith)
+
+bounded_call : (most : Option ℕ) (s : Story) (call : Passed) → bounded most (after_call s call) ≡ after_call (bounded most s) call
+bounded_call most s (Wrote at piece) = refl
+bounded_call most s Synced = refl
+
 -- and the story of the disk
-pub story_on : (d : MemoryOfDisk) (first : List ℕ) (calls after : List Passed) (call : Passed) → after ≡ calls ++ call ∷ []
-    → first ≡ d.first → calls ≡ d.passed → after_calls (begun first) after ≡ after_call (story_of d) call
-story_on d first calls after call is same_first same_calls =
-    ap (after_calls (begun first)) is ∙ after_calls-push (begun first) calls call
-    ∙ ap (λ bytes. after_call (after_calls (begun bytes) calls) call) same_first
-    ∙ ap (λ cs. after_call (after_calls (begun d.first) cs) call) same_calls
+pub story_on : (d : MemoryOfDisk) (first : List ℕ) (stop : Option ℕ) (calls after : List Passed) (call : Passed) → after ≡ calls ++ call ∷ []
+    → first ≡ d.first → stop ≡ d.stop → calls ≡ d.passed → is_stopped d.stop (length d.passed) ≡ false
+    → bounded (most_of stop (length after)) (after_calls (begun first) after) ≡ after_call (story_of d) call
+story_on d first stop calls after call is same_first same_stop same_calls on =
+    let now : after ≡ d.passed ++ call ∷ [] = is ∙ ap (λ cs. cs ++ call ∷ []) same_calls in
+    ap (λ cs. bounded (most_of stop (length cs)) (after_calls (begun first) cs)) now
+    ∙ ap (λ st. bounded (most_of st (length (d.passed ++ call ∷ []))) (after_calls (begun first) (d.passed ++ call ∷ []))) same_stop
+    ∙ ap (λ bytes. bounded (most_of d.stop (length (d.passed ++ call ∷ []))) (after_calls (begun bytes) (d.passed ++ call ∷ []))) same_first
+    ∙ ap (λ n. bounded (most_of d.stop n) (after_calls (begun d.first) (d.passed ++ call ∷ []))) (length-append d.passed (call ∷ []))
+    ∙ ap (λ most. bounded most (after_calls (begun d.first) (d.passed ++ call ∷ []))) (most_on d.stop (length d.passed) on)
+    ∙ ap (bounded (most_of d.stop (length d.passed))) (after_calls-push (begun d.first) d.passed call)
+    ∙ bounded_call (most_of d.stop (length d.passed)) (after_calls (begun d.first) d.passed) call
 
 -- filled up with zeros first, and then written over
 take_grown : (old : List ℕ) (at m : ℕ) → at - length old ≤ m

@@ -1,17 +1,19 @@
 -- A disk as its clauses see it: what a read gives, and what a crash may leave.
-use Rattle.std.specs.Prelude.{◌≡◌, ◌⊎◌, ℕ, ◌+◌, ◌-◌, ◌<◌, ◌≤◌, max, List, [], ◌∷◌, ◌++◌, length, take, drop, replicate, slice_index}
+use Rattle.std.specs.Prelude.{◌≡◌, ◌⊎◌, ℕ, ◌+◌, ◌-◌, ◌<◌, ◌≤◌, max, List, [], ◌∷◌, ◌++◌, length, take, drop, replicate, slice_index, Option, Some, None}
 
--- one moment: what a read gives, what was there at the last sync, and the ranges written since, each from its first offset to its end, the newest first
+-- one moment: what a read gives, what was there at the last sync, the ranges written since, each from its first offset to its end, the newest first,
+-- and how many calls of write and sync had passed
 pub record Moment : Type 0 where
   pub reads : List ℕ
   pub synced : List ℕ
   pub written : List (ℕ × ℕ)
+  pub passed : ℕ
 
--- the moments so far, the past ones newest first, and how many calls of write and sync passed
+-- the moments so far, the past ones newest first, and how many calls of write and sync its disk lets pass in all: none where there is no bound
 pub record Story : Type 0 where
   pub now : Moment
   pub past : List Moment
-  pub passed : ℕ
+  pub most : Option ℕ
 
 -- an offset lies in one of the ranges
 abbrev pub IsWritten : List (ℕ × ℕ) → ℕ → Type 0
@@ -42,19 +44,19 @@ pub record IsSettled (m : Moment) : Type 0 where
 abbrev pub put_at : List ℕ → ℕ → List ℕ → List ℕ
 put_at old at piece = take at (old ++ replicate (at - length old) 0) ++ piece ++ drop (at + length piece) old
 
--- the story goes on to a moment, by so many calls that passed
-abbrev pub goes_to : Story → Moment → ℕ → Story
-goes_to s m n = record { now = m; past = s.now ∷ s.past; passed = s.passed + n }
+-- the story goes on to a moment
+abbrev pub goes_to : Story → Moment → Story
+goes_to s m = record { now = m; past = s.now ∷ s.past; most = s.most }
 
--- n bytes at an offset were written, and a read gives this now
-abbrev pub written_at : Moment → ℕ → ℕ → List ℕ → Moment
-written_at m at n reads = record { reads = reads; synced = m.synced; written = (at, at + n) ∷ m.written }
+-- so many calls passed, n bytes at an offset were written, and a read gives this now
+abbrev pub written_at : Moment → ℕ → ℕ → ℕ → List ℕ → Moment
+written_at m calls at n reads = record { reads = reads; synced = m.synced; written = (at, at + n) ∷ m.written; passed = m.passed + calls }
 
 abbrev pub wrote : ℕ → List ℕ → Story → Story
-wrote at piece s = goes_to s (written_at s.now at (length piece) (put_at s.now.reads at piece)) 1
+wrote at piece s = goes_to s (written_at s.now 1 at (length piece) (put_at s.now.reads at piece))
 
 abbrev pub did_sync : Story → Story
-did_sync s = goes_to s (record { reads = s.now.reads; synced = s.now.reads; written = [] }) 1
+did_sync s = goes_to s (record { reads = s.now.reads; synced = s.now.reads; written = []; passed = s.now.passed + 1 })
 
 abbrev pub range_of : ℕ → ℕ → List (ℕ × ℕ)
 range_of at n = (at, at + n) ∷ []
@@ -62,28 +64,46 @@ range_of at n = (at, at + n) ∷ []
 -- a write that failed: nothing happened, or its range may hold any bytes
 abbrev pub FailsToWrite : ℕ → ℕ → Story → Story → Type 0
 FailsToWrite at n old new = (new ≡ old)
-    ⊎ ((reads : List ℕ) × IsTorn (range_of at n) old.now.reads reads × (new ≡ goes_to old (written_at old.now at n reads) 0))
+    ⊎ ((reads : List ℕ) × IsTorn (range_of at n) old.now.reads reads × (new ≡ goes_to old (written_at old.now 0 at n reads)))
 
 -- a sync that failed: what a read gives now is one of the images, which are as before
 abbrev pub FailsToSync : Story → Story → Type 0
 FailsToSync old new = (new ≡ old)
-    ⊎ ((reads : List ℕ) × IsImage old.now reads × (new ≡ goes_to old (record { reads = reads; synced = old.now.synced; written = old.now.written }) 0))
+    ⊎ ((reads : List ℕ) × IsImage old.now reads × (new ≡ goes_to old (record old.now { reads = reads })))
 
 abbrev pub moments : Story → List Moment
 moments s = s.now ∷ s.past
 
--- each image of each of these moments has P
-abbrev pub EachImage : (List ℕ → Type 0) → List Moment → Type 0
-EachImage P [] = Unit {0}
-EachImage P (m ∷ ms) = ((image : List ℕ) → IsImage m image → P image) × EachImage P ms
+-- each of these moments has Q
+abbrev pub EachMoment : (Moment → Type 0) → List Moment → Type 0
+EachMoment Q [] = Unit {0}
+EachMoment Q (m ∷ ms) = Q m × EachMoment Q ms
 
--- a crash at any moment from the old story's last to the new one's leaves a file that has P
-pub record LeavesOnly (old new : Story) (P : List ℕ → Type 0) : Type 0 where
+-- each moment from the old story's last to the new one's has Q
+pub record Throughout (old new : Story) (Q : Moment → Type 0) : Type 0 where
   pub later : List Moment
   pub goes_on : moments new ≡ later ++ moments old
-  pub first : (image : List ℕ) → IsImage old.now image → P image
-  pub each : EachImage P later
+  pub first : Q old.now
+  pub each : EachMoment Q later
+
+-- each image at a moment has P
+abbrev pub Leaves : (List ℕ → Type 0) → Moment → Type 0
+Leaves P m = (image : List ℕ) → IsImage m image → P image
+
+-- a crash at any moment from the old story's last to the new one's leaves a file that has P
+abbrev pub LeavesOnly : Story → Story → (List ℕ → Type 0) → Type 0
+LeavesOnly old new P = Throughout old new (Leaves P)
+
+-- of moments, the newest first, none has more calls passed than a newer one
+abbrev pub CountsUp : List Moment → Type 0
+CountsUp [] = Unit {0}
+CountsUp (m ∷ ms) = EachMoment (λ older. older.passed ≤ m.passed) ms × CountsUp ms
+
+-- a count is within a bound, where there is one
+abbrev pub IsWithin : Option ℕ → ℕ → Type 0
+IsWithin None n = Unit {0}
+IsWithin (Some most) n = n ≤ most
 
 -- what a disk that tells nothing is seen as
 abbrev pub untold : Story
-untold = record { now = record { reads = []; synced = []; written = [] }; past = []; passed = 0 }
+untold = record { now = record { reads = []; synced = []; written = []; passed = 0 }; past = []; most = None }

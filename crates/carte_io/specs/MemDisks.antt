@@ -1,10 +1,10 @@
 -- A disk in memory as its clauses see it: what it held at first, and the calls that passed.
-use Rattle.std.specs.Prelude.{◌≡◌, ◌⊎◌, ℕ, ◌+◌, ◌<◌, ◌≤◌, ◌||◌, nat_le, List, [], ◌∷◌, ◌++◌, length, Bool, false, Option, Some, None, refl}
+use Rattle.std.specs.Prelude.{◌≡◌, ◌⊎◌, ℕ, ◌+◌, ◌<◌, ◌≤◌, ◌||◌, nat_le, max, List, [], ◌∷◌, ◌++◌, length, Bool, false, Option, Some, None, refl}
 use Rattle.std.proofs.Common.{get_or, arith, inl, inr, ◌∙◌}
 use Rattle.std.proofs.lemmas.Bool.{cases_lt}
 use Rattle.carte_io.specs.Causes.{counted}
 use Rattle.carte_io.specs.Memory.{is_failing}
-use Rattle.carte_io.specs.Disk.{Story, wrote, did_sync, IsImage, IsTorn, IsWritten, put_at}
+use Rattle.carte_io.specs.Disk.{Story, wrote, did_sync, CountsUp, EachMoment, IsImage, IsTorn, IsWithin, IsWritten, Moment, moments, put_at}
 use Rattle.carte_io.specs.Puts.{length-put_at, put_at_outside}
 use Rattle.carte_io.specs.declared.passed.Passed.{Passed}
 use Rattle.carte_io.specs.declared.passed.Passed.TheVariants.{Wrote, Synced}
@@ -23,9 +23,9 @@ pub record MemoryOfDisk : Type 0 where
 abbrev pub begun_disk : List ℕ → List ℕ → MemoryOfDisk
 begun_disk bytes failing = record { first = bytes; passed = []; failing = failing; stop = None; calls = 0; faults = 0 }
 
--- its story
+-- its story, for which there is no bound
 abbrev pub begun : List ℕ → Story
-begun bytes = record { now = record { reads = bytes; synced = bytes; written = [] }; past = []; passed = 0 }
+begun bytes = record { now = record { reads = bytes; synced = bytes; written = []; passed = 0 }; past = []; most = None }
 
 abbrev pub after_call : Story → Passed → Story
 after_call s (Wrote at piece) = wrote at piece s
@@ -35,8 +35,16 @@ abbrev pub after_calls : Story → List Passed → Story
 after_calls s [] = s
 after_calls s (call ∷ calls) = after_calls (after_call s call) calls
 
+-- how many writing calls pass in all, where it is to stop after so many, and so many passed already
+abbrev pub most_of : Option ℕ → ℕ → Option ℕ
+most_of None n = None
+most_of (Some stop) n = Some (max stop n)
+
+abbrev pub bounded : Option ℕ → Story → Story
+bounded most s = record s { most = most }
+
 abbrev pub story_of : MemoryOfDisk → Story
-story_of d = after_calls (begun d.first) d.passed
+story_of d = bounded (most_of d.stop (length d.passed)) (after_calls (begun d.first) d.passed)
 
 abbrev pub is_stopped : Option ℕ → ℕ → Bool
 is_stopped None n = false
@@ -94,3 +102,31 @@ image_after s (Synced ∷ calls) image = image_after (did_sync s) calls (image_s
 
 pub image_of : (d : MemoryOfDisk) → IsImage (story_of d).now (story_of d).now.reads
 image_of d = image_after (begun d.first) d.passed (image_synced d.first)
+
+-- more calls passed than before, whatever was let pass
+each_fewer : (n k : ℕ) → n ≤ k → (ms : List Moment) → EachMoment (λ m. m.passed ≤ n) ms → EachMoment (λ m. m.passed ≤ k) ms
+each_fewer n k le [] each = tt
+each_fewer n k le (m ∷ ms) each = (omega (arith, each.0), each_fewer n k le ms each.1)
+
+counts_more : (s : Story) (m : Moment) → s.now.passed ≤ m.passed → CountsUp (moments s) → CountsUp (m ∷ moments s)
+counts_more s m le up = ((le, each_fewer s.now.passed m.passed le s.past up.0), up)
+
+counts_after : (s : Story) (calls : List Passed) → CountsUp (moments s) → CountsUp (moments (after_calls s calls))
+counts_after s [] up = up
+counts_after s (Wrote at piece ∷ calls) up = counts_after (wrote at piece s) calls (counts_more s (wrote at piece s).now (omega arith) up)
+counts_after s (Synced ∷ calls) up = counts_after (did_sync s) calls (counts_more s (did_sync s).now (omega arith) up)
+
+pub in_order_of : (d : MemoryOfDisk) → CountsUp (moments (story_of d))
+in_order_of d = counts_after (begun d.first) d.passed (tt, tt)
+
+pub passed-after_calls : (s : Story) (calls : List Passed) → (after_calls s calls).now.passed ≡ s.now.passed + length calls
+passed-after_calls s [] = omega arith
+passed-after_calls s (Wrote at piece ∷ calls) = omega (arith, passed-after_calls (wrote at piece s) calls)
+passed-after_calls s (Synced ∷ calls) = omega (arith, passed-after_calls (did_sync s) calls)
+
+within_most : (stop : Option ℕ) (n m : ℕ) → m ≤ n → IsWithin (most_of stop n) m
+within_most None n m le = tt
+within_most (Some stop) n m le = omega arith
+
+pub within_of : (d : MemoryOfDisk) → IsWithin (story_of d).most (story_of d).now.passed
+within_of d = within_most d.stop (length d.passed) _ (omega (arith, passed-after_calls (begun d.first) d.passed))

@@ -30,9 +30,7 @@ impl Absent {
 impl Source for Absent {
     ghost tells = { ⊥ };
 
-    ghost left = { λ _. [] };
-
-    ghost faults = { λ a. a };
+    ghost state = { λ a. record { left = []; faults = a } };
 
     fn read(&mut self, into: &mut [u8]) -> Result<usize, Failed>
         ensures cause { HasCause self.old self.new result }
@@ -53,6 +51,10 @@ impl Disk for Absent {
     ghost faults = { λ a. a };
 
     ghost is_image = { λ _ never. absurd never };
+
+    ghost in_order = { λ _ never. absurd never };
+
+    ghost within = { λ _ never. absurd never };
 
     fn len(&mut self) -> Result<u64, Failed>
         ensures cause { HasCause self.old self.new result }

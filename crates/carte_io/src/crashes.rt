@@ -6,7 +6,7 @@ ghost use Rattle.carte_io.specs.MemDisks.{after_calls, begun};
 
 use crate::NoMemory;
 use crate::passed::{Passed, grow, put};
-use std::alloc::{AllocError, Global};
+use std::alloc::Global;
 
 /// What a crash makes of the bytes that were written since the last sync.
 #[derive(Clone, Copy, Debug)]
@@ -116,7 +116,7 @@ fn fill_range(bytes: &mut Vec<u8>, at: usize, count: usize, byte: u8) -> Result<
     ensures { OnOk result (IsFilled byte (range_of at count) bytes.old.items bytes.new.items) }
 {
     let Some(end) = at.checked_add(count) else {
-        return Err(AllocError);
+        return Err(NoMemory);
     };
     grow(bytes, end, byte)?;
     fill(bytes, at, end, byte);

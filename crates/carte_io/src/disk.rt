@@ -1,6 +1,6 @@
 ghost use Rattle.std.specs.Prelude.{◌≡◌, ◌+◌, ◌≤◌, ℕ, length, take, drop, IfOk, OnOk, OnErr};
 ghost use Rattle.carte_io.specs.Causes.{HasCause};
-ghost use Rattle.carte_io.specs.Disk.{FailsToSync, FailsToWrite, IsImage, Story, did_sync, wrote};
+ghost use Rattle.carte_io.specs.Disk.{CountsUp, FailsToSync, FailsToWrite, IsImage, IsWithin, Story, did_sync, moments, wrote};
 
 use crate::Failed;
 
@@ -46,4 +46,10 @@ pub trait Disk {
 
     /// A disk as it reads is one of its images.
     ghost is_image: { (disk : Self) → tells → IsImage (story disk).now (story disk).now.reads };
+
+    /// No moment has more writing calls passed than a later one.
+    ghost in_order: { (disk : Self) → tells → CountsUp (moments (story disk)) };
+
+    /// Where it lets only so many pass, no more than that have.
+    ghost within: { (disk : Self) → tells → IsWithin (story disk).most (story disk).now.passed };
 }

@@ -2,14 +2,15 @@ ghost use Rattle.std.specs.Prelude.{◌≡◌, is_ok, if◌then◌else◌};
 ghost use Rattle.carte_io.specs.Causes.{HasCause, counted};
 ghost use Rattle.carte_io.specs.Disk.{untold};
 
-use crate::counts::counted_answer;
+use crate::counts::{counted_answer, one_more};
 use crate::{Disk, Failed};
 use std::fs::File;
 use std::marker::Model;
 use std::os::unix::fs::FileExt;
 
 /// A file as a disk. It tells nothing, for no proof can say what a file holds: that a real file keeps to the
-/// disk's clauses is trusted. Each error is a counted failure.
+/// disk's clauses is trusted. Each error is a counted failure, and so is the length of what isn't a regular file: a
+/// device has none that stays.
 #[derive(Drop)]
 pub struct FileDisk {
     file: File,
@@ -42,14 +43,20 @@ impl Disk for FileDisk {
 
     ghost is_image = { λ _ never. absurd never };
 
+    ghost in_order = { λ _ never. absurd never };
+
+    ghost within = { λ _ never. absurd never };
+
     fn len(&mut self) -> Result<u64, Failed>
         ensures cause { HasCause self.old self.new result }
         ensures counts { self.new ≡ (if is_ok result then self.old else counted self.old) }
     {
-        match counted_answer(self.file.metadata(), &mut self.faults) {
-            Ok(metadata) => Ok(metadata.len()),
-            Err(failed) => Err(failed),
+        let metadata = counted_answer(self.file.metadata(), &mut self.faults)?;
+        if !metadata.is_file() {
+            self.faults = one_more(self.faults);
+            return Err(Failed);
         }
+        Ok(metadata.len())
     }
 
     fn read_at(&mut self, at: u64, into: &mut [u8]) -> Result<(), Failed>

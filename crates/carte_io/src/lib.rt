@@ -38,9 +38,10 @@ mod whole;
 mod write_sinks;
 
 pub use absent::Absent;
+pub use carte_value::NoMemory;
 pub use crashes::Pick;
 pub use disk::Disk;
-pub use failed::{Failed, NoMemory};
+pub use failed::Failed;
 pub use file_disk::FileDisk;
 pub use mem_disk::MemDisk;
 pub use mem_sink::MemSink;

@@ -1,5 +1,5 @@
 // A disk in memory.
-ghost use Rattle.std.specs.Prelude.{◌≡◌, ◌+◌, ◌<◌, ◌≤◌, ◌-◌, ◌^◌, ◌++◌, ◌∷◌, [], true, length, take, drop, Some, min, is_err, IfOk, OnOk, OnErr, IsErr};
+ghost use Rattle.std.specs.Prelude.{◌≡◌, ◌+◌, ◌<◌, ◌≤◌, ◌-◌, ◌^◌, ◌++◌, ◌∷◌, [], true, false, length, take, drop, Some, min, is_err, IfOk, OnOk, OnErr, IsErr};
 ghost use Rattle.carte_io.specs.Causes.{HasCause, counted};
 ghost use Rattle.carte_io.specs.Crashes.{IsPicked};
 ghost use Rattle.carte_io.specs.Disk.{IsImage, IsSettled, FailsToSync, FailsToWrite, did_sync, wrote};
@@ -73,7 +73,7 @@ impl MemDisk {
 
     /// How many calls of `write_at` and `sync` passed.
     pub fn passed(&self) -> u64
-        ensures { result ≡ (story_of self.now).passed }
+        ensures { result ≡ (story_of self.now).now.passed }
     {
         self.passed.len() as u64
     }
@@ -103,7 +103,7 @@ impl MemDisk {
     {
         match pick {
             Pick::Lost => synced_image(alloc, &self.first, &self.passed),
-            Pick::Kept => self.bytes.to_vec(alloc),
+            Pick::Kept => Ok(self.bytes.to_vec(alloc)?),
             Pick::Fill(byte) => filled_image(alloc, &self.first, &self.passed, byte),
         }
     }
@@ -112,6 +112,7 @@ impl MemDisk {
     fn admit(&mut self) -> Result<(), Failed>
         ensures refuses { is_err result ≡ is_refusing self.old }
         ensures ok { OnOk result (self.new ≡ disk_read self.old) }
+        ensures on { OnOk result (is_stopped self.new.stop (length self.new.passed) ≡ false) }
         ensures err { OnErr result (self.new ≡ disk_failed self.old) }
         ensures cause { HasCause self.old.faults self.new.faults result }
     {
@@ -126,6 +127,7 @@ impl MemDisk {
 
     // A write that was counted, and is to pass where there is memory.
     fn write_admitted(&mut self, at: u64, piece: &[u8]) -> Result<(), Failed>
+        requires { is_stopped self.old.stop (length self.old.passed) ≡ false }
         ensures ok { OnOk result (story_of self.new ≡ wrote at piece.now (story_of self.old)) }
         ensures passed { OnOk result (self.new ≡ record self.old { passed = self.old.passed ++ Wrote at piece.now ∷ [] }) }
         ensures failed { OnErr result (self.new ≡ record self.old { faults = counted self.old.faults }) }
@@ -142,6 +144,7 @@ impl MemDisk {
 
     // A sync that was counted, and is to pass where there is memory for its note.
     fn sync_admitted(&mut self) -> Result<(), Failed>
+        requires { is_stopped self.old.stop (length self.old.passed) ≡ false }
         ensures ok { OnOk result (story_of self.new ≡ did_sync (story_of self.old)) }
         ensures passed { OnOk result (self.new ≡ record self.old { passed = self.old.passed ++ Synced ∷ [] }) }
         ensures failed { OnErr result (self.new ≡ record self.old { faults = counted self.old.faults }) }
@@ -167,7 +170,7 @@ impl MemDisk {
 }
 
 impl Disk for MemDisk {
-    ghost use Rattle.carte_io.specs.MemDisks.{image_of, story_of};
+    ghost use Rattle.carte_io.specs.MemDisks.{image_of, in_order_of, story_of, within_of};
 
     ghost tells = { Unit {0} };
 
@@ -176,6 +179,10 @@ impl Disk for MemDisk {
     ghost faults = { λ d. d.faults };
 
     ghost is_image = { λ d _. image_of d };
+
+    ghost in_order = { λ d _. in_order_of d };
+
+    ghost within = { λ d _. within_of d };
 
     fn len(&mut self) -> Result<u64, Failed>
         ensures length { IfOk result (λ n. n ≡ length (story_of self.old).now.reads) }
@@ -187,10 +194,8 @@ impl Disk for MemDisk {
         ensures ok { OnOk result (self.new ≡ disk_read self.old) }
         ensures failed { OnErr result (self.new ≡ disk_failed self.old) }
     {
-        match self.admit() {
-            Ok(()) => Ok(self.bytes.len() as u64),
-            Err(failed) => Err(failed),
-        }
+        self.admit()?;
+        Ok(self.bytes.len() as u64)
     }
 
     fn read_at(&mut self, at: u64, into: &mut [u8]) -> Result<(), Failed>
@@ -204,13 +209,9 @@ impl Disk for MemDisk {
         ensures ok { OnOk result (self.new ≡ disk_read self.old) }
         ensures failed { OnErr result ((self.new ≡ disk_failed self.old) × (into.new ≡ into.old)) }
     {
-        match self.admit() {
-            Ok(()) => {
-                copy_from(self.bytes(), at as usize, into);
-                Ok(())
-            }
-            Err(failed) => Err(failed),
-        }
+        self.admit()?;
+        copy_from(self.bytes(), at as usize, into);
+        Ok(())
     }
 
     fn write_at(&mut self, at: u64, piece: &[u8]) -> Result<(), Failed>
@@ -223,10 +224,8 @@ impl Disk for MemDisk {
         ensures passed { OnOk result (self.new ≡ disk_passed (Wrote at piece.now) self.old) }
         ensures failed { OnErr result (self.new ≡ disk_failed self.old) }
     {
-        match self.admit() {
-            Ok(()) => self.write_admitted(at, piece),
-            Err(failed) => Err(failed),
-        }
+        self.admit()?;
+        self.write_admitted(at, piece)
     }
 
     fn sync(&mut self) -> Result<(), Failed>
@@ -239,10 +238,8 @@ impl Disk for MemDisk {
         ensures passed { OnOk result (self.new ≡ disk_passed Synced self.old) }
         ensures failed { OnErr result (self.new ≡ disk_failed self.old) }
     {
-        match self.admit() {
-            Ok(()) => self.sync_admitted(),
-            Err(failed) => Err(failed),
-        }
+        self.admit()?;
+        self.sync_admitted()
     }
 }
 

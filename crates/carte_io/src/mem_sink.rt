@@ -65,11 +65,7 @@ impl Sink for MemSink {
 
     ghost tells = { Unit {0} };
 
-    ghost taken = { λ s. s.taken.items };
-
-    ghost handed = { λ s. s.handed };
-
-    ghost faults = { λ s. s.faults };
+    ghost state = { λ s. record { taken = s.taken.items; handed = s.handed; faults = s.faults } };
 
     ghost handed_taken = { λ s _. s.handed_taken };
 

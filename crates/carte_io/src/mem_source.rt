@@ -53,9 +53,7 @@ impl MemSource {
 impl Source for MemSource {
     ghost tells = { Unit {0} };
 
-    ghost left = { λ s. s.left };
-
-    ghost faults = { λ s. s.faults };
+    ghost state = { λ s. record { left = s.left; faults = s.faults } };
 
     fn read(&mut self, into: &mut [u8]) -> Result<usize, Failed>
         ensures bound { IfOk result (λ n. n ≤ length into.old) }

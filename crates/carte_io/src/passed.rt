@@ -3,7 +3,7 @@ ghost use Rattle.std.specs.Prelude.{◌≡◌, ◌+◌, ◌<◌, ◌≤◌, ◌-
 ghost use Rattle.carte_io.specs.Disk.{put_at};
 
 use crate::NoMemory;
-use std::alloc::{AllocError, Global};
+use std::alloc::Global;
 use std::marker::Model;
 
 /// A piece that was written.
@@ -56,7 +56,7 @@ pub(crate) fn write_and_note(
     ensures err { OnErr result ((bytes.new.items ≡ bytes.old.items) × (passed.new.items ≡ passed.old.items)) }
 {
     let Some(end) = (at as usize).checked_add(piece.len()) else {
-        return Err(AllocError);
+        return Err(NoMemory);
     };
     let noted = Piece::of(alloc, piece)?;
     bytes.try_reserve(end.saturating_sub(bytes.len()))?;
@@ -81,7 +81,7 @@ pub(crate) fn put(bytes: &mut Vec<u8>, at: usize, piece: &[u8]) -> Result<(), No
     ensures room { at + length piece.now ≤ vec_capacity bytes.old → IsOk result }
 {
     let Some(end) = at.checked_add(piece.len()) else {
-        return Err(AllocError);
+        return Err(NoMemory);
     };
     grow(bytes, end, 0)?;
     overwrite(bytes, at, piece);

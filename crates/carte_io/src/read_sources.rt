@@ -34,9 +34,7 @@ impl<R: Read + Drop> ReadSource<R> {
 impl<R: Read + Drop> Source for ReadSource<R> {
     ghost tells = { ⊥ };
 
-    ghost left = { λ _. [] };
-
-    ghost faults = { λ s. s.1 };
+    ghost state = { λ s. record { left = []; faults = s.1 } };
 
     fn read(&mut self, into: &mut [u8]) -> Result<usize, Failed>
         ensures bound { IfOk result (λ n. n ≤ length into.old) }

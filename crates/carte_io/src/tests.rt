@@ -65,6 +65,10 @@ fn a_source_is_read_whole(rt: HostRuntime) -> Result<(), Fail> {
             Err(ReadEnd::TooLong)
         )
     );
+    let long = vec![in rt.alloc(); 7u8; 20000]?;
+    let mut pieces = MemSource::of(rt.alloc(), &long, &[])?;
+    let bytes = read_whole(rt.alloc(), &mut pieces, 20000)?;
+    assert_eq!(rt; bytes.as_slice(), long.as_slice(), "by three pieces");
     let mut slice = ReadSource::of(b"xyz".as_slice());
     let bytes = read_whole(rt.alloc(), &mut slice, 100)?;
     assert_eq!(rt; bytes.as_slice(), b"xyz".as_slice());
@@ -115,6 +119,7 @@ fn what_cannot_hand_on_fails(rt: HostRuntime) -> Result<(), Fail> {
     let mut disk = FileDisk::of(null);
     assert!(rt; disk.write_at(0, b"ab").is_ok());
     assert!(rt; disk.sync().is_err(), "a device that can't sync");
+    assert!(rt; disk.len().is_err(), "a device has no length");
     Ok(())
 }
 
@@ -138,7 +143,7 @@ fn crashed(alloc: Global, calls: u64, pick: Pick) -> Result<Vec<u8>, NoMemory> {
     let _ = disk.sync();
     let _ = disk.write_at(5, b"Z");
     let image = disk.crash(alloc, pick)?;
-    image.bytes().to_vec(alloc)
+    Ok(image.bytes().to_vec(alloc)?)
 }
 
 #[test]
@@ -214,11 +219,15 @@ fn a_file_is_a_disk(rt: HostRuntime) -> Result<(), Fail> {
     assert!(rt; disk.write_at(0, b"ab").is_ok());
     assert!(rt; disk.sync().is_ok());
     assert_eq!(rt; disk.len().ok(), Some(4));
+    assert!(rt; disk.write_at(4090, b"over a page").is_ok());
+    let mut over = [0; 14];
+    assert!(rt; disk.read_at(4087, &mut over).is_ok());
+    assert_eq!(rt; over.as_slice(), b"\0\0\0over a page".as_slice());
     let mut into = [0; 3];
     assert!(rt; disk.read_at(1, &mut into).is_ok());
     assert_eq!(rt; into, *b"bcd");
     assert!(rt;
-        disk.read_at(2, &mut into).is_err(),
+        disk.read_at(4100, &mut into).is_err(),
         "a range that isn't there"
     );
     std::fs::remove_file(&rt, "file_disk_of_a_test")?;

@@ -1,10 +1,10 @@
 // Reading a source to its end, within a limit.
 ghost use Rattle.std.specs.Prelude.{◌≡◌, ◌≢◌, ◌+◌, ◌-◌, ◌<◌, ◌≤◌, [], length, drop, true, false, vec_len, IfOk, OnOk, OnErr, IsErrOf};
-ghost use Rattle.carte_io.specs.Causes.{Rose};
-ghost use Rattle.carte_io.specs.Streams.{HasMore, LosesFront};
+ghost use Rattle.carte_io.specs.Causes.{HasCauseOf};
+ghost use Rattle.carte_io.specs.Streams.{Reads, ReadsMore};
 
-use crate::Source;
-use std::alloc::Global;
+use crate::{Failed, Source};
+use std::alloc::{AllocError, Global};
 use thiserror::Error;
 
 // The most bytes of one call: as std's readers ask for.
@@ -24,27 +24,47 @@ pub enum ReadEnd {
     NoMemory,
 }
 
+impl From<Failed> for ReadEnd {
+    ghost use Rattle.std.specs.Prelude.{◌≡◌};
+    ghost use Rattle.carte_io.specs.declared.whole.ReadEnd.TheVariants.{Failed};
+
+    ghost from_gives = { λ _ end. end ≡ Failed };
+
+    fn from(_: Failed) -> ReadEnd {
+        ReadEnd::Failed
+    }
+}
+
+impl From<AllocError> for ReadEnd {
+    ghost use Rattle.std.specs.Prelude.{◌≡◌};
+    ghost use Rattle.carte_io.specs.declared.whole.ReadEnd.TheVariants.{NoMemory};
+
+    ghost from_gives = { λ _ end. end ≡ NoMemory };
+
+    fn from(_: AllocError) -> ReadEnd {
+        ReadEnd::NoMemory
+    }
+}
+
 /// All the bytes left, of which there may be at most `limit`. It asks for at most one byte more than that.
 pub fn read_whole<S: Source>(
     alloc: Global,
     source: &mut S,
     limit: usize,
 ) -> Result<Vec<u8>, ReadEnd>
-    ensures whole { S.tells → IfOk result (λ bytes. (bytes.items ≡ S.left source.old) × (S.left source.new ≡ [])) }
-    ensures short { IfOk result (λ bytes. vec_len bytes ≤ limit) }
-    ensures long { S.tells → IsErrOf result ReadEnd.TooLong
-        → (limit < length (S.left source.old)) × (S.left source.new ≡ drop (limit + 1) (S.left source.old)) }
-    ensures rest { S.tells → OnErr result (LosesFront (limit + 1) (S.left source.old) (S.left source.new)) }
-    ensures failed { IsErrOf result ReadEnd.Failed → Rose (S.faults source.old) (S.faults source.new) }
-    ensures later { S.faults source.old ≤ S.faults source.new }
+    ensures whole { IfOk result (λ read. S.tells → (read.items ≡ (S.state source.old).left) × ((S.state source.new).left ≡ [])) }
+    ensures short { IfOk result (λ read. vec_len read ≤ limit) }
+    ensures long { IsErrOf result ReadEnd.TooLong
+        → Reads (λ read. length read ≡ limit + 1) S.tells (S.state source.old).left (S.state source.new).left }
+    ensures rest { OnErr result (Reads (λ read. length read ≤ limit + 1) S.tells (S.state source.old).left (S.state source.new).left) }
+    ensures cause { HasCauseOf ReadEnd.Failed (S.state source.old).faults (S.state source.new).faults result }
 {
     let mut piece = [0; PIECE];
     let mut bytes = Vec::new(alloc);
     while bytes.len() <= limit {
-        match read_more(source, &mut piece, &mut bytes, limit) {
-            Ok(true) => {}
-            Ok(false) => return Ok(bytes),
-            Err(end) => return Err(end),
+        let more = read_more(source, &mut piece, &mut bytes, limit)?;
+        if !more {
+            return Ok(bytes);
         }
     }
     Err(ReadEnd::TooLong)
@@ -61,20 +81,16 @@ fn read_more<S: Source>(
     requires piece { 0 < length piece.old }
     ensures within { OnOk result (vec_len bytes.new ≤ limit + 1) }
     ensures more { result ≡ Ok true → vec_len bytes.old < vec_len bytes.new }
-    ensures bytes { S.tells → OnOk result (HasMore bytes.old.items bytes.new.items (S.left source.old) (S.left source.new)) }
+    ensures bytes { OnOk result (ReadsMore S.tells (S.state source.old).left (S.state source.new).left bytes.old.items bytes.new.items) }
     ensures none { result ≡ Ok false → bytes.new.items ≡ bytes.old.items }
-    ensures end { S.tells → result ≡ Ok false → S.left source.old ≡ [] }
-    ensures rest { S.tells → OnErr result (LosesFront (limit + 1 - vec_len bytes.old) (S.left source.old) (S.left source.new)) }
-    ensures cause { IsErrOf result ReadEnd.Failed → Rose (S.faults source.old) (S.faults source.new) }
-    ensures later { S.faults source.old ≤ S.faults source.new }
+    ensures end { S.tells → result ≡ Ok false → (S.state source.old).left ≡ [] }
+    ensures rest { OnErr result
+        (Reads (λ read. length read ≤ limit + 1 - vec_len bytes.old) S.tells (S.state source.old).left (S.state source.new).left) }
+    ensures cause { HasCauseOf ReadEnd.Failed (S.state source.old).faults (S.state source.new).faults result }
     ensures long { result ≢ Err ReadEnd.TooLong }
 {
     let room = (limit - bytes.len()).min(piece.len() - 1) + 1;
-    match source.read(&mut piece[..room]) {
-        Ok(count) => match bytes.extend_from_slice(&piece[..count]) {
-            Ok(()) => Ok(count > 0),
-            Err(_) => Err(ReadEnd::NoMemory),
-        },
-        Err(_) => Err(ReadEnd::Failed),
-    }
+    let count = source.read(&mut piece[..room])?;
+    bytes.extend_from_slice(&piece[..count])?;
+    Ok(count > 0)
 }

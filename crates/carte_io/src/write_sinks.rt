@@ -36,11 +36,7 @@ impl<W: Write + Drop> WriteSink<W> {
 impl<W: Write + Drop> Sink for WriteSink<W> {
     ghost tells = { ⊥ };
 
-    ghost taken = { λ _. [] };
-
-    ghost handed = { λ _. 0 };
-
-    ghost faults = { λ s. s.1 };
+    ghost state = { λ s. record { taken = []; handed = 0; faults = s.1 } };
 
     ghost handed_taken = { λ _ never. absurd never };
 

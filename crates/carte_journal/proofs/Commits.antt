@@ -1,20 +1,24 @@
 -- The steps of a commit, from a disk at rest to a disk at rest.
-use Rattle.std.proofs.Common.{◌≡◌, ℕ, ◌+◌, ◌<◌, ◌≤◌, ◌^◌, true, false, List, [], ◌∷◌, ◌++◌, length, arith, refl, sym, ◌∙◌, ap, subst, inl, inr, append-nil}
+use Rattle.std.proofs.Common.{◌≡◌, ℕ, ◌+◌, ◌<◌, ◌≤◌, ◌^◌, true, false, Bool, cond, List, [], ◌∷◌, ◌++◌, length, arith, refl, sym, ◌∙◌, ap, subst, inl, inr, append-nil}
 use Rattle.std.proofs.lemmas.Bool.{cases_Bool, leb-true, leb-false, lt-leb}
-use Rattle.carte_io.specs.Disk.{IsSettled, IsTorn, LeavesOnly, Story, did_sync, put_at, range_of, wrote}
-use Rattle.carte_io.proofs.Images.{leaves_more, leaves_none, leaves_then, settled_image}
+use Rattle.carte_io.specs.Disk.{IsSettled, IsTorn, Leaves, Story, Throughout, did_sync, put_at, range_of, wrote}
+use Rattle.carte_io.specs.Stations.{StepsThrough}
+use Rattle.carte_io.proofs.Acknowledged.{steps_one}
+use Rattle.carte_io.proofs.Images.{settled_image, throughout_more, throughout_none, throughout_then}
 use Rattle.carte_journal.specs.Frames.{BodyAt, Ends, end_of, piece_of, reading}
-use Rattle.carte_journal.specs.Journals.{IsAtRest, IsBeforeOrAfter, Standing}
-use Rattle.carte_journal.specs.Ready.{IsReady, IsReadyAt, start_bytes}
+use Rattle.carte_journal.specs.Journals.{IsAtRest, IsReadAs, Standing, calls_of, step_of}
+use Rattle.carte_journal.specs.Ready.{AddsBody, IsReady, IsReadyAt, IsWrittenThrough, StaysReady, start_bytes}
 use Rattle.carte_journal.proofs.Files.{gate_from, gate_inside}
 use Rattle.carte_journal.proofs.Readings.{behind_torn, gate_torn, new_reads, opened_ready, read_ready, ready_reads, started_ready, started_torn}
 
 -- a journal at rest
 module _ (j : Standing) (bodies : List BodyAt) (s : Story) (rest : IsAtRest j bodies s) where
   -- on a disk where nothing happened
-  pub rest_moment : LeavesOnly s s (λ file. reading j.limit file ≡ Ends j.gate bodies)
-  rest_moment = leaves_none s s _ refl
-      (λ c image. ap (reading j.limit) (settled_image s.now c rest.settled image) ∙ rest.read.reads)
+  pub rest_leaves : Leaves (λ file. reading j.limit file ≡ Ends j.gate bodies) s.now
+  rest_leaves c image = ap (reading j.limit) (settled_image s.now c rest.settled image) ∙ rest.read.reads
+
+  pub rest_stays : Throughout s s (StaysReady j.limit j.gate bodies (s.now.passed + 0))
+  rest_stays = throughout_none s s _ refl (record { few = omega arith; reads = rest_leaves })
 
   is_short : j.fresh ≡ true → length s.now.reads ≤ 9
   is_short fresh = leb-true (length s.now.reads) 9 (sym rest.read.fresh_is ∙ fresh)
@@ -23,11 +27,11 @@ module _ (j : Standing) (bodies : List BodyAt) (s : Story) (rest : IsAtRest j bo
   is_new fresh = sym (new_reads j.limit s.now.reads (is_short fresh)) ∙ rest.read.reads
 
   -- while the header is written
-  pub begin_moment : (u : Story) → j.fresh ≡ true → LeavesOnly s u (IsTorn (range_of 0 9) s.now.reads)
-      → LeavesOnly s u (λ file. reading j.limit file ≡ Ends j.gate bodies)
-  begin_moment u fresh leaves =
-      leaves_more s u (IsTorn (range_of 0 9) s.now.reads) _
-      (λ c torn. started_torn j.limit s.now.reads c (is_short fresh) torn ∙ is_new fresh) leaves
+  pub begin_stays : (u : Story) → j.fresh ≡ true → IsWrittenThrough 0 start_bytes s u → Throughout s u (StaysReady j.limit j.gate bodies (s.now.passed + 2))
+  begin_stays u fresh = throughout_more s u _ _ (λ m mid. record {
+    few = mid.few;
+    reads = λ c image. started_torn j.limit s.now.reads c (is_short fresh) (mid.torn c image) ∙ is_new fresh;
+  })
 
   pub begin_ready : (u : Story) → j.fresh ≡ true → u ≡ did_sync (wrote 0 start_bytes s) → IsReadyAt j.limit j.gate bodies u
   begin_ready u fresh is =
@@ -48,11 +52,13 @@ module _ (j : Standing) (bodies : List BodyAt) (s : Story) (rest : IsAtRest j bo
 
 -- a file that is ready for a frame
 module _ (limit gate : ℕ) (bodies : List BodyAt) (body : List ℕ) (s : Story) (ready : IsReadyAt limit gate bodies s) where
-  -- while the frame is written behind the closed gate byte
-  pub frame_moment : (n : ℕ) (u : Story) → LeavesOnly s u (IsTorn (range_of (gate + 1) n) s.now.reads)
-      → LeavesOnly s u (IsBeforeOrAfter limit gate bodies body)
-  frame_moment n u leaves =
-      leaves_more s u (IsTorn (range_of (gate + 1) n) s.now.reads) _ (λ c torn. inl (behind_torn limit gate bodies s.now.reads ready.file n c torn)) leaves
+  -- while the frame is written behind the closed gate byte, and more calls are to come
+  pub frame_adds : (piece : List ℕ) (count : ℕ) (u : Story) → s.now.passed + 2 < count → IsWrittenThrough (gate + 1) piece s u
+      → Throughout s u (AddsBody limit gate bodies body count)
+  frame_adds piece count u below = throughout_more s u _ _ (λ m mid. record {
+    either = λ c image. inl (behind_torn limit gate bodies s.now.reads ready.file (length piece) c (mid.torn c image));
+    after = λ enough. absurd (omega (arith, enough, mid.few));
+  })
 
   module _ (piece : List ℕ) (is : piece ≡ piece_of body) (u : Story) (staged : u ≡ did_sync (wrote (gate + 1) piece s)) (short : length body < 2 ^ 32)
       (fits : end_of gate body + 1 ≤ limit) where
@@ -65,38 +71,68 @@ module _ (limit gate : ℕ) (bodies : List BodyAt) (body : List ℕ) (s : Story)
     no_tail : piece ≡ piece_of body ++ []
     no_tail = is ∙ sym (append-nil (piece_of body))
 
+    opened_file : IsReady limit (end_of gate body) (bodies ++ (gate, body) ∷ []) (put_at u.now.reads gate (1 ∷ []))
+    opened_file = subst (λ file. IsReady limit (end_of gate body) (bodies ++ (gate, body) ∷ []) (put_at file gate (1 ∷ []))) (sym staged_reads)
+        (opened_ready limit gate bodies s.now.reads ready.file piece body [] no_tail short fits)
+
     -- while the gate byte is opened
-    pub gate_moment : (v : Story) → LeavesOnly u v (IsTorn (range_of gate 1) u.now.reads) → LeavesOnly u v (IsBeforeOrAfter limit gate bodies body)
-    gate_moment v leaves =
-        leaves_more u v (IsTorn (range_of gate 1) u.now.reads) _
-        (λ c torn. gate_torn limit gate bodies s.now.reads ready.file c piece body [] no_tail short fits
-        (subst (λ file. IsTorn (range_of gate 1) file c) staged_reads torn))
-        leaves
+    pub gate_adds : (count : ℕ) (v : Story) → count ≡ u.now.passed + 2 → IsWrittenThrough gate (1 ∷ []) u v
+        → Throughout u v (AddsBody limit gate bodies body count)
+    gate_adds count v count_is = throughout_more u v _ _ (λ m mid. record {
+      either = λ c image. gate_torn limit gate bodies s.now.reads ready.file c piece body [] no_tail short fits
+          (subst (λ file. IsTorn (range_of gate 1) file c) staged_reads (mid.torn c image));
+      after = λ enough c image.
+          ap (reading limit) (mid.whole (omega (arith, enough, count_is)) c image)
+          ∙ ready_reads limit (end_of gate body) (bodies ++ (gate, body) ∷ []) (put_at u.now.reads gate (1 ∷ [])) opened_file;
+    })
 
     pub gate_ready : (v : Story) → v ≡ did_sync (wrote gate (1 ∷ []) u) → IsReadyAt limit (end_of gate body) (bodies ++ (gate, body) ∷ []) v
     gate_ready v opened =
         subst (IsReadyAt limit (end_of gate body) (bodies ++ (gate, body) ∷ [])) (sym opened) (record {
-          file = subst (λ file. IsReady limit (end_of gate body) (bodies ++ (gate, body) ∷ []) (put_at file gate (1 ∷ []))) (sym staged_reads)
-              (opened_ready limit gate bodies s.now.reads ready.file piece body [] no_tail short fits);
+          file = opened_file;
           settled = record { synced = refl; written = refl };
         })
 
--- the header first, and then the frame
-module _ (j : Standing) (bodies : List BodyAt) (body : List ℕ) (gate : ℕ) where
-  pub begins_moment : (s u : Story) → j.gate ≡ gate → LeavesOnly s u (λ file. reading j.limit file ≡ Ends j.gate bodies)
-      → LeavesOnly s u (IsBeforeOrAfter j.limit gate bodies body)
-  begins_moment s u is leaves =
-      leaves_more s u (λ file. reading j.limit file ≡ Ends j.gate bodies) _ (λ c reads. inl (reads ∙ ap (λ g. Ends g bodies) is)) leaves
+pub calls_sum : (fresh : Bool) (n : ℕ) → n + cond fresh 2 0 + 4 ≡ n + cond fresh 6 4
+calls_sum true n = omega arith
+calls_sum false n = omega arith
 
-  pub begin_then : (s u v : Story) → j.gate ≡ gate → LeavesOnly s u (λ file. reading j.limit file ≡ Ends j.gate bodies)
-      → LeavesOnly u v (IsBeforeOrAfter j.limit gate bodies body) → LeavesOnly s v (IsBeforeOrAfter j.limit gate bodies body)
-  begin_then s u v is leaves more = leaves_then s u v (IsBeforeOrAfter j.limit gate bodies body) (begins_moment s u is leaves) more
+pub some_calls : (fresh : Bool) → cond fresh 2 0 + 3 < cond fresh 6 4
+some_calls true = omega arith
+some_calls false = omega arith
+
+-- the header first, and then the frame
+module _ (j : Standing) (bodies : List BodyAt) (body : List ℕ) (gate count : ℕ) where
+  pub begin_adds : (few : ℕ) (s u : Story) → j.gate ≡ gate → few < count → Throughout s u (StaysReady j.limit j.gate bodies few)
+      → Throughout s u (AddsBody j.limit gate bodies body count)
+  begin_adds few s u is below = throughout_more s u _ _ (λ m stays. record {
+    either = λ c image. inl (stays.reads c image ∙ ap (λ g. Ends g bodies) is);
+    after = λ enough. absurd (omega (arith, enough, stays.few));
+  })
+
+  pub begin_then : (few : ℕ) (s u v : Story) → j.gate ≡ gate → few < count → Throughout s u (StaysReady j.limit j.gate bodies few)
+      → Throughout u v (AddsBody j.limit gate bodies body count) → Throughout s v (AddsBody j.limit gate bodies body count)
+  begin_then few s u v is below stays = throughout_then s u v _ (begin_adds few s u is below stays)
 
 -- a commit as a whole
 module _ (j : Standing) (bodies : List BodyAt) (body : List ℕ) (s : Story) (rest : IsAtRest j bodies s) where
   -- where nothing was done
-  pub full_moment : LeavesOnly s s (IsBeforeOrAfter j.limit j.gate bodies body)
-  full_moment = leaves_more s s (λ file. reading j.limit file ≡ Ends j.gate bodies) _ (λ c reads. inl reads) (rest_moment j bodies s rest)
+  pub full_steps : StepsThrough (IsReadAs j.limit) (Ends j.gate bodies) (step_of j bodies body ∷ []) s s
+  full_steps = steps_one (IsReadAs j.limit) (Ends j.gate bodies) (step_of j bodies body) s s
+      (throughout_none s s _ refl (record {
+        either = λ c image. inl (rest_leaves j bodies s rest c image);
+        after = λ enough. absurd (omega (arith, enough, some_calls j.fresh));
+      }))
+
+  -- where the header and the frame were written, or some of it
+  pub commit_steps : (limit gate count : ℕ) (u : Story) → gate ≡ j.gate → limit ≡ j.limit → count ≡ s.now.passed + calls_of j
+      → Throughout s u (AddsBody limit gate bodies body count)
+      → StepsThrough (IsReadAs j.limit) (Ends j.gate bodies) (step_of j bodies body ∷ []) s u
+  commit_steps limit gate count u gate_is limit_is count_is adds =
+      steps_one (IsReadAs j.limit) (Ends j.gate bodies) (step_of j bodies body) s u
+      (subst (λ l. Throughout s u (AddsBody l j.gate bodies body (s.now.passed + calls_of j))) limit_is
+      (subst (λ g. Throughout s u (AddsBody limit g bodies body (s.now.passed + calls_of j))) gate_is
+      (subst (λ n. Throughout s u (AddsBody limit gate bodies body n)) count_is adds)))
 
   -- the first gate byte is that at 8
   rest_gate : 8 ≤ j.gate

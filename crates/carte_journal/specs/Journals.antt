@@ -1,6 +1,7 @@
 -- What a journal stands for, and what a commit may leave.
-use Rattle.std.specs.Prelude.{◌≡◌, ◌⊎◌, ℕ, ◌+◌, nat_le, Bool, true, false, cond, List, [], ◌∷◌, ◌++◌, length}
+use Rattle.std.specs.Prelude.{◌≡◌, ℕ, ◌+◌, nat_le, Bool, true, false, cond, List, [], ◌∷◌, ◌++◌, length}
 use Rattle.carte_io.specs.Disk.{IsSettled, Story}
+use Rattle.carte_io.specs.Stations.{Step}
 use Rattle.carte_journal.specs.Frames.{BodyAt, Ends, Bad, Reading, end_of, reading}
 
 -- a journal as its clauses see it: the closed gate byte behind its frames, the most bytes that its file may have,
@@ -42,7 +43,14 @@ committed j body = record { gate = end_of j.gate body; limit = j.limit; fresh = 
 abbrev pub broke : Standing → Standing
 broke j = record j { broken = true }
 
--- the file holds these bodies, and then this one or not, whole
-abbrev pub IsBeforeOrAfter : ℕ → ℕ → List BodyAt → List ℕ → List ℕ → Type 0
-IsBeforeOrAfter limit gate bodies body file =
-    (reading limit file ≡ Ends gate bodies) ⊎ (reading limit file ≡ Ends (end_of gate body) (bodies ++ (gate, body) ∷ []))
+-- the file is read so
+abbrev pub IsReadAs : ℕ → Reading → List ℕ → Type 0
+IsReadAs limit r file = reading limit file ≡ r
+
+-- with one body more
+abbrev pub with_body : Standing → List BodyAt → List ℕ → Reading
+with_body j bodies body = Ends (end_of j.gate body) (bodies ++ (j.gate, body) ∷ [])
+
+-- a commit as a step from what the file is read as before it
+abbrev pub step_of : Standing → List BodyAt → List ℕ → Step Reading
+step_of j bodies body = record { calls = calls_of j; to = with_body j bodies body }

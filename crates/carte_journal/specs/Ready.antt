@@ -1,7 +1,8 @@
 -- A file to which a frame can be put: steps on the way to a commit.
-use Rattle.std.specs.Prelude.{◌≡◌, ℕ, ◌≤◌, List, [], ◌∷◌, ◌++◌, length, take}
-use Rattle.carte_io.specs.Disk.{IsSettled, Story}
-use Rattle.carte_journal.specs.Frames.{BodyAt, Ends, frames_from, header}
+use Rattle.std.specs.Prelude.{◌≡◌, ℕ, ◌+◌, ◌≤◌, List, [], ◌∷◌, ◌++◌, length, take}
+use Rattle.carte_io.specs.Disk.{IsSettled, Leaves, Moment, Story, Throughout, put_at, range_of}
+use Rattle.carte_io.specs.Stations.{IsMidway, Turns}
+use Rattle.carte_journal.specs.Frames.{BodyAt, Ends, end_of, frames_from, header, reading}
 
 -- the frames from a place on have these bodies, and behind them is a closed gate byte
 pub record HasFrames (limit start gate : ℕ) (bodies : List BodyAt) (file : List ℕ) : Type 0 where
@@ -18,6 +19,21 @@ pub record IsReadyAt (limit gate : ℕ) (bodies : List BodyAt) (story : Story) :
   pub file : IsReady limit gate bodies story.now.reads
   pub settled : IsSettled story.now
 
+-- at a moment of which at most so many calls had passed, each image holds these bodies
+pub record StaysReady (limit gate : ℕ) (bodies : List BodyAt) (count : ℕ) (m : Moment) : Type 0 where
+  pub few : m.passed ≤ count
+  pub reads : Leaves (λ file. reading limit file ≡ Ends gate bodies) m
+
 -- the header and a closed gate byte
 abbrev pub start_bytes : List ℕ
 start_bytes = header ++ 0 ∷ []
+
+-- a piece is written and synced, and nothing else; whether both calls pass or not
+abbrev pub IsWrittenThrough : ℕ → List ℕ → Story → Story → Type 0
+IsWrittenThrough at piece old new =
+    Throughout old new (IsMidway (range_of at (length piece)) old.now.reads (put_at old.now.reads at piece) (old.now.passed + 2))
+
+-- at a moment of a call by whose end so many calls have passed: each image holds these bodies, and then this one or not, whole; and from the end on it has it
+abbrev pub AddsBody : ℕ → ℕ → List BodyAt → List ℕ → ℕ → Moment → Type 0
+AddsBody limit gate bodies body count m =
+    Turns (λ file. reading limit file ≡ Ends gate bodies) (λ file. reading limit file ≡ Ends (end_of gate body) (bodies ++ (gate, body) ∷ [])) count m

@@ -1,29 +1,11 @@
 -- Commits one after another.
-use Rattle.std.specs.Prelude.{◌≡◌, ◌⊎◌, ℕ, ◌<◌, List, [], ◌∷◌, ◌++◌}
-use Rattle.carte_io.specs.Disk.{LeavesOnly, Story}
-use Rattle.carte_io.specs.Stations.{StandsFrom, StepsThrough}
-use Rattle.carte_journal.specs.Frames.{Bad, BodyAt, Ends, Reading, end_of, reading}
-use Rattle.carte_journal.specs.Journals.{IsAtRest, Standing, committed, needed_for}
+use Rattle.std.specs.Prelude.{◌≡◌, ℕ, ◌+◌, ◌<◌, ◌≤◌, List, [], ◌∷◌, ◌++◌}
+use Rattle.carte_io.specs.Disk.{Story}
+use Rattle.carte_io.specs.Stations.{Step}
+use Rattle.carte_journal.specs.Frames.{BodyAt, Reading}
+use Rattle.carte_journal.specs.Journals.{IsAtRest, Standing, calls_of, committed, needed_for, step_of}
 
--- the file is read so
-abbrev pub IsReadAs : ℕ → Reading → List ℕ → Type 0
-IsReadAs limit r file = reading limit file ≡ r
-
--- with one body more, and with several
-abbrev pub with_body : Reading → List ℕ → Reading
-with_body (Ends gate bodies) body = Ends (end_of gate body) (bodies ++ (gate, body) ∷ [])
-with_body (Bad gate) body = Bad gate
-
-abbrev pub with_bodies : Reading → List (List ℕ) → Reading
-with_bodies r [] = r
-with_bodies r (body ∷ more) = with_bodies (with_body r body) more
-
--- what a file is read as after each of the commits
-abbrev pub stations : Reading → List (List ℕ) → List Reading
-stations r [] = []
-stations r (body ∷ more) = with_body r body ∷ stations (with_body r body) more
-
--- the journal after the commits, and the bodies with their places
+-- the journal after the commits, the bodies with their places, and the writing calls
 abbrev pub committed_all : Standing → List (List ℕ) → Standing
 committed_all j [] = j
 committed_all j (body ∷ more) = committed_all (committed j body) more
@@ -32,24 +14,31 @@ abbrev pub placed : Standing → List (List ℕ) → List BodyAt
 placed j [] = []
 placed j (body ∷ more) = (j.gate, body) ∷ placed (committed j body) more
 
--- some of the bodies were committed, and the next one perhaps; each front of them stands in every later image
-pub record StopsIn (limit : ℕ) (r : Reading) (bodies : List (List ℕ)) (s t : Story) : Type 0 where
+abbrev pub calls_for : Standing → List (List ℕ) → ℕ
+calls_for j [] = 0
+calls_for j (body ∷ more) = calls_of j + calls_for (committed j body) more
+
+-- the commits as steps, behind bodies that are there
+abbrev pub steps_of : Standing → List BodyAt → List (List ℕ) → List (Step Reading)
+steps_of j bodies [] = []
+steps_of j bodies (body ∷ more) = step_of j bodies body ∷ steps_of (committed j body) (bodies ++ (j.gate, body) ∷ []) more
+
+-- some of the bodies were committed, and of the calls of the next one not all passed: so many had passed before, and so many have now
+pub record EndsIn (j : Standing) (bodies : List (List ℕ)) (before now : ℕ) : Type 0 where
   pub done : List (List ℕ)
   pub next : List ℕ
   pub rest : List (List ℕ)
   pub all : bodies ≡ done ++ next ∷ rest
-  pub mid : Story
-  pub steps : StepsThrough (IsReadAs limit) r (stations r done) s mid
-  pub last : LeavesOnly mid t (λ file. IsReadAs limit (with_bodies r done) file ⊎ IsReadAs limit (with_body (with_bodies r done) next) file)
-  pub stand : (front back : List (List ℕ)) → done ≡ front ++ back
-      → StandsFrom (IsReadAs limit) (with_bodies r front) (stations (with_bodies r front) (back ++ next ∷ [])) t
+  pub made : before + calls_for j done ≤ now
+  pub fewer : now < before + calls_for j done + calls_of (committed_all j done)
 
 -- some of the bodies were committed, and all of the file is on the disk
-pub record RestsAfter (j : Standing) (bodies : List BodyAt) (more : List (List ℕ)) (new : Standing) (t : Story) : Type 0 where
+pub record RestsAfter (j : Standing) (bodies : List BodyAt) (more : List (List ℕ)) (new : Standing) (s t : Story) : Type 0 where
   pub done : List (List ℕ)
   pub rest : List (List ℕ)
   pub all : more ≡ done ++ rest
   pub place : new ≡ committed_all j done
+  pub made : t.now.passed ≡ s.now.passed + calls_for j done
   pub at_rest : IsAtRest new (bodies ++ placed j done) t
 
 -- some of the bodies were committed, and for the next one there is no room

@@ -1,9 +1,9 @@
 // The bodies that a journal holds.
-ghost use Rattle.std.specs.Prelude.{◌≡◌, ◌<◌, ◌^◌, ◌++◌, ◌∷◌, [], length, slice_get, IfOk, OnOk, OnErr};
+ghost use Rattle.std.specs.Prelude.{◌≡◌, ◌+◌, ◌<◌, ◌^◌, ◌++◌, ◌∷◌, [], length, slice_get, IfOk, OnOk, OnErr};
 ghost use Rattle.std.specs.Option.{option_copied};
 
-use carte_io::NoMemory;
-use std::alloc::{AllocError, Global};
+use carte_value::NoMemory;
+use std::alloc::Global;
 use std::marker::Model;
 
 /// The body of a frame, and the offset of the frame's gate byte.
@@ -114,14 +114,19 @@ impl Bodies {
         Ok(copies)
     }
 
-    /// Adds one. There is room for 2^32 - 1.
+    /// All of them.
+    pub fn as_slice(&self) -> &[Body]
+        ensures { result.now ≡ self.now }
+    {
+        self.items.as_slice()
+    }
+
+    /// Adds one, for which there has to be room: at most 2^32 - 1 are held.
     pub fn push(&mut self, body: Body) -> Result<(), NoMemory>
+        requires { length self.old + 1 < 2 ^ 32 }
         ensures ok { OnOk result (self.new ≡ self.old ++ body ∷ []) }
         ensures err { OnErr result (self.new ≡ self.old) }
     {
-        if self.items.len() >= (1 << 32) - 1 {
-            return Err(AllocError);
-        }
         self.items.push(body)?;
         Ok(())
     }

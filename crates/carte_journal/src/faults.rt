@@ -1,4 +1,7 @@
 // Why a journal isn't loaded, and why a commit isn't made.
+use carte_io::Failed;
+use carte_value::NoMemory;
+use std::alloc::AllocError;
 use thiserror::Error;
 
 /// Why a journal wasn't loaded.
@@ -14,6 +17,39 @@ pub enum LoadFault {
     /// There was no memory for the bodies.
     #[error("out of memory")]
     NoMemory,
+}
+
+impl From<Failed> for LoadFault {
+    ghost use Rattle.std.specs.Prelude.{◌≡◌};
+    ghost use Rattle.carte_journal.specs.declared.faults.LoadFault.TheVariants.{DiskFault};
+
+    ghost from_gives = { λ _ fault. fault ≡ DiskFault };
+
+    fn from(_: Failed) -> LoadFault {
+        LoadFault::DiskFault
+    }
+}
+
+impl From<AllocError> for LoadFault {
+    ghost use Rattle.std.specs.Prelude.{◌≡◌};
+    ghost use Rattle.carte_journal.specs.declared.faults.LoadFault.TheVariants.{NoMemory};
+
+    ghost from_gives = { λ _ fault. fault ≡ NoMemory };
+
+    fn from(_: AllocError) -> LoadFault {
+        LoadFault::NoMemory
+    }
+}
+
+impl From<NoMemory> for LoadFault {
+    ghost use Rattle.std.specs.Prelude.{◌≡◌};
+    ghost use Rattle.carte_journal.specs.declared.faults.LoadFault.TheVariants.{NoMemory};
+
+    ghost from_gives = { λ _ fault. fault ≡ NoMemory };
+
+    fn from(_: NoMemory) -> LoadFault {
+        LoadFault::NoMemory
+    }
 }
 
 /// Why a body wasn't committed.

@@ -2,7 +2,7 @@
 ghost use Rattle.std.specs.Prelude.{◌≡◌, ◌<◌, ◌^◌, length, IfOk};
 ghost use Rattle.carte_journal.specs.Frames.{piece_of};
 
-use carte_io::NoMemory;
+use carte_value::NoMemory;
 use std::alloc::Global;
 use std::marker::Model;
 
@@ -38,11 +38,11 @@ impl Frame {
     }
 
     /// The length of its body.
-    pub(crate) fn len(&self) -> u64
+    pub(crate) fn len(&self) -> usize
         ensures len { result ≡ length self.now }
         ensures short { length self.now < 2 ^ 32 }
     {
-        self.piece.len() as u64 - 5
+        self.piece.len() - 5
     }
 
     /// The bytes behind its gate byte.

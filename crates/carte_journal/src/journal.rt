@@ -1,12 +1,12 @@
-ghost use Rattle.std.specs.Prelude.{◌≡◌, ◌+◌, ◌<◌, ◌≤◌, ◌^◌, ◌++◌, ◌∷◌, ◌↔◌, [], true, false, length, IsTrue, IsOkUnless, IfOk, IfErr, OnOk, OnErr, Err, List};
-ghost use Rattle.carte_io.specs.Causes.{Rose};
-ghost use Rattle.carte_io.specs.Disk.{LeavesOnly};
-ghost use Rattle.carte_journal.specs.Frames.{BodyAt};
-ghost use Rattle.carte_journal.specs.Journals.{IsAtRest, IsBeforeOrAfter, broke, calls_of, committed, needed_for};
+ghost use Rattle.std.specs.Prelude.{◌≡◌, ◌+◌, ◌<◌, ◌≤◌, ◌^◌, ◌++◌, ◌∷◌, ◌↔◌, [], true, false, IsTrue, IsOkUnless, OnOk, OnErr, Err, List};
+ghost use Rattle.carte_io.specs.Causes.{HasCauseOf};
+ghost use Rattle.carte_io.specs.Stations.{StepsThrough};
+ghost use Rattle.carte_journal.specs.Frames.{BodyAt, Ends};
+ghost use Rattle.carte_journal.specs.Journals.{IsAtRest, IsReadAs, broke, calls_of, committed, needed_for, step_of};
 
 use crate::writes::append;
 use crate::{CommitFault, Frame};
-use carte_io::{Disk, Failed};
+use carte_io::Disk;
 use std::marker::Model;
 
 /// Where the frames of a file end. It doesn't hold the disk: each call that takes one is meant for the disk that
@@ -52,6 +52,22 @@ impl Journal {
         self.broken
     }
 
+    /// The most bytes that its file may have.
+    pub fn limit(&self) -> u64
+        ensures limit { result ≡ self.now.limit }
+        ensures small { self.now.limit < 2 ^ 32 }
+    {
+        self.limit
+    }
+
+    /// How many bytes the file needs with one more body of this length.
+    pub fn needed(&self, length: usize) -> u64
+        requires { length < 2 ^ 63 }
+        ensures { result ≡ self.now.gate + 5 + length + 1 }
+    {
+        self.gate + 6 + length as u64
+    }
+
     /// Adds a body. After Ok it stands in every later image of the file; at each moment before, an image has the
     /// bodies that were there, and this one whole or not at all. It makes 4 writing calls, or 6 as the first on a
     /// new file, and takes no memory.
@@ -62,31 +78,31 @@ impl Journal {
         ensures full { self.old.limit < needed_for self.old frame.now
             → (result ≡ Err (CommitFault.Full (needed_for self.old frame.now) self.old.limit)) × (self.new ≡ self.old) × (disk.new ≡ disk.old) }
         ensures room { needed_for self.old frame.now ≤ self.old.limit → IsOkUnless result CommitFault.DiskFault }
-        ensures cause { result ≡ Err CommitFault.DiskFault → Rose (D.faults disk.old) (D.faults disk.new) }
-        ensures later { D.faults disk.old ≤ D.faults disk.new }
+        ensures cause { HasCauseOf CommitFault.DiskFault (D.faults disk.old) (D.faults disk.new) result }
 
         ensures place { OnOk result (self.new ≡ committed self.old frame.now) }
         ensures fault { result ≡ Err CommitFault.DiskFault → self.new ≡ broke self.old }
         ensures broken { IsTrue self.new.broken ↔ (result ≡ Err CommitFault.DiskFault) }
 
-        ensures calls { D.tells → OnOk result ((D.story disk.new).passed ≡ (D.story disk.old).passed + calls_of self.old) }
-        ensures fewer { D.tells → OnErr result ((D.story disk.new).passed < (D.story disk.old).passed + calls_of self.old) }
+        ensures calls { D.tells → OnOk result ((D.story disk.new).now.passed ≡ (D.story disk.old).now.passed + calls_of self.old) }
+        ensures fewer { D.tells → OnErr result (((D.story disk.old).now.passed ≤ (D.story disk.new).now.passed)
+            × ((D.story disk.new).now.passed < (D.story disk.old).now.passed + calls_of self.old)) }
 
         ensures ok { D.tells → (bodies : List BodyAt) → IsAtRest self.old bodies (D.story disk.old)
             → OnOk result (IsAtRest self.new (bodies ++ (self.old.gate, frame.now) ∷ []) (D.story disk.new)) }
         ensures any_moment { D.tells → (bodies : List BodyAt) → IsAtRest self.old bodies (D.story disk.old)
-            → LeavesOnly (D.story disk.old) (D.story disk.new) (IsBeforeOrAfter self.old.limit self.old.gate bodies frame.now) }
+            → StepsThrough (IsReadAs self.old.limit) (Ends self.old.gate bodies) (step_of self.old bodies frame.now ∷ []) (D.story disk.old) (D.story disk.new) }
     {
-        let end = self.gate + 5 + frame.len();
-        if end + 1 > self.limit {
+        let needed = self.needed(frame.len());
+        if needed > self.limit {
             return Err(CommitFault::Full {
-                needed: end + 1,
+                needed,
                 limit: self.limit,
             });
         }
         match append(disk, self.fresh, self.gate, frame) {
             Ok(()) => {
-                self.gate = end;
+                self.gate = needed - 1;
                 self.fresh = false;
                 Ok(())
             }

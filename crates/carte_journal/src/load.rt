@@ -1,6 +1,6 @@
 // Reading the bodies of a file.
 ghost use Rattle.std.specs.Prelude.{◌≡◌, ◌+◌, ◌-◌, ◌<◌, ◌≤◌, ◌^◌, ◌++◌, ◌∷◌, ℕ, [], true, false, length, slice_index, MatchOption, IsOkUnless, IfOk, IfSome, Err};
-ghost use Rattle.carte_io.specs.Causes.{Rose};
+ghost use Rattle.carte_io.specs.Causes.{HasCauseOf};
 ghost use Rattle.carte_journal.specs.Frames.{Bad, Ends, add, end_of, frames_from, reading};
 ghost use Rattle.carte_journal.specs.Journals.{IsRead};
 
@@ -24,26 +24,18 @@ impl Journal {
         // So a state is bad exactly where the definition says.
         ensures bad { D.tells → (offset : ℕ) → result ≡ Err (LoadFault.BadState offset)
             → reading limit (D.story disk.old).now.reads ≡ Bad offset }
-        ensures cause { result ≡ Err LoadFault.DiskFault → Rose (D.faults disk.old) (D.faults disk.new) }
-        ensures later { D.faults disk.old ≤ D.faults disk.new }
+        ensures cause { HasCauseOf LoadFault.DiskFault (D.faults disk.old) (D.faults disk.new) result }
         ensures same { D.tells → D.story disk.new ≡ D.story disk.old }
     {
-        let len = match disk.len() {
-            Ok(len) => len,
-            Err(_) => return Err(LoadFault::DiskFault),
-        };
+        let len = disk.len()?;
         if len <= 9 {
             return Ok((Journal::at(8, limit, true), Bodies::new(alloc)));
         }
-        match has_header(disk) {
-            Ok(true) => {}
-            Ok(false) => return Err(LoadFault::BadState(0)),
-            Err(_) => return Err(LoadFault::DiskFault),
+        if !has_header(disk)? {
+            return Err(LoadFault::BadState(0));
         }
-        match load_bodies(alloc, disk, len, limit) {
-            Ok((gate, bodies)) => Ok((Journal::at(gate, limit, false), bodies)),
-            Err(fault) => Err(fault),
-        }
+        let (gate, bodies) = load_bodies(alloc, disk, len, limit)?;
+        Ok((Journal::at(gate, limit, false), bodies))
     }
 }
 
@@ -61,35 +53,30 @@ fn load_bodies<D: Disk>(
     ensures gate { IfOk result (λ r. r.0 < 2 ^ 32) }
     ensures bad { D.tells → (offset : ℕ) → result ≡ Err (LoadFault.BadState offset)
         → frames_from limit 8 (D.story disk.old).now.reads ≡ Bad offset }
-    ensures cause { result ≡ Err LoadFault.DiskFault → Rose (D.faults disk.old) (D.faults disk.new) }
-    ensures later { D.faults disk.old ≤ D.faults disk.new }
+    ensures cause { HasCauseOf LoadFault.DiskFault (D.faults disk.old) (D.faults disk.new) result }
     ensures same { D.tells → D.story disk.new ≡ D.story disk.old }
 {
     let mut gate = 8;
     let mut bodies = Bodies::new(alloc);
     'frames: loop {
-        match next_body(alloc, disk, len, limit, gate) {
-            Ok(Some(bytes)) => match add_body(&mut bodies, gate, bytes) {
-                Ok(end) => gate = end,
-                Err(fault) => return Err(fault),
-            },
-            Ok(None) => return Ok((gate, bodies)),
-            Err(fault) => return Err(fault),
+        let next = next_body(alloc, disk, len, limit, gate)?;
+        match next {
+            Some(bytes) => gate = add_body(&mut bodies, gate, bytes)?,
+            None => return Ok((gate, bodies)),
         }
     }
 }
 
 // Adds the body of the frame at a gate byte, and gives the next gate byte.
 fn add_body(bodies: &mut Bodies, gate: u64, bytes: Vec<u8>) -> Result<u64, LoadFault>
-    requires { end_of gate bytes.items < 2 ^ 64 }
+    requires end { end_of gate bytes.items < 2 ^ 64 }
+    requires room { length bodies.old + 1 < 2 ^ 32 }
     ensures ok { IfOk result (λ end. (end ≡ end_of gate bytes.items) × (bodies.new ≡ bodies.old ++ (gate, bytes.items) ∷ [])) }
     ensures err { IsOkUnless result LoadFault.NoMemory }
 {
     let end = gate + 5 + bytes.len() as u64;
-    match bodies.push(Body::with(gate, bytes)) {
-        Ok(()) => Ok(end),
-        Err(_) => Err(LoadFault::NoMemory),
-    }
+    bodies.push(Body::with(gate, bytes))?;
+    Ok(end)
 }
 
 // The body of the frame at a gate byte, or none where that is closed.
@@ -110,21 +97,15 @@ fn next_body<D: Disk>(
     ensures fits { IfOk result (λ o. IfSome o (λ bytes. (end_of gate bytes.items < limit) × (end_of gate bytes.items < len))) }
     ensures bad { D.tells → (offset : ℕ) → result ≡ Err (LoadFault.BadState offset)
         → frames_from limit gate (D.story disk.old).now.reads ≡ Bad offset }
-    ensures cause { result ≡ Err LoadFault.DiskFault → Rose (D.faults disk.old) (D.faults disk.new) }
-    ensures later { D.faults disk.old ≤ D.faults disk.new }
+    ensures cause { HasCauseOf LoadFault.DiskFault (D.faults disk.old) (D.faults disk.new) result }
     ensures same { D.tells → D.story disk.new ≡ D.story disk.old }
 {
-    let byte = match read_byte(disk, gate) {
-        Ok(byte) => byte,
-        Err(_) => return Err(LoadFault::DiskFault),
-    };
+    let byte = read_byte(disk, gate)?;
     if byte != 1 {
         return Ok(None);
     }
-    match open_body(alloc, disk, len, limit, gate) {
-        Ok(bytes) => Ok(Some(bytes)),
-        Err(fault) => Err(fault),
-    }
+    let bytes = open_body(alloc, disk, len, limit, gate)?;
+    Ok(Some(bytes))
 }
 
 // The body of the frame at an open gate byte.
@@ -144,23 +125,16 @@ fn open_body<D: Disk>(
     ensures fits { IfOk result (λ bytes. (end_of gate bytes.items < limit) × (end_of gate bytes.items < len)) }
     ensures bad { D.tells → slice_index (D.story disk.old).now.reads gate ≡ 1 → (offset : ℕ) → result ≡ Err (LoadFault.BadState offset)
         → frames_from limit gate (D.story disk.old).now.reads ≡ Bad offset }
-    ensures cause { result ≡ Err LoadFault.DiskFault → Rose (D.faults disk.old) (D.faults disk.new) }
-    ensures later { D.faults disk.old ≤ D.faults disk.new }
+    ensures cause { HasCauseOf LoadFault.DiskFault (D.faults disk.old) (D.faults disk.new) result }
     ensures same { D.tells → D.story disk.new ≡ D.story disk.old }
 {
     if len - gate < 5 {
         return Err(LoadFault::BadState(gate));
     }
-    let size = match read_size(disk, gate + 1) {
-        Ok(size) => size,
-        Err(_) => return Err(LoadFault::DiskFault),
-    };
+    let size = read_size(disk, gate + 1)?;
     let end = gate + 6 + size as u64;
     if end > len || end > limit {
         return Err(LoadFault::BadState(gate));
     }
-    match read_bytes(alloc, disk, gate + 5, size as usize) {
-        Ok(bytes) => Ok(bytes),
-        Err(fault) => Err(fault),
-    }
+    read_bytes(alloc, disk, gate + 5, size as usize)
 }

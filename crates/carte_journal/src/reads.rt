@@ -1,6 +1,6 @@
 // Single reads of a disk. Where it tells what it reads, a caller shows that the range lies in the file.
 ghost use Rattle.std.specs.Prelude.{◌≡◌, ◌+◌, ◌<◌, ◌≤◌, ◌^◌, length, take, drop, slice_index, IfOk, Err, ℕ};
-ghost use Rattle.carte_io.specs.Causes.{HasCause, Rose};
+ghost use Rattle.carte_io.specs.Causes.{HasCause, HasCauseOf};
 ghost use Rattle.carte_journal.specs.Frames.{header, stated};
 ghost use Rattle.std.specs.Str.{bytes_eq};
 
@@ -19,10 +19,8 @@ pub(crate) fn has_header<D: Disk>(disk: &mut D) -> Result<bool, Failed>
     ensures cause { HasCause (D.faults disk.old) (D.faults disk.new) result }
 {
     let mut bytes = [0; 8];
-    match disk.read_at(0, &mut bytes) {
-        Ok(()) => Ok(bytes.as_slice() == HEADER.as_slice()),
-        Err(failed) => Err(failed),
-    }
+    disk.read_at(0, &mut bytes)?;
+    Ok(bytes.as_slice() == HEADER.as_slice())
 }
 
 /// The byte at an offset.
@@ -33,10 +31,8 @@ pub(crate) fn read_byte<D: Disk>(disk: &mut D, at: u64) -> Result<u8, Failed>
     ensures cause { HasCause (D.faults disk.old) (D.faults disk.new) result }
 {
     let mut bytes = [0; 1];
-    match disk.read_at(at, &mut bytes) {
-        Ok(()) => Ok(bytes[0]),
-        Err(failed) => Err(failed),
-    }
+    disk.read_at(at, &mut bytes)?;
+    Ok(bytes[0])
 }
 
 /// The length that 4 bytes at an offset state.
@@ -48,10 +44,8 @@ pub(crate) fn read_size<D: Disk>(disk: &mut D, at: u64) -> Result<u32, Failed>
     ensures cause { HasCause (D.faults disk.old) (D.faults disk.new) result }
 {
     let mut bytes = [0; 4];
-    match disk.read_at(at, &mut bytes) {
-        Ok(()) => Ok(u32::from_be_bytes(bytes)),
-        Err(failed) => Err(failed),
-    }
+    disk.read_at(at, &mut bytes)?;
+    Ok(u32::from_be_bytes(bytes))
 }
 
 /// So many bytes from an offset on.
@@ -66,16 +60,11 @@ pub(crate) fn read_bytes<D: Disk>(
     ensures count { IfOk result (λ bytes. length bytes.items ≡ count) }
     ensures good { (offset : ℕ) → result ≡ Err (LoadFault.BadState offset) → ⊥ }
     ensures same { D.tells → D.story disk.new ≡ D.story disk.old }
-    ensures cause { result ≡ Err LoadFault.DiskFault → Rose (D.faults disk.old) (D.faults disk.new) }
-    ensures later { D.faults disk.old ≤ D.faults disk.new }
+    ensures cause { HasCauseOf LoadFault.DiskFault (D.faults disk.old) (D.faults disk.new) result }
 {
-    let Ok(mut bytes) = zeros(alloc, count) else {
-        return Err(LoadFault::NoMemory);
-    };
-    match disk.read_at(at, &mut bytes) {
-        Ok(()) => Ok(bytes),
-        Err(_) => Err(LoadFault::DiskFault),
-    }
+    let mut bytes = zeros(alloc, count)?;
+    disk.read_at(at, &mut bytes)?;
+    Ok(bytes)
 }
 
 fn zeros(alloc: Global, count: usize) -> Result<Vec<u8>, AllocError>

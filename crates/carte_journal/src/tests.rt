@@ -1,5 +1,6 @@
 use super::*;
-use carte_io::{FileDisk, MemDisk, NoMemory, Pick};
+use carte_io::{Disk, FileDisk, MemDisk, Pick};
+use carte_value::NoMemory;
 use std::alloc::Global;
 use std::fs::OpenOptions;
 use std::test::Fail;
@@ -7,9 +8,9 @@ use std::test::Fail;
 // Three frames, of `a`, `bc` and no bytes, at 8, 14 and 21, and the closed gate byte at 26.
 const FILE: [u8; 27] = *b"CARTE01\n\x01\0\0\0\x01a\x01\0\0\0\x02bc\x01\0\0\0\0\0";
 
-// What a front of that file gives, for each length from 0 on: a number of bodies, or A to E for a bad state at 0, 8,
+// What a prefix of that file gives, for each length from 0 on: a number of bodies, or A to E for a bad state at 0, 8,
 // 14, 21 or 26. From a reading of the format by a script.
-const FRONTS: [u8; 28] = *b"0000000000BBBBBCCCCCCCDDDDD3";
+const PREFIXES: [u8; 28] = *b"0000000000BBBBBCCCCCCCDDDDD3";
 
 // What the file gives with one bit turned, the lowest of each byte first. From the same script.
 const FLIPS: [u8; 216] =
@@ -39,9 +40,9 @@ fn flipped(alloc: Global, bit: usize) -> Result<Vec<u8>, NoMemory> {
 
 #[test]
 fn damaged_files_load_by_the_format(rt: HostRuntime) -> Result<(), Fail> {
-    for (len, want) in FRONTS.iter().enumerate() {
-        let front = FILE.get(..len).unwrap_or(&FILE);
-        assert_eq!(rt; code(rt.alloc(), front, 1000)?, *want, "a front of {len}");
+    for (len, want) in PREFIXES.iter().enumerate() {
+        let prefix = FILE.get(..len).unwrap_or(&FILE);
+        assert_eq!(rt; code(rt.alloc(), prefix, 1000)?, *want, "a prefix of {len}");
     }
     for (bit, want) in FLIPS.iter().enumerate() {
         let bytes = flipped(rt.alloc(), bit)?;
@@ -55,13 +56,8 @@ fn damaged_files_load_by_the_format(rt: HostRuntime) -> Result<(), Fail> {
     for (bytes, want) in cases {
         assert_eq!(rt; code(rt.alloc(), bytes, 1000)?, want);
     }
-    Ok(())
-}
-
-#[test]
-fn a_limit_cuts_frames_off(rt: HostRuntime) -> Result<(), Fail> {
     // The gate bytes behind the three frames are at 14, 21 and 26.
-    let cases = [
+    let limits = [
         (0, b'B'),
         (14, b'B'),
         (15, b'C'),
@@ -70,7 +66,7 @@ fn a_limit_cuts_frames_off(rt: HostRuntime) -> Result<(), Fail> {
         (26, b'D'),
         (27, b'3'),
     ];
-    for (limit, want) in cases {
+    for (limit, want) in limits {
         assert_eq!(rt; code(rt.alloc(), &FILE, limit)?, want, "a limit of {limit}");
     }
     Ok(())
@@ -135,8 +131,8 @@ fn after_crash(alloc: Global, disk: &MemDisk) -> Result<[usize; 4], NoMemory> {
 }
 
 #[test]
-fn crashes_of_the_first_commit(rt: HostRuntime) -> Result<(), Fail> {
-    let cases = [
+fn crashes_of_a_first_and_a_later_commit(rt: HostRuntime) -> Result<(), Fail> {
+    let first = [
         (0, [0, 0, 0, 0]),
         (1, [0, 0, 0, 0]),
         (2, [0, 0, 0, 0]),
@@ -145,27 +141,26 @@ fn crashes_of_the_first_commit(rt: HostRuntime) -> Result<(), Fail> {
         (5, [0, 1, 0, 1]),
         (6, [1, 1, 1, 1]),
     ];
-    for (calls, want) in cases {
+    for (calls, want) in first {
         let (disk, done) = committed(rt.alloc(), b"", &[], calls)?;
         assert_eq!(rt; done, calls == 6);
         assert_eq!(rt; after_crash(rt.alloc(), &disk)?, want, "{calls} calls");
     }
-    Ok(())
-}
-
-#[test]
-fn crashes_of_a_later_commit(rt: HostRuntime) -> Result<(), Fail> {
-    let cases = [
+    let later = [
         (0, [1, 1, 1, 1]),
         (1, [1, 1, 1, 1]),
         (2, [1, 1, 1, 1]),
         (3, [1, 2, 1, 2]),
         (4, [2, 2, 2, 2]),
     ];
-    for (calls, want) in cases {
+    for (calls, want) in later {
         let (disk, done) = committed(rt.alloc(), &ONE, &[], calls)?;
         assert_eq!(rt; done, calls == 4);
-        assert_eq!(rt; after_crash(rt.alloc(), &disk)?, want, "{calls} calls");
+        assert_eq!(rt;
+            after_crash(rt.alloc(), &disk)?,
+            want,
+            "{calls} later calls"
+        );
     }
     Ok(())
 }
@@ -206,22 +201,14 @@ fn a_commit_has_its_bytes(rt: HostRuntime) -> Result<(), Fail> {
         return Err(Fail::from("it loads"));
     };
     assert!(rt; !journal.is_broken());
-    let copy = bodies.copy(rt.alloc())?;
-    assert_eq!(rt; copy.len(), 1);
+    let mut copy = bodies.copy(rt.alloc())?;
     let first = copy.get(0).ok_or("a body")?;
     assert_eq!(rt; (first.offset(), first.bytes()), (8, b"ab".as_slice()));
-    Ok(())
-}
-
-#[test]
-fn bodies_are_a_list(rt: HostRuntime) -> Result<(), Fail> {
-    let mut bodies = Bodies::new(rt.alloc());
-    let body = Body::of(rt.alloc(), 8, b"ab")?;
-    bodies.push(body.copy(rt.alloc())?)?;
-    bodies.push(body)?;
-    let second = bodies.get(1).ok_or("a body")?;
-    assert_eq!(rt; (second.offset(), second.bytes()), (8, b"ab".as_slice()));
-    assert!(rt; bodies.get(2).is_none());
+    if copy.len() == 1 {
+        copy.push(Body::of(rt.alloc(), 15, b"cd")?)?;
+    }
+    assert_eq!(rt; copy.as_slice().len(), 2);
+    assert!(rt; copy.get(2).is_none());
     Ok(())
 }
 
@@ -242,7 +229,10 @@ fn full_is_exact(rt: HostRuntime) -> Result<(), Fail> {
             })
         )
     );
-    assert_eq!(rt; disk.passed(), 0);
+    assert_eq!(rt;
+        (disk.passed(), small.needed(2), small.limit()),
+        (0, 16, 15)
+    );
     let Ok((mut large, _bodies)) = Journal::load(rt.alloc(), &mut disk, 16) else {
         return Err(Fail::from("it loads"));
     };
@@ -250,8 +240,46 @@ fn full_is_exact(rt: HostRuntime) -> Result<(), Fail> {
     Ok(())
 }
 
+// A body whose bytes differ from place to place, and from one number to another.
+fn long_body(alloc: Global, number: u8, length: u16) -> Result<Vec<u8>, NoMemory> {
+    let mut bytes = Vec::new(alloc);
+    for place in 0..length {
+        bytes.push(number.wrapping_add((place % 251) as u8))?;
+    }
+    Ok(bytes)
+}
+
+// Whether twenty bodies of 10,000 bytes are read again, behind one that makes the next gate byte the first of a page.
+fn holds_long_bodies<D: Disk>(alloc: Global, disk: &mut D) -> Result<bool, NoMemory> {
+    let mut frames = Vec::new(alloc);
+    for number in 0..21 {
+        let body = long_body(alloc, number, if number == 0 { 4083 } else { 10000 })?;
+        if body.len() < 65536 {
+            frames.push(Frame::of(alloc, &body)?)?;
+        }
+    }
+    let Ok((mut journal, _bodies)) = Journal::load(alloc, disk, 1 << 20) else {
+        return Ok(false);
+    };
+    if commit_all(&mut journal, disk, &frames).is_err() {
+        return Ok(false);
+    }
+    let Ok((_journal, bodies)) = Journal::load(alloc, disk, 1 << 20) else {
+        return Ok(false);
+    };
+    for (body, number) in bodies.as_slice().iter().zip(0..21) {
+        let want = long_body(alloc, number, if number == 0 { 4083 } else { 10000 })?;
+        if body.bytes() != want.as_slice() {
+            return Ok(false);
+        }
+    }
+    Ok(bodies.len() == 21)
+}
+
 #[test]
-fn a_file_holds_a_journal(rt: HostRuntime) -> Result<(), Fail> {
+fn a_disk_and_a_file_hold_a_journal(rt: HostRuntime) -> Result<(), Fail> {
+    let mut disk = MemDisk::of(rt.alloc(), b"", &[])?;
+    assert!(rt; holds_long_bodies(rt.alloc(), &mut disk)?);
     let file = OpenOptions::new()
         .read(true)
         .write(true)
@@ -259,16 +287,10 @@ fn a_file_holds_a_journal(rt: HostRuntime) -> Result<(), Fail> {
         .truncate(true)
         .open(&rt, "journal_of_a_test")?;
     let mut disk = FileDisk::of(file);
-    let frames = vec![in rt.alloc(); Frame::of(rt.alloc(), b"ab")?, Frame::of(rt.alloc(), b"")?]?;
-    let Ok((mut journal, _bodies)) = Journal::load(rt.alloc(), &mut disk, 1000) else {
-        return Err(Fail::from("it loads"));
-    };
-    assert!(rt; commit_all(&mut journal, &mut disk, &frames).is_ok());
+    assert!(rt; holds_long_bodies(rt.alloc(), &mut disk)?);
     let bytes = std::fs::read(&rt, "journal_of_a_test")?;
-    assert_eq!(rt;
-        bytes.as_slice(),
-        b"CARTE01\n\x01\0\0\0\x02ab\x01\0\0\0\0\0".as_slice()
-    );
+    assert_eq!(rt; bytes.len(), 8 + 4088 + 20 * 10005 + 1);
+    assert_eq!(rt; (bytes.get(4095), bytes.get(4096)), (Some(&66), Some(&1)));
     std::fs::remove_file(&rt, "journal_of_a_test")?;
     Ok(())
 }

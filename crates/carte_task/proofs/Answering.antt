@@ -9,18 +9,11 @@ use Rattle.carte_value.proofs.Laws.{answer_new}
 use Rattle.indexmap.specs.IndexMap.{insert_entry}
 use Rattle.indexmap.proofs.MapLemmas.{insert_entry-absent, absent_from_lookup}
 use Rattle.carte_value.specs.Names.{name_eq}
-use Rattle.carte_task.specs.declared.effect.Halt.{Halt}
-use Rattle.carte_task.specs.declared.effect.Halt.TheVariants.{Stop, NoMemory}
-use Rattle.carte_task.specs.Effects.{more}
+use Rattle.carte_effect.specs.declared.effect.Halt.{Halt}
+use Rattle.carte_effect.specs.declared.effect.Halt.TheVariants.{Stop, NoMemory}
+use Rattle.carte_effect.specs.Effects.{more}
+use Rattle.carte_effect.proofs.More.{more_none, more_more}
 use Rattle.carte_task.specs.Answered.{IsAnswer, Answered, Along, Halted}
-
-pub more_none : (log : Option Answers) → more log [] ≡ log
-more_none None = refl
-more_none (Some l) = ap Some (append-nil l)
-
-pub more_more : (log : Option Answers) (a b : Answers) → more (more log a) b ≡ more log (a ++ b)
-more_more None a b = refl
-more_more (Some l) a b = ap Some (append_assoc l a b)
 
 -- a name that has an answer is not asked for
 pub once_known : {A : Type 0} (a : Answers) (k : List ℕ) (v : Value) (go : Value → Asks A) → answer_in a k ≡ Some v → once a (ask k go) ≡ once a (go v)

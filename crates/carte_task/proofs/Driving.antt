@@ -1,24 +1,26 @@
 -- A task on its way: names that are looked up, and instructions that are passed over.
 use Rattle.std.proofs.Common.{◌≡◌, ℕ, ◌+◌, ◌<◌, Bool, true, false, List, [], ◌∷◌, ◌++◌, Option, Result, Ok, Err, refl, ap, sym, ◌∙◌, subst, zero, suc, length, get_or, drop, add-one, append_assoc}
+use Rattle.std.specs.Result.{IsErr, IsErrAnd}
 use Rattle.std.proofs.Math.Seq.{drop-cons, drop-nil}
 use Rattle.carte_value.specs.declared.kind.Kind.{Kind}
 use Rattle.carte_value.specs.declared.value.Value.{Value}
 use Rattle.carte_value.specs.Truths.{Truth}
 use Rattle.carte_value.specs.Asks.{Asks, done}
 use Rattle.carte_value.specs.Once.{Answers, once}
-use Rattle.carte_task.specs.declared.effect.Halt.{Halt}
-use Rattle.carte_task.specs.declared.effect.Halt.TheVariants.{Stop, NoMemory}
+use Rattle.carte_effect.specs.declared.effect.Halt.{Halt}
+use Rattle.carte_effect.specs.declared.effect.Halt.TheVariants.{Stop, NoMemory}
 use Rattle.carte_task.specs.declared.code.Instr.{Instr}
 use Rattle.carte_task.specs.declared.code.Next.{Next}
 use Rattle.carte_task.specs.declared.code.Next.TheVariants.{Behind}
-use Rattle.carte_task.specs.Effects.{more, SameOwn}
+use Rattle.carte_effect.specs.Effects.{more, SameStops}
 use Rattle.carte_task.specs.Answered.{IsAnswer, Answered, Along, Halted}
 use Rattle.carte_task.specs.Code.{pushed, exec, top}
-use Rattle.carte_task.specs.Turns.{goes}
+use Rattle.carte_task.specs.Applying.{goes}
 use Rattle.carte_value.proofs.Once.{went_on, answers_on}
 use Rattle.carte_task.specs.declared.progress.Progress.{Progress}
 use Rattle.carte_task.specs.State.{answers_in, pending, waits, rest_in, Looked, Proceeds, Stepped}
-use Rattle.carte_task.proofs.Answering.{more_more, along_answer, along_halts}
+use Rattle.carte_effect.proofs.More.{more_more}
+use Rattle.carte_task.proofs.Answering.{along_answer, along_halts}
 
 -- the next of the names to be looked up
 next_of : (names : List (List ℕ)) (at : ℕ) (k : List ℕ) → at < length names → k ≡ get_or names at k → drop at names ≡ k ∷ drop (at + 1) names
@@ -33,12 +35,12 @@ looking_on t u log0 log1 log a0 a1 a r0 names at vs ws k v go same within is new
     subst R (sym new) (along_answer t log0 log1 log a0 a1 a r0 k v (λ w. pushed (drop (at + 1) names) (vs ++ w ∷ []) go) (subst P (next_of names at k within is) way) (subst Q same answer))
 
 -- the effect's stops are those of the beginning
-own_again : {S : Type 0} (t : Truth) (own other : List ℕ → S → Type 0) (log0 log : Option Answers) (a0 a : Answers) (k : List ℕ) (h : Halt S) → SameOwn own other → Answered t other log0 log a0 a k (Err h) → Answered t own log0 log a0 a k (Err h)
+own_again : {S : Type 0} (t : Truth) (own other : List ℕ → S → Type 0) (log0 log : Option Answers) (a0 a : Answers) (k : List ℕ) (h : Halt S) → SameStops own other → Answered t other log0 log a0 a k (Err h) → Answered t own log0 log a0 a k (Err h)
 own_again t own other log0 log a0 a k (Stop s) same (unknown, none, here, still, listed) = (unknown, none, same.1 k s here, still, listed)
 own_again t own other log0 log a0 a k NoMemory same answered = answered
 
 -- it halts
-pub looking_halts : {B S : Type 0} (t u : Truth) (own other : List ℕ → S → Type 0) (log0 log1 log : Option Answers) (a0 a1 a : Answers) (r0 : Asks Value) (names : List (List ℕ)) (at : ℕ) (vs ws : List Value) (k : List ℕ) (h : Halt S) (P : B → Type 0) (go : List Value → Asks Value) → u ≡ t → ws ≡ vs → SameOwn own other → at < length names → k ≡ get_or names at k → Answered u other log1 log a1 a k (Err h) → Along t log0 log1 a0 r0 a1 (once a1 (pushed (drop at names) vs go)) → Along t log0 log a0 r0 a (once a (pushed (drop at names) ws go)) × Halted t own (once a (pushed (drop at names) ws go)) P (Err h)
+pub looking_halts : {B S : Type 0} (t u : Truth) (own other : List ℕ → S → Type 0) (log0 log1 log : Option Answers) (a0 a1 a : Answers) (r0 : Asks Value) (names : List (List ℕ)) (at : ℕ) (vs ws : List Value) (k : List ℕ) (h : Halt S) (P : B → Type 0) (go : List Value → Asks Value) → u ≡ t → ws ≡ vs → SameStops own other → at < length names → k ≡ get_or names at k → Answered u other log1 log a1 a k (Err h) → Along t log0 log1 a0 r0 a1 (once a1 (pushed (drop at names) vs go)) → Along t log0 log a0 r0 a (once a (pushed (drop at names) ws go)) × Halted t own (once a (pushed (drop at names) ws go)) P (Err h)
 looking_halts {B = B} {S = S} t u own other log0 log1 log a0 a1 a r0 names at vs ws k h P go same still stops within is answer way =
     let Q : List (List ℕ) → Type 0 = λ ks. Along t log0 log1 a0 r0 a1 (once a1 (pushed ks vs go)) in
     let R : List (List ℕ) → Type 0 = λ ks. Along t log0 log a0 r0 a (once a (pushed ks vs go)) × Halted t own (once a (pushed ks vs go)) P (Err h) in
@@ -68,7 +70,7 @@ along_on t log0 log1 log a0 a1 a r0 r1 r way on = record {
   };
 }
 
-own_halts : {A B S : Type 0} (t : Truth) (own other : List ℕ → S → Type 0) (r : Asks A) (P : B → Type 0) (result : Result B (Halt S)) → SameOwn own other → Halted t other r P result → Halted t own r P result
+own_halts : {A B S : Type 0} (t : Truth) (own other : List ℕ → S → Type 0) (r : Asks A) (P : B → Type 0) (result : Result B (Halt S)) → SameStops own other → Halted t other r P result → Halted t own r P result
 own_halts t own other r P (Ok b) same halted = halted
 own_halts t own other r P (Err (Stop s)) same halted = record { name = halted.name; go = halted.go; is = halted.is; none = halted.none; own_stop = same.1 halted.name s halted.own_stop }
 own_halts t own other r P (Err NoMemory) same halted = tt
@@ -78,7 +80,7 @@ halts_alike t own r P Q (Stop s) halted = halted
 halts_alike t own r P Q NoMemory halted = tt
 
 -- names were looked up on the way
-pub looked_on : {S : Type 0} (kind : Kind) (code : List Instr) (t u : Truth) (own other : List ℕ → S → Type 0) (log0 log1 log : Option Answers) (p0 p q : Progress) (result : Result (Unit {0}) (Halt S)) → u ≡ t → SameOwn own other → q.at ≡ p.at → q.next ≡ p.next → Along t log0 log1 (answers_in p0) (rest_in kind code p0) (answers_in p) (rest_in kind code p) → Looked u other log1 log p q result → Along t log0 log (answers_in p0) (rest_in kind code p0) (answers_in q) (rest_in kind code q) × Halted {B = Unit {0}} t own (rest_in kind code q) (λ x. pending q ≡ []) result
+pub looked_on : {S : Type 0} (kind : Kind) (code : List Instr) (t u : Truth) (own other : List ℕ → S → Type 0) (log0 log1 log : Option Answers) (p0 p q : Progress) (result : Result (Unit {0}) (Halt S)) → u ≡ t → SameStops own other → q.at ≡ p.at → q.next ≡ p.next → Along t log0 log1 (answers_in p0) (rest_in kind code p0) (answers_in p) (rest_in kind code p) → Looked u other log1 log p q result → Along t log0 log (answers_in p0) (rest_in kind code p0) (answers_in q) (rest_in kind code q) × Halted {B = Unit {0}} t own (rest_in kind code q) (λ x. pending q ≡ []) result
 looked_on {S = S} kind code t u own other log0 log1 log p0 p q result same stops at next way looked =
     let go : List Value → Asks Value = goes p.next (λ n vs. exec kind n (drop p.at code) vs) in
     let rest : waits q go ≡ rest_in kind code q = ap (λ n. waits q (goes n (λ m vs. exec kind m (drop p.at code) vs))) (sym next) ∙ ap (λ i. waits q (goes q.next (λ m vs. exec kind m (drop i code) vs))) (sym at) in
@@ -88,7 +90,7 @@ looked_on {S = S} kind code t u own other log0 log1 log p0 p q result same stops
     (along_on t log0 log1 log (answers_in p0) (answers_in p) (answers_in q) (rest_in kind code p0) (waits p go) (rest_in kind code q) way here.0, own_halts t own other (rest_in kind code q) (λ x. pending q ≡ []) result stops here.1)
 
 -- a drive that halts as names are looked up
-pub looking_stops : {S : Type 0} (kind : Kind) (code : List Instr) (t u : Truth) (own other : List ℕ → S → Type 0) (log0 log1 log : Option Answers) (p0 p q : Progress) (h : Halt S) → u ≡ t → SameOwn own other → q.at ≡ p.at → q.next ≡ p.next → Along t log0 log1 (answers_in p0) (rest_in kind code p0) (answers_in p) (rest_in kind code p) → Looked u other log1 log p q (Err h) → Proceeds kind code t own log0 log p0 q (Err h)
+pub looking_stops : {S : Type 0} (kind : Kind) (code : List Instr) (t u : Truth) (own other : List ℕ → S → Type 0) (log0 log1 log : Option Answers) (p0 p q : Progress) (h : Halt S) → u ≡ t → SameStops own other → q.at ≡ p.at → q.next ≡ p.next → Along t log0 log1 (answers_in p0) (rest_in kind code p0) (answers_in p) (rest_in kind code p) → Looked u other log1 log p q (Err h) → Proceeds kind code t own log0 log p0 q (Err h)
 looking_stops {S = S} kind code t u own other log0 log1 log p0 p q h same stops at next way looked =
     let here = looked_on kind code t u own other log0 log1 log p0 p q (Err h) same stops at next way looked in
     (here.0, halts_alike t own (rest_in kind code q) (λ (x : Unit {0}). pending q ≡ []) (λ x. rest_in kind code q ≡ done (top q.values.items)) h here.1)
@@ -96,3 +98,9 @@ looking_stops {S = S} kind code t u own other log0 log1 log p0 p q h same stops 
 pub stepped_end : (kind : Kind) (code : List Instr) (p q : Progress) (b : Bool) → b ≡ false → Stepped kind code p q b → rest_in kind code q ≡ done (top q.values.items)
 stepped_end kind code p q true never stepped = absurd (cc)
 stepped_end kind code p q false is stepped = stepped
+
+-- it halts for want of memory
+pub starves : {A B S : Type 0} (t : Truth) (own : List ℕ → S → Type 0) (r : Asks A) (P : B → Type 0) (result : Result B (Halt S)) → IsErr result → IsErrAnd result (λ h. h ≡ NoMemory) → Halted t own r P result
+starves t own r P (Ok b) err is = cc
+starves t own r P (Err (Stop s)) err is = cc
+starves t own r P (Err NoMemory) err is = tt

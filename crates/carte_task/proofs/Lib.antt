@@ -1,5 +1,3 @@
-pub mod Pairs
-pub mod Lists
 pub mod Answering
 pub mod Driving
 pub mod Binding
@@ -13,3 +11,5 @@ pub mod Linking
 pub mod Once
 pub mod Filling
 pub mod Readings
+mod Giving
+mod Silent

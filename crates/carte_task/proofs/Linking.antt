@@ -10,16 +10,16 @@ use Rattle.carte_value.specs.Asks.{Asks, done, ask, run, answered}
 use Rattle.carte_value.specs.Once.{Answers}
 use Rattle.carte_value.specs.Spelling.{digest_of}
 use Rattle.carte_value.proofs.Once.{went_end, answers_end, went_run}
-use Rattle.carte_task.specs.declared.effect.Halt.{Halt}
-use Rattle.carte_task.specs.declared.effect.Halt.TheVariants.{Stop, NoMemory}
+use Rattle.carte_effect.specs.declared.effect.Halt.{Halt}
+use Rattle.carte_effect.specs.declared.effect.Halt.TheVariants.{Stop, NoMemory}
 use Rattle.carte_task.specs.declared.check.Verdict.{Verdict}
 use Rattle.carte_task.specs.declared.check.Verdict.TheVariants.{Same, Differs}
-use Rattle.carte_task.specs.Effects.{more, SameOwn}
+use Rattle.carte_effect.specs.Effects.{more, SameStops}
 use Rattle.carte_task.specs.Answered.{Led}
 use Rattle.carte_task.specs.Checking.{Checking}
 use Rattle.carte_task.specs.Compared.{same_digest, Compared}
 use Rattle.carte_task.specs.Checks.{compared, compares, rest_from, Checked, AllSame, FirstOther, Judges, Gives}
-use Rattle.carte_task.proofs.Answering.{more_none, more_more}
+use Rattle.carte_effect.proofs.More.{more_none, more_more}
 
 -- the check at a place
 abbrev pub from : ℕ → List Link → Asks (Option ℕ)
@@ -46,7 +46,7 @@ next_led t log0 log1 log r0 a at ls l v b within is value listed same led =
     subst (λ c. Led t log0 log r0 (a ++ (l.name, v) ∷ []) (compared c at (from (at + 1) ls))) same (led_more t log0 log1 log r0 a l.name v (λ w. compared (same_digest l.digest (digest_of w)) at (from (at + 1) ls)) value listed here)
 
 -- it halts at a link
-pub check_halts : {S : Type 0} (t u : Truth) (own other : List ℕ → S → Type 0) (log0 log1 log : Option Answers) (c d : Checking) (a : Answers) (ls : List Link) (l : Link) (h : Halt S) → u ≡ t → SameOwn own other → d.earlier.links ≡ ls → d.at < length ls → l ≡ get_or ls d.at l → Compared u other log1 log l (Err h) → Led t log0 log1 (rest_from c) a (from d.at ls) → Checked t own log0 log c d (Err h)
+pub check_halts : {S : Type 0} (t u : Truth) (own other : List ℕ → S → Type 0) (log0 log1 log : Option Answers) (c d : Checking) (a : Answers) (ls : List Link) (l : Link) (h : Halt S) → u ≡ t → SameStops own other → d.earlier.links ≡ ls → d.at < length ls → l ≡ get_or ls d.at l → Compared u other log1 log l (Err h) → Led t log0 log1 (rest_from c) a (from d.at ls) → Checked t own log0 log c d (Err h)
 check_halts t u own other log0 log1 log c d a ls l NoMemory same stops links within is (fetched, listed) led =
     (a, subst (λ ms. Led t log0 log (rest_from c) a (from d.at ms)) (sym links) (subst (λ o. Led t log0 o (rest_from c) a (from d.at ls)) (sym listed) led))
 check_halts t u own other log0 log1 log c d a ls l (Stop s) same stops links within is ((none, here), listed) led = (

@@ -8,7 +8,7 @@ use Rattle.carte_value.specs.declared.digest.Digest.{Digest}
 use Rattle.carte_value.specs.declared.link.Link.{Link}
 use Rattle.carte_value.specs.Once.{Answers}
 use Rattle.carte_value.specs.Spelling.{digest_of}
-use Rattle.carte_task.specs.Outcomes.{links_of}
+use Rattle.carte_effect.specs.Outcomes.{links_of}
 use Rattle.carte_task.proofs.Shapes.{take_all}
 
 links_end : (a : Answers) (k : List ℕ) (v : Value) → links_of (a ++ (k, v) ∷ []) ≡ links_of a ++ (record { name = k; digest = digest_of v }) ∷ []

@@ -10,13 +10,13 @@ use Rattle.carte_tree.specs.Formula.{refs_of, is_static_tree}
 use Rattle.carte_tree.specs.InTurn.{HasAll, until}
 use Rattle.carte_tree.specs.Meaning.{asks, fetched}
 use Rattle.carte_tree.specs.Laws.{StaticEnds, StaticNeeds}
-use Rattle.carte_task.specs.declared.effect.Halt.{Halt}
-use Rattle.carte_task.specs.declared.effect.Halt.TheVariants.{Stop, NoMemory}
+use Rattle.carte_effect.specs.declared.effect.Halt.{Halt}
+use Rattle.carte_effect.specs.declared.effect.Halt.TheVariants.{Stop, NoMemory}
 use Rattle.carte_task.specs.declared.static_task.StaticTask.{StaticTask}
-use Rattle.carte_task.specs.Effects.{paired}
-use Rattle.carte_task.specs.Ledger.{Ledger}
-use Rattle.carte_task.specs.Lists.{ValuesOf, StopsAmong}
-use Rattle.carte_task.specs.Outcomes.{Outcome, links_of}
+use Rattle.carte_effect.specs.Effects.{paired}
+use Rattle.carte_effect.specs.Ledger.{Ledger}
+use Rattle.carte_effect.specs.Lists.{ValuesOf, StopsAmong}
+use Rattle.carte_effect.specs.Outcomes.{Outcome, links_of}
 use Rattle.carte_task.specs.Statics.{static_refs, IsStaticTaskOf, StaticRan, Reads, IsReadFrom, with_run}
 
 -- it is stuck at a name that it asks for and that has no value

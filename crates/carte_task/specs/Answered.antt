@@ -4,9 +4,9 @@ use Rattle.carte_value.specs.declared.value.Value.{Value}
 use Rattle.carte_value.specs.Truths.{Truth}
 use Rattle.carte_value.specs.Asks.{Asks, ask}
 use Rattle.carte_value.specs.Once.{Answers, answer_in, Went, AnswersOf}
-use Rattle.carte_task.specs.declared.effect.Halt.{Halt}
-use Rattle.carte_task.specs.declared.effect.Halt.TheVariants.{Stop, NoMemory}
-use Rattle.carte_task.specs.Effects.{more}
+use Rattle.carte_effect.specs.declared.effect.Halt.{Halt}
+use Rattle.carte_effect.specs.declared.effect.Halt.TheVariants.{Stop, NoMemory}
+use Rattle.carte_effect.specs.Effects.{more}
 
 -- the answer of before, or one of now, which the truth has and the log lists
 abbrev pub IsAnswer : Truth → Option Answers → Option Answers → Answers → Answers → List ℕ → Value → Type 0

@@ -1,13 +1,13 @@
 -- Whether links still have the values that they had.
-use Rattle.std.specs.Prelude.{ℕ, ◌+◌, ◌≤◌, ◌-◌, Bool, true, false, List, [], ◌∷◌, ◌≡◌, Option, Some, None, Result, Ok, Err, drop, take, slice_get}
+use Rattle.std.specs.Prelude.{ℕ, ◌+◌, ◌≤◌, ◌-◌, Bool, true, false, List, [], ◌∷◌, ◌≡◌, Option, Some, None, Result, Ok, Err, length, drop, take, slice_get}
 use Rattle.carte_value.specs.declared.value.Value.{Value}
 use Rattle.carte_value.specs.declared.link.Link.{Link}
 use Rattle.carte_value.specs.Truths.{Truth}
 use Rattle.carte_value.specs.Asks.{Asks, done, ask}
 use Rattle.carte_value.specs.Once.{Answers}
 use Rattle.carte_value.specs.Spelling.{digest_of}
-use Rattle.carte_task.specs.declared.effect.Halt.{Halt}
-use Rattle.carte_task.specs.declared.effect.Halt.TheVariants.{Stop, NoMemory}
+use Rattle.carte_effect.specs.declared.effect.Halt.{Halt}
+use Rattle.carte_effect.specs.declared.effect.Halt.TheVariants.{Stop, NoMemory}
 use Rattle.carte_task.specs.declared.check.Verdict.{Verdict}
 use Rattle.carte_task.specs.declared.check.Verdict.TheVariants.{Same, Differs}
 use Rattle.carte_task.specs.Answered.{Led, StopsAt}
@@ -61,3 +61,14 @@ Judges t c (Differs i) = (c.at ≤ i) × FirstOther t (drop c.at c.earlier.links
 abbrev pub Gives : Checking → Verdict → Type 0
 Gives c (Same o) = o ≡ c.earlier
 Gives c (Differs i) = Unit {0}
+
+-- it keeps the earlier end until it hands it out
+abbrev pub KeepsEarlier : {S : Type 0} → Checking → Checking → Result Verdict (Halt S) → Type 0
+KeepsEarlier c d (Ok (Same o)) = Unit {0}
+KeepsEarlier c d (Ok (Differs i)) = d.earlier ≡ c.earlier
+KeepsEarlier c d (Err h) = d.earlier ≡ c.earlier
+
+-- no link is left to be compared, or it stands at the one that differs
+abbrev pub Stands : Checking → Verdict → Type 0
+Stands d (Same o) = length d.earlier.links ≤ d.at
+Stands d (Differs i) = d.at ≡ i

@@ -6,8 +6,8 @@ use Rattle.carte_value.specs.declared.link.Link.{Link}
 use Rattle.carte_value.specs.Truths.{Truth}
 use Rattle.carte_value.specs.Once.{Answers}
 use Rattle.carte_value.specs.Spelling.{digest_of}
-use Rattle.carte_task.specs.declared.effect.Halt.{Halt}
-use Rattle.carte_task.specs.Effects.{more, Fetched, Logged}
+use Rattle.carte_effect.specs.declared.effect.Halt.{Halt}
+use Rattle.carte_effect.specs.Effects.{more, Fetched, Logged}
 
 abbrev pub same_digest : Digest → Digest → Bool
 same_digest d e = bytes_eq d.0 e.0

@@ -4,11 +4,11 @@ use Rattle.carte_value.specs.declared.value.Value.{Value}
 use Rattle.carte_value.specs.Truths.{Truth}
 use Rattle.carte_value.specs.Asks.{Asks, done}
 use Rattle.carte_value.specs.Once.{Answers, once}
-use Rattle.carte_task.specs.declared.effect.Halt.{Halt}
+use Rattle.carte_effect.specs.declared.effect.Halt.{Halt}
 use Rattle.carte_task.specs.declared.machine.Machine.{Machine}
 use Rattle.carte_task.specs.Answered.{Along, Halted}
 use Rattle.carte_task.specs.Code.{top}
-use Rattle.carte_task.specs.Outcomes.{Outcome, links_of}
+use Rattle.carte_effect.specs.Outcomes.{Outcome, links_of}
 use Rattle.carte_task.specs.State.{answers_in, rest_in}
 use Rattle.carte_task.specs.Tasks.{key_of, asks_of}
 
@@ -46,8 +46,8 @@ abbrev pub Drove : {S : Type 0} → Truth → (List ℕ → S → Type 0) → Op
 Drove t own log0 log p q result = GoesOn t log0 log p q × Halted t own q.rest (IsEnd q) result × (q.ended ≡ (is_ok result || p.ended))
 
 -- nothing but that it has ended
-abbrev pub Kept : State → State → Bool → Type 0
-Kept p q ended = q ≡ record p { ended = ended || p.ended }
+abbrev pub OnlyEnds : State → State → Bool → Type 0
+OnlyEnds p q ended = q ≡ record p { ended = ended || p.ended }
 
 -- with the newest value and the links of all that was answered
 pub record EndsWith (m : Machine) (o : Outcome) : Type 0 where

@@ -5,12 +5,12 @@ use Rattle.carte_value.specs.declared.value.Value.{Value}
 use Rattle.carte_value.specs.Truths.{Truth}
 use Rattle.carte_value.specs.Asks.{Asks, done}
 use Rattle.carte_value.specs.Once.{Answers, once}
-use Rattle.carte_task.specs.declared.effect.Halt.{Halt}
+use Rattle.carte_effect.specs.declared.effect.Halt.{Halt}
 use Rattle.carte_task.specs.declared.code.Instr.{Instr}
 use Rattle.carte_task.specs.declared.progress.Progress.{Progress}
 use Rattle.carte_task.specs.Code.{pushed, exec, top}
 use Rattle.carte_task.specs.Answered.{Along, Halted}
-use Rattle.carte_task.specs.Turns.{goes}
+use Rattle.carte_task.specs.Applying.{goes}
 
 abbrev pub answers_in : Progress → Answers
 answers_in p = p.answers.entries

@@ -8,17 +8,17 @@ use Rattle.carte_value.specs.Once.{once}
 use Rattle.carte_tree.specs.Tree.{Tree}
 use Rattle.carte_tree.specs.Formula.{refs_of, is_static_tree}
 use Rattle.carte_tree.specs.Meaning.{asks, eval}
-use Rattle.carte_task.specs.declared.effect.Halt.{Halt}
-use Rattle.carte_task.specs.declared.effect.Halt.TheVariants.{Stop, NoMemory}
+use Rattle.carte_effect.specs.declared.effect.Halt.{Halt}
+use Rattle.carte_effect.specs.declared.effect.Halt.TheVariants.{Stop, NoMemory}
 use Rattle.carte_task.specs.declared.static_task.StaticTask.{StaticTask}
 use Rattle.carte_task.specs.declared.task.Task.{Task}
 use Rattle.carte_task.specs.declared.progress.Progress.{Progress}
 use Rattle.carte_task.specs.Code.{exec, top}
 use Rattle.carte_task.specs.State.{answers_in}
-use Rattle.carte_task.specs.Effects.{paired}
-use Rattle.carte_task.specs.Ledger.{Ledger, with_start, with_end}
-use Rattle.carte_task.specs.Lists.{ValuesOf, StopsAmong, listed}
-use Rattle.carte_task.specs.Outcomes.{Outcome, links_of}
+use Rattle.carte_effect.specs.Effects.{paired}
+use Rattle.carte_effect.specs.Ledger.{Ledger, with_start, with_end}
+use Rattle.carte_effect.specs.Lists.{ValuesOf, StopsAmong, listed}
+use Rattle.carte_effect.specs.Outcomes.{Outcome, links_of}
 
 abbrev pub static_key : StaticTask → List ℕ
 static_key s = s.key

@@ -1,11 +1,12 @@
-ghost use Rattle.std.specs.Prelude.{◌≡◌, IfOk, bytes_eq};
-ghost use Rattle.carte_task.specs.Effects.{SameOwn};
+ghost use Rattle.std.specs.Prelude.{◌≡◌, ◌≤◌, length, IfOk, OnOk, OnErr, bytes_eq};
+ghost use Rattle.carte_effect.specs.Effects.{SameStops};
 ghost use Rattle.carte_task.specs.Compared.{Compared};
 
 use crate::{Effect, Halt, Reuse};
 use carte_value::{Digest, Link, Links, Name, NoMemory, Value};
 use std::alloc::Global;
 use std::marker::Model;
+use std::mem;
 
 /// What a check comes to.
 #[derive(Debug, Drop)]
@@ -43,8 +44,8 @@ fn is_same(digest: &Digest, other: &Digest) -> bool
 // Whether the name of a link still has a value with the link's digest.
 fn still<E: Effect>(alloc: Global, link: &Link, effect: &mut E) -> Result<bool, Halt<E::Stop>>
     ensures truth { E.truth effect.new ≡ E.truth effect.old }
-    ensures own { SameOwn (E.own effect.old) (E.own effect.new) }
-    ensures asked { Compared (E.truth effect.old) (E.own effect.old) (E.log effect.old) (E.log effect.new) link.now result }
+    ensures stops { SameStops (E.stops effect.old) (E.stops effect.new) }
+    ensures asked { Compared (E.truth effect.old) (E.stops effect.old) (E.log effect.old) (E.log effect.new) link.now result }
 {
     match effect.fetch(alloc, &link.name) {
         Ok(value) => Ok(is_same(&link.digest, &value.digest())),
@@ -53,7 +54,7 @@ fn still<E: Effect>(alloc: Global, link: &Link, effect: &mut E) -> Result<bool, 
 }
 
 impl Check {
-    ghost use Rattle.carte_task.specs.Checks.{Checked, Judges, Gives};
+    ghost use Rattle.carte_task.specs.Checks.{Checked, Judges, Gives, KeepsEarlier, Stands};
 
     /// A check of an earlier end, with nothing compared so far.
     pub fn start(alloc: Global, key: &Name, links: &Links, value: &Value) -> Result<Check, NoMemory>
@@ -70,16 +71,17 @@ impl Check {
         })
     }
 
-    /// Goes on to the verdict, or to a link whose name has no value.
+    /// Goes on to the verdict, or to a link whose name has no value. It is driven only until its verdict: with Same it hands out the links that it holds.
     pub fn drive<E: Effect>(
         &mut self,
         alloc: Global,
         effect: &mut E,
     ) -> Result<Verdict, Halt<E::Stop>>
         ensures truth { E.truth effect.new ≡ E.truth effect.old }
-        ensures own { SameOwn (E.own effect.old) (E.own effect.new) }
-        ensures earlier { self.new.earlier ≡ self.old.earlier }
-        ensures checked { Checked (E.truth effect.old) (E.own effect.old) (E.log effect.old) (E.log effect.new) self.old self.new result }
+        ensures stops { SameStops (E.stops effect.old) (E.stops effect.new) }
+        ensures earlier { KeepsEarlier self.old self.new result }
+        ensures stands { IfOk result (Stands self.new) }
+        ensures checked { Checked (E.truth effect.old) (E.stops effect.old) (E.log effect.old) (E.log effect.new) self.old self.new result }
         ensures judges { IfOk result (Judges (E.truth effect.old) self.old) }
     {
         self.compare(alloc, effect)
@@ -91,9 +93,10 @@ impl Check {
         effect: &mut E,
     ) -> Result<Verdict, Halt<E::Stop>>
         ensures truth { E.truth effect.new ≡ E.truth effect.old }
-        ensures own { SameOwn (E.own effect.old) (E.own effect.new) }
-        ensures earlier { self.new.earlier ≡ self.old.earlier }
-        ensures checked { Checked (E.truth effect.old) (E.own effect.old) (E.log effect.old) (E.log effect.new) self.old self.new result }
+        ensures stops { SameStops (E.stops effect.old) (E.stops effect.new) }
+        ensures earlier { KeepsEarlier self.old self.new result }
+        ensures stands { IfOk result (Stands self.new) }
+        ensures checked { Checked (E.truth effect.old) (E.stops effect.old) (E.log effect.old) (E.log effect.new) self.old self.new result }
         ensures reuse { IfOk result (Gives self.old) }
     {
         'links: while self.at < self.links.len() {
@@ -104,19 +107,18 @@ impl Check {
                 Err(halt) => return Err(halt),
             }
         }
-        match self.reuse(alloc) {
-            Ok(reuse) => Ok(Verdict::Same(reuse)),
-            Err(_) => Err(Halt::NoMemory),
-        }
+        Ok(Verdict::Same(self.hand_out(alloc)?))
     }
 
-    // The earlier end, which holds.
-    fn reuse(&self, alloc: Global) -> Result<Reuse, NoMemory>
-        ensures { IfOk result (λ r. r ≡ self.now.earlier) }
+    // The earlier end, which holds, with the value and the links that the check has of it.
+    fn hand_out(&mut self, alloc: Global) -> Result<Reuse, NoMemory>
+        ensures given { IfOk result (λ r. r ≡ self.old.earlier) }
+        ensures none_left { OnOk result (length self.new.earlier.links ≤ self.new.at) }
+        ensures kept { OnErr result (self.new ≡ self.old) }
     {
         let key = self.key.copy(alloc)?;
-        let value = self.value.copy(alloc)?;
-        let links = self.links.copy(alloc)?;
+        let value = mem::replace(&mut self.value, Value::Empty);
+        let links = mem::replace(&mut self.links, Links::new(alloc));
         Ok(Reuse::new(key, value, links))
     }
 }

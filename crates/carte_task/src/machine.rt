@@ -1,6 +1,6 @@
 ghost use Rattle.std.specs.Prelude.{◌≡◌, is_ok, if◌then◌else◌, IfOk};
-ghost use Rattle.carte_task.specs.Effects.{SameOwn};
-ghost use Rattle.carte_task.specs.Ledger.{with_start, with_end};
+ghost use Rattle.carte_effect.specs.Effects.{SameStops};
+ghost use Rattle.carte_effect.specs.Ledger.{with_start, with_end};
 
 use crate::progress::Progress;
 use crate::{Effect, Ended, Halt, Runs, Task};
@@ -16,25 +16,22 @@ pub struct Machine {
 }
 
 impl Machine {
-    ghost use Rattle.carte_task.specs.Machines.{state_of, started, Drove, Kept, EndsWith};
-    ghost use Rattle.carte_task.specs.Laws.{IsSound, Steps};
-    ghost use Rattle.carte_task.specs.Laws.{IsSound, Steps};
+    ghost use Rattle.carte_task.specs.Machines.{state_of, started, Drove, OnlyEnds, EndsWith};
+    ghost use Rattle.carte_task.specs.Laws.{IsUnderWay, Steps};
     ghost use Rattle.carte_task.specs.Tasks.{key_of, asks_of};
 
     /// A machine at the start of a task, which is counted.
     pub fn start(alloc: Global, task: Task, runs: &mut Runs) -> Result<Machine, NoMemory>
         ensures machine { IfOk result (λ m. state_of m ≡ started (key_of task) (asks_of task)) }
-        ensures sound { IfOk result (λ m. IsSound (state_of m)) }
+        ensures under_way { IfOk result (λ m. IsUnderWay (state_of m)) }
         ensures runs { runs.new ≡ (if is_ok result then with_start runs.old (key_of task) else runs.old) }
     {
-        match runs.start(alloc, &task.key) {
-            Ok(()) => Ok(Machine {
-                task,
-                progress: Progress::new(alloc),
-                ended: false,
-            }),
-            Err(refused) => Err(refused),
-        }
+        runs.start(alloc, &task.key)?;
+        Ok(Machine {
+            task,
+            progress: Progress::new(alloc),
+            ended: false,
+        })
     }
 
     pub(crate) fn task_key(&self) -> &Name
@@ -51,6 +48,7 @@ impl Machine {
     }
 
     /// Goes on to the end, which is counted, or to a name without an answer. After a halt it stands before the fetch that halted, and keeps what was answered.
+    /// Each name is answered at most once. How often a fetch that finds no memory is tried isn't promised.
     pub fn drive<E: Effect>(
         &mut self,
         alloc: Global,
@@ -58,13 +56,13 @@ impl Machine {
         runs: &mut Runs,
     ) -> Result<Ended, Halt<E::Stop>>
         ensures truth { E.truth effect.new ≡ E.truth effect.old }
-        ensures own { SameOwn (E.own effect.old) (E.own effect.new) }
-        ensures drove { Drove (E.truth effect.old) (E.own effect.old) (E.log effect.old) (E.log effect.new) (state_of self.old) (state_of self.new) result }
+        ensures stops { SameStops (E.stops effect.old) (E.stops effect.new) }
+        ensures drove { Drove (E.truth effect.old) (E.stops effect.old) (E.log effect.old) (E.log effect.new) (state_of self.old) (state_of self.new) result }
         ensures runs { runs.new ≡ (if is_ok result then with_end runs.old (state_of self.old).key else runs.old) }
 
         // What that is for the formula of a machine that was started and driven.
-        ensures sound { IsSound (state_of self.old) → IsSound (state_of self.new) }
-        ensures steps { IsSound (state_of self.old) → Steps (E.truth effect.old) (E.own effect.old) (state_of self.old) (state_of self.new) result }
+        ensures under_way { IsUnderWay (state_of self.old) → IsUnderWay (state_of self.new) }
+        ensures steps { IsUnderWay (state_of self.old) → Steps (E.truth effect.old) (E.stops effect.old) (state_of self.old) (state_of self.new) result }
     {
         self.go_on(alloc, effect, runs)
     }
@@ -76,8 +74,8 @@ impl Machine {
         runs: &mut Runs,
     ) -> Result<Ended, Halt<E::Stop>>
         ensures truth { E.truth effect.new ≡ E.truth effect.old }
-        ensures own { SameOwn (E.own effect.old) (E.own effect.new) }
-        ensures drove { Drove (E.truth effect.old) (E.own effect.old) (E.log effect.old) (E.log effect.new) (state_of self.old) (state_of self.new) result }
+        ensures stops { SameStops (E.stops effect.old) (E.stops effect.new) }
+        ensures drove { Drove (E.truth effect.old) (E.stops effect.old) (E.log effect.old) (E.log effect.new) (state_of self.old) (state_of self.new) result }
         ensures runs { runs.new ≡ (if is_ok result then with_end runs.old (state_of self.old).key else runs.old) }
     {
         match self
@@ -87,15 +85,12 @@ impl Machine {
             Ok(()) => {}
             Err(halt) => return Err(halt),
         }
-        match self.end(alloc, runs) {
-            Ok(ended) => Ok(ended),
-            Err(_) => Err(Halt::NoMemory),
-        }
+        Ok(self.end(alloc, runs)?)
     }
 
     // The end, once nothing is left to be done.
     fn end(&mut self, alloc: Global, runs: &mut Runs) -> Result<Ended, NoMemory>
-        ensures kept { Kept (state_of self.old) (state_of self.new) (is_ok result) }
+        ensures kept { OnlyEnds (state_of self.old) (state_of self.new) (is_ok result) }
         ensures ended { IfOk result (EndsWith self.old) }
         ensures runs { runs.new ≡ (if is_ok result then with_end runs.old (state_of self.old).key else runs.old) }
     {

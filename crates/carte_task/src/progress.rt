@@ -4,11 +4,11 @@ ghost use Rattle.carte_task.specs.declared.code.Instr.{Instr};
 ghost use Rattle.indexmap.specs.IndexMap.{insert_entry};
 ghost use Rattle.carte_value.specs.Names.{name_eq};
 ghost use Rattle.carte_value.specs.Truths.{NoneTwice};
-ghost use Rattle.carte_task.specs.Effects.{SameOwn, paired};
+ghost use Rattle.carte_effect.specs.Effects.{SameStops, paired};
 ghost use Rattle.carte_task.specs.Answered.{Answered};
 
 use crate::code::{Instr, Next};
-use crate::{Effect, Halt, turns};
+use crate::{Effect, Halt, execute};
 use carte_value::{Kind, Link, Links, Name, Names, NoMemory, Value, Values};
 use indexmap::IndexMap;
 use std::alloc::Global;
@@ -32,18 +32,13 @@ fn answer<E: Effect>(
     effect: &mut E,
 ) -> Result<Value, Halt<E::Stop>>
     ensures truth { E.truth effect.new ≡ E.truth effect.old }
-    ensures own { SameOwn (E.own effect.old) (E.own effect.new) }
-    ensures answered { Answered (E.truth effect.old) (E.own effect.old) (E.log effect.old) (E.log effect.new) answers.old.entries answers.new.entries name.now result }
+    ensures stops { SameStops (E.stops effect.old) (E.stops effect.new) }
+    ensures answered { Answered (E.truth effect.old) (E.stops effect.old) (E.log effect.old) (E.log effect.new) answers.old.entries answers.new.entries name.now result }
 {
     if let Some(value) = answers.get(name) {
-        return match value.copy(alloc) {
-            Ok(value) => Ok(value),
-            Err(_) => Err(Halt::NoMemory),
-        };
+        return Ok(value.copy(alloc)?);
     }
-    let Ok(own) = name.copy(alloc) else {
-        return Err(Halt::NoMemory);
-    };
+    let own = name.copy(alloc)?;
     if let Err(_refused) = answers.reserve(1) {
         return Err(Halt::NoMemory);
     }
@@ -57,7 +52,7 @@ fn answer<E: Effect>(
             Ok(value) => Ok(value),
             Err(_) => Err(Halt::NoMemory),
         },
-        Err(_refused) => Err(Halt::NoMemory),
+        Err(_refused) => unreachable!(),
     }
 }
 
@@ -65,7 +60,7 @@ impl Progress {
     ghost use Rattle.carte_task.specs.State.{answers_in, pending, rest_in, Looked, Proceeds, Stepped};
     ghost use Rattle.carte_value.specs.Once.{once};
     ghost use Rattle.carte_task.specs.Code.{exec, top};
-    ghost use Rattle.carte_task.specs.Outcomes.{links_of};
+    ghost use Rattle.carte_effect.specs.Outcomes.{links_of};
 
     /// At the start of its code.
     pub(crate) fn new(alloc: Global) -> Progress
@@ -105,7 +100,7 @@ impl Progress {
     pub(crate) fn top(&self, alloc: Global) -> Result<Value, NoMemory>
         ensures { IfOk result (λ v. v ≡ top self.now.values.items) }
     {
-        turns::top(alloc, &self.values)
+        execute::top(alloc, &self.values)
     }
 
     /// The names that were asked, in order, with the digests of their values.
@@ -115,7 +110,7 @@ impl Progress {
         let mut links = Links::new(alloc);
         for at in 0..self.answers.len() {
             let Some((name, value)) = self.answers.get_index(at) else {
-                return Err(NoMemory);
+                unreachable!()
             };
             let name = name.copy(alloc)?;
             links.push(Link {
@@ -129,9 +124,9 @@ impl Progress {
     /// Looks up the names that are to be looked up first, each onto the stack.
     fn look_up<E: Effect>(&mut self, alloc: Global, effect: &mut E) -> Result<(), Halt<E::Stop>>
         ensures truth { E.truth effect.new ≡ E.truth effect.old }
-        ensures own { SameOwn (E.own effect.old) (E.own effect.new) }
+        ensures stops { SameStops (E.stops effect.old) (E.stops effect.new) }
         ensures kept { (self.new.at ≡ self.old.at) × (self.new.next ≡ self.old.next) }
-        ensures looked { Looked (E.truth effect.old) (E.own effect.old) (E.log effect.old) (E.log effect.new) self.old self.new result }
+        ensures looked { Looked (E.truth effect.old) (E.stops effect.old) (E.log effect.old) (E.log effect.new) self.old self.new result }
     {
         while self.looked < self.names.len() {
             if let Err(_refused) = self.values.reserve(1) {
@@ -162,13 +157,11 @@ impl Progress {
                 self.next = Next::Behind(0);
                 Ok(())
             }
-            Next::Joined(count) => match turns::join(alloc, &mut self.values, count) {
-                Ok(()) => {
-                    self.next = Next::Behind(0);
-                    Ok(())
-                }
-                Err(refused) => Err(refused),
-            },
+            Next::Joined(count) => {
+                execute::join(alloc, &mut self.values, count)?;
+                self.next = Next::Behind(0);
+                Ok(())
+            }
         }
     }
 
@@ -183,10 +176,7 @@ impl Progress {
         if self.at >= code.len() {
             return Ok(false);
         }
-        let pending = match turns::turn(alloc, kind, &code[self.at], &mut self.values) {
-            Ok(pending) => pending,
-            Err(refused) => return Err(refused),
-        };
+        let pending = execute::apply(alloc, kind, &code[self.at], &mut self.values)?;
         self.at += 1;
         self.names = pending.names;
         self.looked = 0;
@@ -203,22 +193,17 @@ impl Progress {
         effect: &mut E,
     ) -> Result<(), Halt<E::Stop>>
         ensures truth { E.truth effect.new ≡ E.truth effect.old }
-        ensures own { SameOwn (E.own effect.old) (E.own effect.new) }
-        ensures proceeds { Proceeds kind code.now (E.truth effect.old) (E.own effect.old) (E.log effect.old) (E.log effect.new) self.old self.new result }
+        ensures stops { SameStops (E.stops effect.old) (E.stops effect.new) }
+        ensures proceeds { Proceeds kind code.now (E.truth effect.old) (E.stops effect.old) (E.log effect.old) (E.log effect.new) self.old self.new result }
     {
-        'turns: loop {
+        'steps: loop {
             match self.look_up(alloc, effect) {
                 Ok(()) => {}
                 Err(halt) => return Err(halt),
             }
-            match self.settle(alloc, code.len()) {
-                Ok(()) => {}
-                Err(_) => return Err(Halt::NoMemory),
-            }
-            match self.step(alloc, kind, code) {
-                Ok(true) => {}
-                Ok(false) => return Ok(()),
-                Err(_) => return Err(Halt::NoMemory),
+            self.settle(alloc, code.len())?;
+            if !self.step(alloc, kind, code)? {
+                return Ok(());
             }
         }
     }

@@ -2,7 +2,7 @@
 
 ghost use Rattle.std.specs.Prelude.{◌≡◌, if◌then◌else◌};
 ghost use Rattle.carte_value.specs.Once.{answer_in};
-ghost use Rattle.carte_task.specs.Sights.{seen_or, not_done, missing};
+ghost use Rattle.carte_effect.specs.Sights.{seen_or, not_done, missing};
 
 use crate::{Look, Seen};
 use carte_value::{Bad, Kind, Name, Text, Value};

@@ -6,7 +6,7 @@ use Rattle.std.specs.BTreeMap.{IsOrdered, is_at}
 use Rattle.carte_value.specs.declared.value.Value.{Value}
 use Rattle.carte_value.specs.Names.{name_cmp}
 use Rattle.carte_value.specs.Truths.{Among}
-use Rattle.carte_task.specs.Ledger.{Ledger}
+use Rattle.carte_effect.specs.Ledger.{Ledger}
 use Rattle.carte_book.specs.Book.{Book}
 use Rattle.carte_book.proofs.Clean.{tied_name}
 use Rattle.carte_topo.specs.Orders.{IsOrder}

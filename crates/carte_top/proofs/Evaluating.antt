@@ -11,11 +11,11 @@ use Rattle.carte_tree.specs.Formula.{refs_of}
 use Rattle.carte_tree.specs.InTurn.{Each, HasAll}
 use Rattle.carte_value.specs.declared.kind.Kind.{Kind}
 use Rattle.carte_tree.specs.Meaning.{eval}
-use Rattle.carte_task.specs.Ledger.{Ledger}
-use Rattle.carte_task.specs.Outcomes.{Outcome}
+use Rattle.carte_effect.specs.Ledger.{Ledger}
+use Rattle.carte_effect.specs.Outcomes.{Outcome}
 use Rattle.carte_task.specs.Statics.{Reads}
-use Rattle.carte_task.specs.declared.effect.Halt.{Halt}
-use Rattle.carte_task.specs.declared.effect.Halt.TheVariants.{Stop}
+use Rattle.carte_effect.specs.declared.effect.Halt.{Halt}
+use Rattle.carte_effect.specs.declared.effect.Halt.TheVariants.{Stop}
 use Rattle.carte_book.specs.Book.{Book, clean}
 use Rattle.carte_book.proofs.Clean.{eval_kept, clean_rule}
 use Rattle.carte_topo.specs.Orders.{IsReady, IsNext, InOrder}

@@ -6,7 +6,7 @@ use Rattle.carte_book.specs.Book.{Book, book_view, clean}
 use Rattle.carte_book.specs.Reason.{AllClean}
 use Rattle.carte_book.specs.declared.book.Book.{Book as CodeBook}
 use Rattle.carte_rules.specs.Reading.{BookOf}
-use Rattle.carte_task.specs.Ledger.{Ledger}
+use Rattle.carte_effect.specs.Ledger.{Ledger}
 use Rattle.carte_top.specs.declared.status.Status.{Status}
 use Rattle.carte_top.specs.declared.status.Status.TheVariants.{Done, BookRefused, Usage, BuildRefused, ReadFault, WriteFault, NoMemory}
 use Rattle.carte_top.specs.Known.{Done as DoneMap, part}
@@ -44,7 +44,7 @@ answered b ts ts' done runs k (Usage f) same built prints = absurd prints
 answered b ts ts' done runs k (BuildRefused r) same built prints = absurd prints
 answered b ts ts' done runs k ReadFault same built prints = absurd prints
 
-pub built : (book : CodeBook) (ts : List (List ℕ)) (s : OverSource) (k : OverSink) (status : Status) → (s.tells → BookOf s.left (Ok (book_view book))) → Answers (book_view book) ts k status → Built ts s k status
+pub built : (book : CodeBook) (ts : List (List ℕ)) (s : OverSource) (k : OverSink) (status : Status) → (s.tells → BookOf s.old.left (Ok (book_view book))) → Answers (book_view book) ts k status → Built ts s k status
 built book ts s k Done is answers = λ tells. (book_view book, is tells, answers)
 built book ts s k (BuildRefused r) is answers = (λ tells. (book_view book, is tells, answers.0), answers.1)
 built book ts s k WriteFault is answers = (λ tells. (book_view book, is tells, answers.0), answers.1)

@@ -8,7 +8,7 @@ use Rattle.carte_value.specs.declared.value.Value.{Value}
 use Rattle.carte_value.specs.Names.{name_cmp}
 use Rattle.carte_value.specs.Truths.{Extends}
 use Rattle.carte_tree.specs.Tree.{Tree}
-use Rattle.carte_task.specs.Sights.{value_seen}
+use Rattle.carte_effect.specs.Sights.{value_seen}
 use Rattle.carte_book.specs.Book.{Item, input, rule, Book, content, clean}
 use Rattle.carte_book.proofs.Clean.{clean_input, clean_nothing, tied_name}
 use Rattle.carte_top.specs.Known.{Done, sight_of_rule, sight_at, part}

@@ -6,7 +6,7 @@ use Rattle.carte_value.specs.Truths.{Extends, Among, IsListOf}
 use Rattle.carte_book.specs.Book.{Book, clean}
 use Rattle.carte_book.specs.Needs.{IsReachedRule}
 use Rattle.carte_book.specs.Dynamic.{NoDynamicPath, IsOrderReason}
-use Rattle.carte_task.specs.Ledger.{Ledger, given_up}
+use Rattle.carte_effect.specs.Ledger.{Ledger, given_up}
 use Rattle.carte_topo.specs.declared.plan.PlanFault.{PlanFault}
 use Rattle.carte_topo.specs.declared.plan.PlanFault.TheVariants.{Refused, NoMemory}
 use Rattle.carte_top.specs.declared.evaluate.Evaluated.{Evaluated}

@@ -9,7 +9,7 @@ use Rattle.carte_tree.specs.Tree.{Tree}
 use Rattle.carte_tree.specs.Formula.{refs_of, is_static_tree}
 use Rattle.carte_tree.specs.Meaning.{eval}
 use Rattle.carte_tree.specs.InTurn.{HasAll}
-use Rattle.carte_task.specs.Ledger.{Ledger}
+use Rattle.carte_effect.specs.Ledger.{Ledger}
 use Rattle.carte_task.specs.Statics.{with_run}
 use Rattle.carte_book.specs.Book.{rule, Book, content, clean}
 use Rattle.carte_top.specs.Known.{Done, part}

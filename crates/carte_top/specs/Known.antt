@@ -5,7 +5,7 @@ use Rattle.carte_value.specs.declared.value.Value.{Value}
 use Rattle.carte_value.specs.Names.{name_cmp}
 use Rattle.carte_value.specs.Truths.{Truth}
 use Rattle.carte_book.specs.Book.{Item, input, rule, Book, content}
-use Rattle.carte_task.specs.Sights.{Sight, sight_of, not_done, missing, value_seen}
+use Rattle.carte_effect.specs.Sights.{Sight, sight_of, not_done, missing, value_seen}
 
 abbrev pub Done : Type 0
 Done = BTreeMap (List ℕ) Value

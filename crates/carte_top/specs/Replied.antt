@@ -1,7 +1,7 @@
 -- What is printed of the rules that were worked out.
 use Rattle.std.specs.Prelude.{ℕ, List, ◌++◌, length}
 use Rattle.carte_book.specs.Book.{Book}
-use Rattle.carte_task.specs.Ledger.{Ledger, given_up}
+use Rattle.carte_effect.specs.Ledger.{Ledger, given_up}
 use Rattle.carte_top.specs.Known.{Done, part}
 use Rattle.carte_top.specs.Reply.{target_lines, counts_line}
 

@@ -3,7 +3,7 @@ ghost use Rattle.std.specs.Fmt.{decimal};
 ghost use Rattle.carte_value.specs.Printed.{printed};
 ghost use Rattle.carte_book.specs.Book.{book_view};
 ghost use Rattle.carte_top.specs.Known.{part};
-ghost use Rattle.carte_task.specs.Ledger.{given_up};
+ghost use Rattle.carte_effect.specs.Ledger.{given_up};
 ghost use Rattle.carte_top.specs.Reply.{target_line, target_lines, counts_line};
 ghost use Rattle.carte_top.specs.Replied.{answer_text};
 

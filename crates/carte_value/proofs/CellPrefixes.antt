@@ -1,13 +1,10 @@
 -- Longest prefixes of names of cells.
-use Rattle.std.proofs.Common.{◌≡◌, ℕ, suc, ◌+◌, ◌<◌, Bool, true, false, ◌&&◌, nat_le, nat_lt, List, [], ◌∷◌, ◌++◌, length, take, drop, slice_index, map, refl, ◌∙◌, subst, inl, inr, arith}
-use Rattle.std.specs.List.{list_all}
-use Rattle.std.specs.Char.{to_ascii_uppercase}
-use Rattle.std.proofs.lemmas.Bool.{cases_Bool, and_left, and_parts, false_from_ne_true}
-use Rattle.std.proofs.lemmas.Bool.Decides.{nat_tests}
-use Rattle.std.proofs.lemmas.List.{length-map}
-use Rattle.carte_value.specs.Names.{is_digit, is_upper, is_letter, is_row, is_cell_name, is_cell_text}
+use Rattle.std.proofs.Common.{◌≡◌, ℕ, suc, ◌+◌, ◌<◌, Bool, true, false, ◌&&◌, nat_lt, List, [], ◌∷◌, ◌++◌, length, take, drop, slice_index, refl, ◌∙◌, subst, inl, inr, arith}
+use Rattle.std.proofs.lemmas.Bool.{cases_Bool, and_left, false_from_ne_true}
+use Rattle.carte_value.specs.Names.{is_upper, is_letter, is_row, is_cell_name, is_cell_text}
 use Rattle.carte_value.specs.Prefixes.{IsLongestPrefix, letters_of}
 use Rattle.carte_value.proofs.Prefixes.{longest_from_next}
+use Rattle.carte_value.proofs.Raised.{upper_raised, row_raised, letter_raised, row_first, no_upper}
 
 -- texts that pass are one or two letters and then a row
 record ByLetters (letter : ℕ → Bool) (passes : List ℕ → Bool) : Type 0 where
@@ -118,43 +115,6 @@ module _ (letter : ℕ → Bool) (passes : List ℕ → Bool) (by : ByLetters le
           both one (b ∷ y) two none = absurd (omega (arith, none, letters_two a b y one two))
 
 -- the two kinds of texts of cells
-
-upper_raised : (a : ℕ) → is_upper (to_ascii_uppercase a) ≡ is_letter a
-upper_raised a = grind (arith, nat_tests)
-
-digit_raised : (a : ℕ) → is_digit (to_ascii_uppercase a) ≡ is_digit a
-digit_raised a = grind (arith, nat_tests)
-
-high_raised : (a : ℕ) → nat_le 49 (to_ascii_uppercase a) ≡ nat_le 49 a
-high_raised a = grind (arith, nat_tests)
-
-row_raised : (x : List ℕ) → is_row (map to_ascii_uppercase x) ≡ is_row x
-row_raised x = rw (length-map x to_ascii_uppercase, digits x, high x) refl
-  where
-    digits : (y : List ℕ) → list_all is_digit (map to_ascii_uppercase y) ≡ list_all is_digit y
-    digits [] = refl
-    digits (b ∷ y) = rw (digit_raised b, digits y) refl
-
-    high : (y : List ℕ) → nat_le 49 (slice_index (map to_ascii_uppercase y) 0) ≡ nat_le 49 (slice_index y 0)
-    high [] = refl
-    high (b ∷ y) = high_raised b
-
-letter_raised : (x : List ℕ) → is_upper (slice_index (map to_ascii_uppercase x) 0) ≡ is_letter (slice_index x 0)
-letter_raised [] = refl
-letter_raised (b ∷ y) = upper_raised b
-
--- a row begins with no letter
-pub row_first : (x : List ℕ) → is_row x ≡ true → is_letter (slice_index x 0) ≡ false
-row_first [] row = cc
-row_first (b ∷ y) row =
-    let digits : list_all is_digit (b ∷ y) ≡ true = (and_parts _ _ (and_parts _ _ row).0).1 in
-    digit_apart b (and_parts _ _ digits).0
-  where
-    digit_apart : (a : ℕ) → is_digit a ≡ true → is_letter a ≡ false
-    digit_apart a digit = grind (arith, nat_tests)
-
-no_upper : (a : ℕ) → is_letter a ≡ false → is_upper a ≡ false
-no_upper a none = grind (arith, nat_tests)
 
 by_any : ByLetters is_letter is_cell_text
 by_any = record {

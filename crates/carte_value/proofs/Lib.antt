@@ -8,6 +8,7 @@ pub mod Laws
 pub mod Fetches
 pub mod Prefixes
 pub mod CellPrefixes
+pub mod Raised
 pub mod Places
 pub mod Quotes
 pub mod Sides

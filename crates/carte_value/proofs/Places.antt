@@ -6,7 +6,7 @@ use Rattle.std.proofs.lemmas.Bool.{cases_Bool, cases_lt, and_from, and_parts, or
 use Rattle.std.proofs.lemmas.Fmt.{decimal_is_IsNumeral, length-decimal-le, first_decimal, decimal-digits_value, decimal_digit}
 use Rattle.std.proofs.lemmas.Str.Parse.{IsNumeralModel, numerals_by_value, digits_value_short}
 use Rattle.carte_value.specs.Names.{is_digit, is_upper, is_row, is_cell_name}
-use Rattle.carte_value.proofs.CellPrefixes.{row_first}
+use Rattle.carte_value.proofs.Raised.{row_first}
 use Rattle.carte_value.specs.Areas.{column_name, cell_at, column_of, row_of, IsPlace}
 
 own : IsNumeralModel (λ ds. list_all is_digit ds ≡ true) (digits_value 10)

@@ -7,6 +7,9 @@
 //! contracts speak of items and not of capacities. An area is plain too, with the condition on its sides in the
 //! contracts: it stands in trees of formulas, where an invariant in the type would stand in the way.
 //!
+//! Names and texts share their bytes with their copies: a name stands in many lists, and a long text may be looked up by
+//! thousands of rules. An `Rc` would do so too, but no name could then pass to another thread.
+//!
 //! What is promised of a format is a relation between bytes and values in `specs/`, never the reader's loop again:
 //! bytes begin with a spelling, a text is the printed form of a text, a prefix begins some name. Laws over all values
 //! (no spelling begins another, what was printed is read again, cells and places of the sheet are the same) are
@@ -63,7 +66,7 @@ pub use text::{TEXT_LIMIT, Text};
 pub use text_fault::TextFault;
 pub use value::{Bad, Value};
 
-/// There was no memory for what was asked. Nothing that was lent has changed.
+/// There was no memory for what was asked. Nothing that was lent has changed, but where a call says otherwise.
 #[derive(Clone, Copy, Debug, PartialEq, Eq)]
 pub struct NoMemory;
 

@@ -1,6 +1,7 @@
 ghost use Rattle.std.specs.Prelude.{◌≡◌};
 ghost use Rattle.carte_value.specs.declared.name_fault.NameFault.TheVariants as fault;
 
+use crate::NoMemory;
 use std::alloc::AllocError;
 use thiserror::Error;
 
@@ -18,6 +19,14 @@ impl From<AllocError> for NameFault {
     ghost from_gives = { λ _ e. e ≡ fault.NoMemory };
 
     fn from(_: AllocError) -> NameFault {
+        NameFault::NoMemory
+    }
+}
+
+impl From<NoMemory> for NameFault {
+    ghost from_gives = { λ _ e. e ≡ fault.NoMemory };
+
+    fn from(_: NoMemory) -> NameFault {
         NameFault::NoMemory
     }
 }

@@ -164,6 +164,8 @@ fn values(alloc: Global) -> Result<Values, Fail> {
 #[test]
 fn lists_keep_their_items(rt: HostRuntime) -> Result<(), Fail> {
     let alloc = rt.alloc();
+    grown::<Value>();
+    stuck_is_last::<Names>();
     let name = Name::rule(alloc, "b")?;
     let links = list_crosses(links(alloc, &name)?);
     assert_eq!(&rt; links.len(), 1);

@@ -1,6 +1,7 @@
 ghost use Rattle.std.specs.Prelude.{◌≡◌};
 ghost use Rattle.carte_value.specs.declared.text_fault.TextFault.TheVariants as fault;
 
+use crate::NoMemory;
 use std::alloc::AllocError;
 use thiserror::Error;
 
@@ -18,6 +19,14 @@ impl From<AllocError> for TextFault {
     ghost from_gives = { λ _ e. e ≡ fault.NoMemory };
 
     fn from(_: AllocError) -> TextFault {
+        TextFault::NoMemory
+    }
+}
+
+impl From<NoMemory> for TextFault {
+    ghost from_gives = { λ _ e. e ≡ fault.NoMemory };
+
+    fn from(_: NoMemory) -> TextFault {
         TextFault::NoMemory
     }
 }

@@ -5,8 +5,8 @@ use Rattle.carte_io.proofs.sink.write_all.Goals as goal
 
 pub loop-at-preserved : goal.loop-at-preserved
 loop-at-preserved g c = let piece = c.args.piece.now in let at = c.loop-at.at in record {
-  within = omega (arith, c.in-Ok.ensures.bound, ap length (take_rest piece at), length-drop at piece);
-  front = λ told. takes_more piece _ _ _ _ at c.in-Ok.count (take_rest piece at) (c.loop-at.invariant.front told) (c.in-Ok.ensures.bytes told);
+  within = omega (arith, c.in_ok-count.ensures.bound, ap length (take_rest piece at), length-drop at piece);
+  front = λ told. takes_more piece _ _ _ _ at c.in_ok-count.count (take_rest piece at) (c.loop-at.invariant.front told) (c.in_ok-count.ensures.bytes told);
   kept = λ told. omega (arith, c.loop-at.invariant.kept told, c.write.ensures.kept told);
-  later = omega (arith, c.loop-at.invariant.later, c.write.ensures.cause.later);
+  same = omega (arith, c.loop-at.invariant.same, c.in_ok-count.ensures.cause.passed);
 }

@@ -1,4 +1,4 @@
-use Rattle.std.proofs.Common.{◌≡◌, ◌-◌, ◌<◌, ◌≤◌, ◌^◌}
+use Rattle.std.proofs.Common.{◌≡◌, ◌+◌, ◌-◌, ◌<◌, ◌≤◌, ◌^◌, length}
 use Rattle.carte_journal.specs.Frames.{frames_from}
 use Rattle.carte_journal.proofs.Walks.{adds}
 use Rattle.carte_journal.proofs.load.load_bodies.Given as goal
@@ -8,7 +8,8 @@ invariant-frames g l = record {
   inside : l.gate < l.len;
   small : l.gate < 2 ^ 32;
   same : g.D.Disk.tells → g.D.Disk.story l.disk ≡ g.D.Disk.story l.fn.disk;
-  later : g.D.Disk.faults l.fn.disk ≤ g.D.Disk.faults l.disk;
+  room : length l.bodies + 8 ≤ l.gate;
+  kept : g.D.Disk.faults l.disk ≡ g.D.Disk.faults l.fn.disk;
   read : g.D.Disk.tells → frames_from l.limit 8 (g.D.Disk.story l.fn.disk).now.reads
       ≡ adds l.bodies (frames_from l.limit l.gate (g.D.Disk.story l.fn.disk).now.reads);
 }

@@ -1,5 +1,5 @@
 use Rattle.std.proofs.Common.{◌≡◌, ◌++◌, drop}
-use Rattle.carte_task.specs.Effects.{paired}
+use Rattle.carte_effect.specs.Effects.{paired}
 use Rattle.carte_task.proofs.progress.fill.Given as goal
 
 abbrev pub invariant-loop-name : goal.invariant-loop-name

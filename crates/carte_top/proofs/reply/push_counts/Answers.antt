@@ -1,6 +1,6 @@
 use Rattle.std.proofs.Common.{◌∷◌, [], codes, length, string_bytes}
 use Rattle.std.specs.Fmt.{decimal}
-use Rattle.carte_task.specs.Ledger.{given_up}
+use Rattle.carte_effect.specs.Ledger.{given_up}
 use Rattle.carte_top.proofs.Loading.{counted}
 use Rattle.carte_top.proofs.reply.push_counts.Goals as goal
 

@@ -1,6 +1,5 @@
 use Rattle.std.proofs.Common.{arith, length, ap}
-use Rattle.carte_io.specs.MemDisks.{MemoryOfDisk, begun}
-use Rattle.carte_io.proofs.MemDiskLemmas.{passed-after_calls}
+use Rattle.carte_io.specs.MemDisks.{MemoryOfDisk, begun, passed-after_calls}
 use Rattle.carte_io.proofs.mem_disk.MemDisk.passed.Goals as goal
 
 pub returns : goal.returns

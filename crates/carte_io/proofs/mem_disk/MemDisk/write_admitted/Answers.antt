@@ -12,5 +12,6 @@ invariant_of-self c =
 
 pub returns-in-Ok-clause-ok : goal.returns-in-Ok-clause-ok
 returns-in-Ok-clause-ok c =
-    story_on c.args.self.now c.self.inside.first.items c.self.inside.passed.items _ (Wrote c.args.at c.args.piece.now) c.in-Ok.ensures.ok.1
-    (ap (λ (d : MemoryOfDisk). d.first) c.self.view_is) (ap (λ (d : MemoryOfDisk). d.passed) c.self.view_is)
+    story_on c.args.self.now c.self.inside.first.items c.self.inside.stop c.self.inside.passed.items _ (Wrote c.args.at c.args.piece.now) c.in-Ok.ensures.ok.1
+    (ap (λ (d : MemoryOfDisk). d.first) c.self.view_is) (ap (λ (d : MemoryOfDisk). d.stop) c.self.view_is)
+    (ap (λ (d : MemoryOfDisk). d.passed) c.self.view_is) c.requires

@@ -1,6 +1,6 @@
 use Rattle.std.proofs.Common.{◌≡◌, take}
 use Rattle.carte_task.specs.State.{answers_in}
-use Rattle.carte_task.specs.Outcomes.{links_of}
+use Rattle.carte_effect.specs.Outcomes.{links_of}
 use Rattle.carte_task.proofs.progress.Progress.links.Given as goal
 
 abbrev pub invariant-loop-at : goal.invariant-loop-at

@@ -15,7 +15,7 @@ loop-self-preserved g c =
     let is = c.index-as_slice-self.is ∙ ap (λ js. get_or js c.loop-self.self.looked c.index-as_slice-self.result) c.as_slice.ensures in
     record {
       truth = c.answer.ensures.truth ∙ c.loop-self.invariant.truth;
-      own = ((λ k s h. c.answer.ensures.own.0 k s (c.loop-self.invariant.own.0 k s h)), (λ k s h. c.loop-self.invariant.own.1 k s (c.answer.ensures.own.1 k s h)));
+      own = ((λ k s h. c.answer.ensures.stops.0 k s (c.loop-self.invariant.own.0 k s h)), (λ k s h. c.loop-self.invariant.own.1 k s (c.answer.ensures.stops.1 k s h)));
       at = c.loop-self.invariant.at;
       next = c.loop-self.invariant.next;
       along = λ go. looking_on _ _ _ _ _ _ _ _ _ c.loop-self.self.names c.loop-self.self.looked c.loop-self.self.values.items c.push_reserved.new.self.items c.index-as_slice-self.result c.in-Ok.value go c.loop-self.invariant.truth within is (c.push_reserved.ensures.items ∙ ap (λ vs. vs ++ c.in-Ok.value ∷ []) c.reserve.ensures.items) (c.in-Ok.ensures {u = tt}).answered (c.loop-self.invariant.along go);

@@ -1,0 +1,3 @@
+pub mod More
+mod Lists
+mod Pairs

@@ -1,0 +1,62 @@
+ghost use Rattle.std.specs.Prelude.{◌≡◌, ℕ, List, None};
+ghost use Rattle.carte_effect.specs.Sights.{Sight, Sees, value_seen, IsStuck};
+
+use crate::{Effect, Halt};
+use carte_value::{Name, Value};
+use std::alloc::Global;
+
+/// What a look sees of a name.
+pub enum Seen<'a> {
+    Value(&'a Value),
+    /// It will have a value once its task has ended.
+    NotDone,
+    /// It has no task and no value.
+    Missing,
+}
+
+/// Values that stand while others look at them.
+pub trait Look {
+    ghost sight: { Self → List ℕ → Sight };
+
+    fn look(&self, name: &Name) -> Seen<'_>
+        ensures { Sees result (sight self.now name.now) };
+}
+
+/// The name at which a fetch stopped, and why.
+#[derive(Debug, Drop)]
+pub enum Stuck {
+    NotDone(Name),
+    Missing(Name),
+}
+
+/// Answers from a look, and stops where it shows no value. It keeps no log.
+#[derive(Drop)]
+pub struct Snapshot<'a, L> {
+    look: &'a L,
+}
+
+impl<'a, L: Look> Snapshot<'a, L> {
+    pub fn of(look: &'a L) -> Snapshot<'a, L>
+        ensures { result.look.now ≡ look.now }
+    {
+        Snapshot { look }
+    }
+}
+
+impl<'a, L: Look> Effect for Snapshot<'a, L> {
+    type Stop = Stuck;
+
+    ghost truth = { λ s k. value_seen (L.sight s.look.now k) };
+
+    ghost stops = { λ s k stuck. IsStuck (L.sight s.look.now k) k stuck };
+
+    ghost log = { λ s. None };
+
+    fn fetch(&mut self, alloc: Global, name: &Name) -> Result<Value, Halt<Stuck>> {
+        match self.look.look(name) {
+            Seen::Value(value) => Ok(value.copy(alloc)?),
+            Seen::NotDone => Err(Halt::Stop(Stuck::NotDone(name.copy(alloc)?))),
+            Seen::Missing => Err(Halt::Stop(Stuck::Missing(name.copy(alloc)?))),
+        }
+    }
+}

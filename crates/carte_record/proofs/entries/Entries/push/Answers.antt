@@ -1,0 +1,8 @@
+use Rattle.std.proofs.Common.{◌∙◌, ap, sym}
+use Rattle.carte_value.specs.Names.{name_eq}
+use Rattle.carte_record.specs.Lookups.{is_entry_of}
+use Rattle.carte_record.proofs.Names.{name_eq_sym}
+use Rattle.carte_record.proofs.entries.Entries.push.Goals as goal
+
+pub invariant_of-self : goal.invariant_of-self
+invariant_of-self c = (c.push.ensures.bound, c.push.ensures.table is_entry_of (λ q. name_eq_sym q c.args.entry.key ∙ sym (ap (λ k. name_eq k q) (c.in_ok-key.ensures {u = tt}))) c.self.invariant.1)

@@ -1,0 +1,63 @@
+-- What is kept, as functions: two of them that are alike are equal.
+use Rattle.std.specs.Prelude.{ℕ, Bool, not, ◌&&◌, ◌||◌, List, [], ◌∷◌, Option, Some, None, filter, if◌then◌else◌}
+use Rattle.carte_value.specs.declared.digest.Digest.{Digest}
+use Rattle.carte_value.specs.declared.value.Value.{Value}
+use Rattle.carte_value.specs.Names.{name_eq}
+use Rattle.carte_record.specs.declared.entry.Entry.{Entry}
+use Rattle.carte_record.specs.declared.trace.Trace.{Trace}
+use Rattle.carte_record.specs.declared.way.Way.{Way}
+use Rattle.carte_record.specs.declared.way.Way.TheVariants.{Verifying, Constructive, Deep}
+use Rattle.carte_record.specs.declared.kept.Kept.{Kept}
+use Rattle.carte_record.specs.Lookups.{first_link, first_entry, first_value, trace_eq}
+
+pub record SomeKept : Type 0 where
+  -- the digest of the rules
+  pub rules : Option Digest
+  -- the digest that an input was seen with
+  pub seen : List ℕ → Option Digest
+  pub entries : List ℕ → Option Entry
+  -- of each key, newest first, each once
+  pub traces : Way → List ℕ → List Trace
+  pub chain : List (List ℕ)
+  -- the first value of a digest
+  pub stored : Digest → Option Value
+
+abbrev pub nothing_kept : SomeKept
+nothing_kept = record { rules = None; seen = λ k. None; entries = λ k. None; traces = λ w k. []; chain = []; stored = λ d. None }
+
+-- one trace more, that is then the newest
+abbrev pub newest : Trace → List Trace → List Trace
+newest t ts = t ∷ filter (λ s. not (trace_eq s t)) ts
+
+-- the traces of a key, after those of a list that are of this key
+abbrev pub traces_in : List ℕ → List Trace → List Trace → List Trace
+traces_in k [] old = old
+traces_in k (t ∷ ts) old = traces_in k ts (if name_eq k t.key then newest t old else old)
+
+-- the list of traces of one kind
+abbrev pub kept_traces : Way → Kept → List Trace
+kept_traces Verifying K = K.verifying
+kept_traces Constructive K = K.constructive
+kept_traces Deep K = K.deep
+
+abbrev pub kept_view : Kept → SomeKept
+kept_view K = record {
+  rules = K.rules;
+  seen = first_link K.seen;
+  entries = first_entry K.entries;
+  traces = λ w k. traces_in k (kept_traces w K) [];
+  chain = K.chain;
+  stored = first_value K.values;
+}
+
+-- neither stale nor shallow
+abbrev pub is_fresh : Entry → Bool
+is_fresh e = not e.stale && not e.shallow
+
+-- a function with one answer more
+abbrev pub put_at : {A : Type 0} → (List ℕ → Option A) → List ℕ → A → List ℕ → Option A
+put_at f k x q = if name_eq q k then Some x else f q
+
+-- the entry, marked stale where the test says so
+abbrev pub staled : Bool → Entry → Entry
+staled b e = record e { stale = b || e.stale }

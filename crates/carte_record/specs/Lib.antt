@@ -1,0 +1,11 @@
+pub mod Lookups
+pub mod Changes
+pub mod Places
+pub mod Steps
+pub mod KeyPlaces
+pub mod Kept
+pub mod Folds
+pub mod Bodies
+pub mod BodyLaws
+pub mod Empty
+pub mod Growth

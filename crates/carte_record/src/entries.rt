@@ -1,0 +1,193 @@
+ghost use Rattle.std.specs.Prelude.{◌≡◌, ◌<◌, ◌^◌, ◌∷◌, ◌++◌, [], List, length, slice_get, option_copied, ◌==◌, is_ok, take, IfOk, OnOk, OnErr, ℕ, Bool, true, option_map, if◌then◌else◌};
+ghost use Rattle.carte_record.specs.Lookups.{first_entry, is_entry_of};
+ghost use Rattle.carte_record.specs.Kept.{staled};
+ghost use Rattle.carte_record.specs.Places.{first_place};
+ghost use Rattle.carte_record.specs.Changes.{change_first, front};
+ghost use Rattle.carte_record.specs.Folds.{is_among};
+ghost use Rattle.carte_record.specs.Steps.{Begins, Replaces, HasRoomFor, HasRoom};
+ghost use Rattle.carte_record.specs.declared.entry.Entry.{Entry as SomeEntry};
+
+use crate::Entry;
+use crate::table::{Table, first, forget, place, push, set};
+use carte_value::{Name, Names, NoMemory, Same};
+use std::alloc::Global;
+use std::marker::Model;
+
+/// A list of at most 2^32 - 1 entries, seen as these entries, in which a key is looked up at once.
+#[derive(Drop)]
+pub struct Entries {
+    alloc: Global,
+    entries: Vec<Entry>,
+    places: Table<Name, u32>,
+}
+
+impl Model for Entries {
+    ghost use Rattle.std.specs.Prelude.{List, length, ◌<◌, ◌^◌};
+    ghost use Rattle.std.specs.HashMap.{get};
+    ghost use Rattle.carte_value.specs.Names.{name_eq};
+    ghost use Rattle.carte_record.specs.declared.entry.Entry.{Entry};
+    ghost use Rattle.carte_record.specs.Places.{IsFirstPlaces};
+    ghost use Rattle.carte_record.specs.Lookups.{is_entry_of};
+
+    ghost Value = { List Entry };
+
+    ghost view = { λ a. a.entries.items };
+
+    ghost invariant = { λ a. (length a.entries.items < 2 ^ 32) × IsFirstPlaces is_entry_of a.entries.items (get name_eq a.places) };
+}
+
+impl Entries {
+    /// The empty list, whose entries will come from `alloc`. It takes no memory.
+    pub fn new(alloc: Global) -> Entries
+        ensures { result ≡ [] }
+    {
+        Entries {
+            alloc,
+            entries: Vec::new(alloc),
+            places: Table::new(alloc),
+        }
+    }
+
+    /// How many entries there are.
+    pub fn len(&self) -> usize
+        ensures number { result ≡ length self.now }
+        ensures bound { result < 2 ^ 32 }
+    {
+        self.entries.len()
+    }
+
+    pub fn is_empty(&self) -> bool
+        ensures { result ≡ (length self.now == 0) }
+    {
+        self.entries.is_empty()
+    }
+
+    /// The entry at a place counted from 0, where the list is longer than that.
+    pub fn get(&self, at: usize) -> Option<&Entry>
+        ensures { option_copied result ≡ slice_get self.now at }
+    {
+        self.entries.get(at)
+    }
+
+    /// The entries as a slice.
+    pub fn as_slice(&self) -> &[Entry]
+        ensures { result.now ≡ self.now }
+    {
+        self.entries.as_slice()
+    }
+
+    /// The first entry of a key, where there is one. It takes no memory.
+    pub fn find(&self, key: &Name) -> Option<&Entry>
+        ensures { option_copied result ≡ first_entry self.now key.now }
+    {
+        first(self.entries.as_slice(), &self.places, key)
+    }
+
+    /// Puts an entry in the place of the first one of its key, where there is one.
+    pub(crate) fn replace(&mut self, entry: Entry)
+        ensures { self.new ≡ change_first (is_entry_of entry.key) (λ e. entry) self.old }
+    {
+        let at = place(&self.places, &entry.key);
+        set(&mut self.entries, at, entry);
+    }
+
+    /// Marks the first entry of a key stale, where there is one.
+    pub(crate) fn mark(&mut self, key: &Name)
+        ensures { self.new ≡ change_first (is_entry_of key.now) (staled true) self.old }
+    {
+        let at = place(&self.places, key);
+        mark(&mut self.entries, at);
+    }
+
+    /// Marks the first entry of each of these keys stale, where there is one.
+    pub(crate) fn mark_all(&mut self, keys: &Names)
+        ensures { (k : List ℕ) → first_entry self.new k ≡ option_map (staled (is_among keys.now k)) (first_entry self.old k) }
+    {
+        for key in keys.as_slice() {
+            self.mark(key);
+        }
+    }
+
+    /// Puts each entry of a later list in the place of the first one of its key, where there is one.
+    pub(crate) fn replace_all(&mut self, later: Entries)
+        ensures { Replaces is_entry_of later self.old self.new }
+    {
+        for entry in later.entries {
+            self.replace(entry);
+        }
+    }
+
+    /// Puts an entry behind the others for each key of a later list that has none. Where there is no room, some may stand there.
+    pub(crate) fn make_room(&mut self, later: &Entries) -> Result<(), NoMemory>
+        ensures ok { OnOk result (HasRoom is_entry_of later.now self.old self.new) }
+        ensures front { Begins self.old self.new }
+    {
+        for entry in later.entries.iter() {
+            self.make_room_for(entry)?;
+        }
+        Ok(())
+    }
+
+    fn make_room_for(&mut self, entry: &Entry) -> Result<(), NoMemory>
+        ensures ok { OnOk result (HasRoomFor is_entry_of (λ e. e.key) self.old self.new entry.now.key) }
+        ensures no_memory { OnErr result (self.new ≡ self.old) }
+    {
+        if self.find(&entry.key).is_some() {
+            return Ok(());
+        }
+        let alloc = self.alloc;
+        self.push(Entry {
+            key: entry.key.copy(alloc)?,
+            result: entry.result,
+            needs: Names::new(alloc),
+            stale: false,
+            shallow: false,
+        })
+    }
+
+    /// Drops the entries behind the first `len`.
+    pub(crate) fn truncate(&mut self, len: usize)
+        ensures { self.new ≡ take len self.old }
+    {
+        while self.entries.len() > len {
+            self.pop();
+        }
+    }
+
+    fn pop(&mut self)
+        ensures { self.new ≡ front self.old }
+    {
+        if let Some(entry) = self.entries.pop() {
+            forget(&mut self.places, &entry.key, self.entries.len());
+        }
+    }
+
+    /// A second list of equal entries.
+    pub fn copy(&self, alloc: Global) -> Result<Entries, NoMemory>
+        ensures { IfOk result (λ copy. copy ≡ self.now) }
+    {
+        let mut entries = Entries::new(alloc);
+        for entry in self.entries.iter() {
+            entries.push(entry.same(alloc)?)?;
+        }
+        Ok(entries)
+    }
+
+    /// Puts an entry behind the others. Where there is no room for it, it is dropped and nothing has changed.
+    pub fn push(&mut self, entry: Entry) -> Result<(), NoMemory>
+        ensures { self.new ≡ (if is_ok result then self.old ++ entry ∷ [] else self.old) }
+    {
+        let key = entry.key.copy(self.alloc)?;
+        push(&mut self.entries, &mut self.places, key, entry)
+    }
+}
+
+fn mark(entries: &mut Vec<Entry>, at: Option<usize>)
+    ensures { (p : SomeEntry → Bool) → at ≡ first_place p entries.old.items → entries.new.items ≡ change_first p (staled true) entries.old.items }
+{
+    if let Some(at) = at {
+        if let Some(entry) = entries.get_mut(at) {
+            entry.stale = true;
+        }
+    }
+}

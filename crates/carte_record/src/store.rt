@@ -1,0 +1,172 @@
+ghost use Rattle.std.specs.Prelude.{◌≡◌, ◌<◌, ◌^◌, ◌∷◌, ◌++◌, [], List, length, slice_get, option_map, option_copied, ◌==◌, is_ok, take, IfOk, OnOk, Some, None, if◌then◌else◌};
+ghost use Rattle.carte_value.specs.Spelling.{digest_of};
+ghost use Rattle.carte_record.specs.Lookups.{first_value, is_value_of};
+ghost use Rattle.carte_record.specs.Changes.{front};
+ghost use Rattle.carte_value.specs.declared.digest.Digest.{Digest as SomeDigest};
+ghost use Rattle.std.specs.Option.{option_or};
+ghost use Rattle.carte_record.specs.Steps.{Begins};
+
+use crate::table::{Table, first, forget, push};
+use carte_value::{Digest, NoMemory, Value};
+use std::alloc::Global;
+use std::marker::Model;
+
+/// A list of at most 2^32 - 1 values, seen as these values, in which a digest is looked up at once. The digest of each
+/// value stands beside it, so that it is taken once.
+#[derive(Drop)]
+pub struct Store {
+    values: Vec<Value>,
+    digests: Vec<Digest>,
+    places: Table<[u8; 32], u32>,
+}
+
+impl Model for Store {
+    ghost use Rattle.std.specs.Prelude.{◌≡◌, List, length, map, ◌<◌, ◌^◌};
+    ghost use Rattle.std.specs.HashMap.{get};
+    ghost use Rattle.carte_value.specs.Names.{name_eq};
+    ghost use Rattle.carte_value.specs.Spelling.{digest_of};
+    ghost use Rattle.carte_value.specs.declared.value.Value.{Value as SomeValue};
+    ghost use Rattle.carte_record.specs.Places.{IsFirstPlaces};
+    ghost use Rattle.carte_record.specs.Lookups.{is_value_of};
+
+    ghost Value = { List SomeValue };
+
+    ghost view = { λ a. a.values.items };
+
+    ghost invariant = { λ a. (length a.values.items < 2 ^ 32) × (a.digests.items ≡ map digest_of a.values.items) × IsFirstPlaces (λ d. is_value_of (record { 0 = d })) a.values.items (get name_eq a.places) };
+}
+
+impl Store {
+    /// The empty list, whose values will come from `alloc`. It takes no memory.
+    pub fn new(alloc: Global) -> Store
+        ensures { result ≡ [] }
+    {
+        Store {
+            values: Vec::new(alloc),
+            digests: Vec::new(alloc),
+            places: Table::new(alloc),
+        }
+    }
+
+    /// How many values there are.
+    pub fn len(&self) -> usize
+        ensures number { result ≡ length self.now }
+        ensures bound { result < 2 ^ 32 }
+    {
+        self.values.len()
+    }
+
+    pub fn is_empty(&self) -> bool
+        ensures { result ≡ (length self.now == 0) }
+    {
+        self.values.is_empty()
+    }
+
+    /// The value at a place counted from 0, where the list is longer than that.
+    pub fn get(&self, at: usize) -> Option<&Value>
+        ensures { option_copied result ≡ slice_get self.now at }
+    {
+        self.values.get(at)
+    }
+
+    /// The values as a slice.
+    pub fn as_slice(&self) -> &[Value]
+        ensures { result.now ≡ self.now }
+    {
+        self.values.as_slice()
+    }
+
+    /// The first value of a digest, where there is one. It takes no memory.
+    pub fn find(&self, digest: &Digest) -> Option<&Value>
+        ensures { option_copied result ≡ first_value self.now digest.now }
+    {
+        first(self.values.as_slice(), &self.places, &digest.0)
+    }
+
+    /// The digest of the value at a place counted from 0, where the list is longer than that.
+    pub fn digest(&self, at: usize) -> Option<&Digest>
+        ensures { option_copied result ≡ option_map digest_of (slice_get self.now at) }
+    {
+        self.digests.get(at)
+    }
+
+    /// Puts the values of a later list behind these, but for those whose digest is there. Where there is no room for all
+    /// of them, some may stand there.
+    pub(crate) fn take_in(&mut self, later: Store) -> Result<(), NoMemory>
+        ensures ok { OnOk result ((d : SomeDigest) → first_value self.new d ≡ option_or (first_value self.old d) (first_value later d)) }
+        ensures front { Begins self.old self.new }
+    {
+        if self.values.is_empty() {
+            *self = later;
+            return Ok(());
+        }
+        let digests = later.digests;
+        let mut at = 0;
+        for value in later.values {
+            self.put(value, digests[at])?;
+            at += 1;
+        }
+        Ok(())
+    }
+
+    fn put(&mut self, value: Value, digest: Digest) -> Result<(), NoMemory>
+        requires { digest ≡ digest_of value }
+        ensures ok { OnOk result ((d : SomeDigest) → first_value self.new d ≡ option_or (first_value self.old d) (if is_value_of d value then Some value else None)) }
+        ensures front { Begins self.old self.new }
+    {
+        if self.find(&digest).is_some() {
+            return Ok(());
+        }
+        self.push_with(value, digest)?;
+        Ok(())
+    }
+
+    /// Drops the values behind the first `len`.
+    pub(crate) fn truncate(&mut self, len: usize)
+        ensures { self.new ≡ take len self.old }
+    {
+        while self.values.len() > len {
+            self.pop();
+        }
+    }
+
+    fn pop(&mut self)
+        ensures { self.new ≡ front self.old }
+    {
+        if let Some(_value) = self.values.pop() {
+            if let Some(digest) = self.digests.pop() {
+                forget(&mut self.places, &digest.0, self.values.len());
+            }
+        }
+    }
+
+    /// A second list of equal values.
+    pub fn copy(&self, alloc: Global) -> Result<Store, NoMemory>
+        ensures { IfOk result (λ copy. copy ≡ self.now) }
+    {
+        let mut store = Store::new(alloc);
+        for at in 0..self.values.len() {
+            store.push_with(self.values[at].copy(alloc)?, self.digests[at])?;
+        }
+        Ok(store)
+    }
+
+    /// Puts a value behind the others. Where there is no room for it, it is dropped and nothing has changed.
+    pub fn push(&mut self, value: Value) -> Result<(), NoMemory>
+        ensures { self.new ≡ (if is_ok result then self.old ++ value ∷ [] else self.old) }
+    {
+        let digest = value.digest();
+        self.push_with(value, digest)
+    }
+
+    /// The same of a value whose digest is known, so that it isn't taken again.
+    pub fn push_with(&mut self, value: Value, digest: Digest) -> Result<(), NoMemory>
+        requires { digest ≡ digest_of value }
+        ensures { self.new ≡ (if is_ok result then self.old ++ value ∷ [] else self.old) }
+    {
+        self.digests.reserve(1)?;
+        push(&mut self.values, &mut self.places, digest.0, value)?;
+        self.digests.push_reserved(digest);
+        Ok(())
+    }
+}

@@ -1,0 +1,109 @@
+//! Tables from keys to places in a list.
+ghost use Rattle.std.specs.Prelude.{◌≡◌, ◌<◌, ◌^◌, ◌++◌, ◌∷◌, [], Bool, None, Some, IsTrue, ◌↔◌, length, find, slice_get, option_copied, is_ok, OnOk, OnErr, if◌then◌else◌};
+ghost use Rattle.std.specs.HashMap.{get};
+ghost use Rattle.carte_record.specs.Places.{first_place, IsFirstPlaces, AddsPlace, ForgetsPlace};
+ghost use Rattle.carte_record.specs.Changes.{change_first};
+
+use carte_value::NoMemory;
+use std::collections::HashMap;
+use std::hash::Hash;
+
+/// The one name of these tables, so that their hasher can be changed here.
+pub(crate) type Table<K, V> = HashMap<K, V>;
+
+/// The most items that a list has.
+pub(crate) const MOST: usize = 4294967295;
+
+/// The first item of a key.
+pub(crate) fn first<'a, K: Eq + Hash, T>(
+    items: &'a [T],
+    table: &Table<K, u32>,
+    key: &K,
+) -> Option<&'a T>
+    ensures { (is_of : K → T → Bool) → IsFirstPlaces is_of items.now (get K.eq table.now) → option_copied result ≡ find (is_of key.now) items.now }
+{
+    match place(table, key) {
+        Some(at) => item(items, at),
+        None => None,
+    }
+}
+
+fn item<T>(items: &[T], at: usize) -> Option<&T>
+    ensures { option_copied result ≡ slice_get items.now at }
+{
+    items.get(at)
+}
+
+/// The first place of a key.
+pub(crate) fn place<K: Eq + Hash>(table: &Table<K, u32>, key: &K) -> Option<usize>
+    ensures { result ≡ get K.eq table.now key.now }
+{
+    match table.get(key) {
+        Some(at) => Some(*at as usize),
+        None => None,
+    }
+}
+
+/// Puts an item in the place of the first one of its key, where there is one.
+pub(crate) fn set<T: Drop>(items: &mut Vec<T>, at: Option<usize>, item: T)
+    ensures { (p : T → Bool) → at ≡ first_place p items.old.items → items.new.items ≡ change_first p (λ x. item) items.old.items }
+{
+    if let Some(at) = at {
+        if let Some(old) = items.get_mut(at) {
+            *old = item;
+        }
+    }
+}
+
+/// Takes a place that is no longer one out of the table.
+pub(crate) fn forget<K: Eq + Hash + Drop>(table: &mut Table<K, u32>, key: &K, at: usize)
+    ensures { ForgetsPlace K.eq (get K.eq table.old) (get K.eq table.new) key.now at }
+{
+    if has_place(table, key, at) {
+        table.remove(key);
+    }
+}
+
+fn has_place<K: Eq + Hash>(table: &Table<K, u32>, key: &K, at: usize) -> bool
+    ensures { IsTrue result ↔ (get K.eq table.now key.now ≡ Some at) }
+{
+    match place(table, key) {
+        Some(place) => place == at,
+        None => false,
+    }
+}
+
+/// Puts an item behind the others, and the place of its key into the table where it has none.
+pub(crate) fn push<K: Eq + Hash + Drop, T: Drop>(
+    items: &mut Vec<T>,
+    table: &mut Table<K, u32>,
+    key: K,
+    item: T,
+) -> Result<(), NoMemory>
+    requires { length items.old.items < 2 ^ 32 }
+    ensures items { items.new.items ≡ (if is_ok result then items.old.items ++ item ∷ [] else items.old.items) }
+    ensures bound { length items.new.items < 2 ^ 32 }
+    ensures table { (is_of : K → T → Bool) → ((q : K) → is_of q item ≡ K.eq key q) → IsFirstPlaces is_of items.old.items (get K.eq table.old) → IsFirstPlaces is_of items.new.items (get K.eq table.new) }
+{
+    let at = items.len();
+    if at >= MOST {
+        return Err(NoMemory);
+    }
+    items.reserve(1)?;
+    add(table, key, at as u32)?;
+    items.push_reserved(item);
+    Ok(())
+}
+
+fn add<K: Eq + Hash + Drop>(table: &mut Table<K, u32>, key: K, at: u32) -> Result<(), NoMemory>
+    ensures ok { OnOk result (AddsPlace K.eq (get K.eq table.old) (get K.eq table.new) key at) }
+    ensures no_memory { OnErr result ((q : K) → get K.eq table.new q ≡ get K.eq table.old q) }
+{
+    if table.contains_key(&key) {
+        return Ok(());
+    }
+    match table.insert(key, at) {
+        Ok(_) => Ok(()),
+        Err(_) => Err(NoMemory),
+    }
+}

@@ -1,0 +1,22 @@
+ghost use Rattle.std.specs.Prelude.{◌≡◌, IfOk};
+
+use carte_value::{Digest, Links, Name, NoMemory, Same};
+use std::alloc::Global;
+
+/// A run of a key: the digests that its links had, and that of its result.
+#[derive(Debug, Drop)]
+pub struct Trace {
+    pub key: Name,
+    pub links: Links,
+    pub result: Digest,
+}
+
+impl Same for Trace {
+    fn same(&self, alloc: Global) -> Result<Trace, NoMemory> {
+        Ok(Trace {
+            key: self.key.copy(alloc)?,
+            links: self.links.copy(alloc)?,
+            result: self.result,
+        })
+    }
+}

@@ -1,0 +1,14 @@
+pub mod Lists
+pub mod Marks
+pub mod Begun
+pub mod Beneath
+pub mod True
+pub mod Sound
+pub mod Base
+pub mod Held
+pub mod Results
+pub mod Left
+pub mod Finished
+pub mod Treated
+pub mod Carries
+pub mod LeadsTo
