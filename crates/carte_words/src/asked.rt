@@ -1,5 +1,6 @@
-ghost use Rattle.std.specs.Prelude.{◌≡◌};
+ghost use Rattle.std.specs.Prelude.{◌≡◌, IfOk};
 ghost use Rattle.clap.specs.Words.{first_of, found_of, rows_of};
+ghost use Rattle.carte_words.specs.Named.{AllNamed};
 ghost use Rattle.carte_words.specs.Words.{words_of, meaning_of, chosen_of, or_words, Gives};
 
 use crate::choices::{choose, value_at};
@@ -19,7 +20,8 @@ use std::alloc::Global;
 ///
 /// The fault is the first of these: `Words`; `NoTarget`; `TargetsNotTaken`; `BadTarget`.
 pub fn read_words(alloc: Global, words: &[Word]) -> Result<Words, WordsFault>
-    ensures { Gives (words_of words.now) result }
+    ensures words { Gives (words_of words.now) result }
+    ensures names { IfOk result (λ w. AllNamed w.kind w.targets) }
 {
     let matches = parse(alloc, words)?;
     read_matches(alloc, &matches)

@@ -1,7 +1,8 @@
-ghost use Rattle.std.specs.Prelude.{◌≡◌, ◌==◌, Ok, Some, None, codes, slice_index, if◌then◌else◌};
+ghost use Rattle.std.specs.Prelude.{◌≡◌, IfOk, IfSome, ◌==◌, Ok, Some, None, codes, slice_index, if◌then◌else◌};
 ghost use Rattle.carte_value.specs.declared.kind.Kind.{Kind};
 ghost use Rattle.carte_words.specs.declared.line.Line.TheVariants.{Nothing};
 ghost use Rattle.carte_words.specs.Cuts.{skip, words_in};
+ghost use Rattle.carte_words.specs.Named.{LineNamed};
 ghost use Rattle.carte_words.specs.Lines.{Means, Says, Follows, IsMeant, IsNameAt, AreNamesAt, AreKeys, names_of};
 
 use crate::Line;
@@ -17,7 +18,8 @@ use std::str;
 /// and `clean`. A name is one of the kind; a value is all that follows it, as `Value::read` reads it. A line that
 /// isn't UTF-8 is none of them.
 pub fn read_line(alloc: Global, kind: Kind, line: &[u8]) -> Result<Option<Line>, NoMemory>
-    ensures { IsMeant (Means kind line.now) result }
+    ensures line { IsMeant (Means kind line.now) result }
+    ensures names { IfOk result (λ o. IfSome o (λ l. LineNamed kind l)) }
 {
     let Ok(text) = str::from_utf8(line) else {
         return Ok(None);
