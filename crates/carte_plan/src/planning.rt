@@ -1,0 +1,84 @@
+ghost use Rattle.std.specs.Prelude.{◌≡◌, ℕ, List, IfOk, OnOk, if◌then◌else◌};
+ghost use Rattle.carte_book.specs.Book.{book_view};
+ghost use Rattle.carte_book.specs.Digest.{rules_digest_of};
+ghost use Rattle.carte_record.specs.declared.start.Start.TheVariants.{GoOn, Anew};
+ghost use Rattle.carte_record.specs.Kept.{SomeKept, kept_view};
+ghost use Rattle.carte_sound.specs.LeadsTo.{LeadsInOrder, LeadsRefused, LeadsSuspending, marks_left};
+ghost use Rattle.carte_sound.specs.Begun.{begin};
+ghost use Rattle.carte_sound.specs.Treated.{IsDoneInOrder, IsDoneSuspending};
+ghost use Rattle.carte_note.specs.Notes.{AreUnmarked};
+ghost use Rattle.carte_note.specs.Right.{finishes_of};
+ghost use Rattle.carte_mark.specs.Bases.{BeginsWith};
+ghost use Rattle.carte_plan.specs.Planned.{IsBuilt, NotesAll, Plans};
+
+use carte_book::Book;
+use carte_mark::Begun;
+use carte_note::FinishedList;
+use carte_rebuild::Rebuilder;
+use carte_record::{Batch, Kept, Start};
+use carte_value::{Digest, Names, NoMemory};
+use std::alloc::Global;
+
+/// The batch of a build. `rules` is the digest of the book's rules.
+pub fn plan<R: Rebuilder>(
+    alloc: Global,
+    rebuilder: &R,
+    begun: &Begun<'_>,
+    rules: Digest,
+    book: &Book,
+    finished: &FinishedList,
+) -> Result<Batch, NoMemory>
+    requires { rules ≡ rules_digest_of (book_view book.now) }
+    ensures unmarked { IfOk result (λ batch. AreUnmarked batch.entries) }
+    ensures plans { (K : SomeKept) → BeginsWith K (book_view book.now) begun.now → IfOk result (Plans (R.how rebuilder.now) K (book_view book.now) begun.now.marks finished.now) }
+    ensures in_order { (K : SomeKept) (targets : List (List ℕ)) → BeginsWith K (book_view book.now) begun.now → IsBuilt (R.how rebuilder.now) K (book_view book.now) begun.now.marks (IsDoneInOrder (book_view book.now) targets) finished.now → IfOk result (LeadsInOrder (R.how rebuilder.now) K (book_view book.now) targets) }
+    ensures suspending { (K : SomeKept) (targets : List (List ℕ)) → BeginsWith K (book_view book.now) begun.now → IsBuilt (R.how rebuilder.now) K (book_view book.now) begun.now.marks (IsDoneSuspending (R.how rebuilder.now) (begin K (book_view book.now) begun.now.marks) (book_view book.now) targets) finished.now → IfOk result (LeadsSuspending (R.how rebuilder.now) K (book_view book.now) targets) }
+    ensures refused { (K : SomeKept) → BeginsWith K (book_view book.now) begun.now → IsBuilt (R.how rebuilder.now) K (book_view book.now) begun.now.marks (λ k. ⊥) finished.now → IfOk result (LeadsRefused (R.how rebuilder.now) K (book_view book.now)) }
+{
+    let mut batch = Batch::new(alloc);
+    if !begun.same && finished.is_empty() {
+        return Ok(batch);
+    }
+    batch.start = start(begun.same, rules);
+    batch.stale = marks_left(alloc, &begun.marks, finished)?;
+    note_all(alloc, rebuilder, begun.base.kept(), book, finished, &mut batch)?;
+    Ok(batch)
+}
+
+fn start(same: bool, rules: Digest) -> Start
+    ensures { result ≡ (if same then GoOn else Anew rules) }
+{
+    if same {
+        Start::GoOn
+    } else {
+        Start::Anew(rules)
+    }
+}
+
+fn marks_left(alloc: Global, marks: &Names, finished: &FinishedList) -> Result<Names, NoMemory>
+    ensures { IfOk result (λ left. left ≡ marks_left (finishes_of finished.now) marks.now) }
+{
+    let mut left = Names::new(alloc);
+    for mark in marks.as_slice() {
+        if finished.find(mark).is_none() {
+            left.push(mark.copy(alloc)?)?;
+        }
+    }
+    Ok(left)
+}
+
+fn note_all<R: Rebuilder>(
+    alloc: Global,
+    rebuilder: &R,
+    kept: &Kept,
+    book: &Book,
+    finished: &FinishedList,
+    batch: &mut Batch,
+) -> Result<(), NoMemory>
+    ensures { OnOk result (NotesAll (R.how rebuilder.now) (kept_view kept.now) (book_view book.now) finished.now batch.old batch.new) }
+{
+    for one in finished.as_slice() {
+        rebuilder.note(alloc, kept, book, one, batch)?;
+    }
+    Ok(())
+}
