@@ -1,5 +1,6 @@
 -- Checks that are collected place by place.
 use Rattle.std.proofs.Common.{◌≡◌, ℕ, ◌+◌, ◌<◌, Bool, true, false, cond, List, [], ◌∷◌, ◌++◌, Option, Some, None, zero, suc, length, get_or, take, slice_get, map, refl, ap, sym, ◌∙◌, append_assoc, append-nil, subst}
+use Rattle.std.proofs.Math.Seq.{take-length}
 use Rattle.std.proofs.lemmas.List.{take_more}
 use Rattle.carte_value.specs.declared.digest.Digest.{Digest}
 use Rattle.carte_value.specs.declared.value.Value.{Value}
@@ -33,7 +34,11 @@ module _ (wanted : Option Digest) (vs : List Value) (k : List ℕ) where
   at_end ts (m ∷ ns) n = ap (λ cs. checks_if wanted vs k (slice_get ts m) ++ cs) (at_end ts ns n) ∙ sym (append_assoc (checks_if wanted vs k (slice_get ts m)) (checks_at ts ns) (checks_if wanted vs k (slice_get ts n)))
 
   -- one place more
-  pub at_more : (ts : List Trace) (ns : List ℕ) (i n : ℕ) (old new : List Checking) (o : Option Trace) → i < length ns → n ≡ get_or ns i n → o ≡ slice_get ts n → old ≡ checks_at ts (take i ns) → new ≡ old ++ checks_if wanted vs k o → new ≡ checks_at ts (take (i + 1) ns)
-  at_more ts ns i n old new o within is found before added =
+  pub at_more : (ts : List Trace) (ns : List ℕ) (i d : ℕ) (old new : List Checking) (o : Option Trace) → i < length ns → o ≡ slice_get ts (get_or ns i d) → old ≡ checks_at ts (take i ns) → new ≡ old ++ checks_if wanted vs k o → new ≡ checks_at ts (take (i + 1) ns)
+  at_more ts ns i d old new o within found before added =
       added ∙ ap (λ cs. cs ++ checks_if wanted vs k o) before ∙ ap (λ x. checks_at ts (take i ns) ++ checks_if wanted vs k x) found
-      ∙ sym (at_end ts (take i ns) n) ∙ ap (checks_at ts) (sym (take_more ns i n within ∙ ap (λ x. take i ns ++ x ∷ []) (sym is)))
+      ∙ sym (at_end ts (take i ns) (get_or ns i d)) ∙ ap (checks_at ts) (sym (take_more ns i d within))
+
+  -- at last all of them
+  pub at_last : (ts : List Trace) (ns : List ℕ) (i : ℕ) (cs : List Checking) → i ≡ length ns → ns ≡ places (is_trace_of k) ts → cs ≡ checks_at ts (take i ns) → cs ≡ checks_in wanted vs k ts
+  at_last ts ns i cs end are is = is ∙ ap (checks_at ts) (ap (λ m. take m ns) end ∙ take-length ns ∙ are) ∙ at_places ts

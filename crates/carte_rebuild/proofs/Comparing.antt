@@ -40,7 +40,9 @@ are_links_same t at [] are = refl
 are_links_same t at (l ∷ ls) are =
     let had = digest_had (t l.name) l.digest are.0 in
     let same : same_digest l.digest (digest_of had.0) ≡ true = subst (λ d. same_digest l.digest d ≡ true) (sym had.2) (digest_self l.digest) in
-    rw had.1 (rw same (are_links_same t (at + 1) ls are.1))
+    ap (λ o. answered {A = Option ℕ} o l.name (λ v. run t (compared (same_digest l.digest (digest_of v)) at (compares (at + 1) ls)))) had.1
+    ∙ ap (λ s. run t (compared s at (compares (at + 1) ls))) same
+    ∙ are_links_same t (at + 1) ls are.1
 
 -- a name has a value with the digest of what another truth has
 abbrev pub HasDigestOf : Truth → Truth → List ℕ → Type 0

@@ -1,5 +1,8 @@
 -- A drive of checks, and of the task behind them.
-use Rattle.std.proofs.Common.{◌≡◌, ℕ, ◌+◌, Bool, true, false, List, [], ◌∷◌, ◌++◌, ◌⊎◌, Option, Some, None, Result, Ok, Err, refl, ap, sym, ◌∙◌, subst, inl, inr}
+use Rattle.std.proofs.Common.{◌≡◌, ℕ, ◌+◌, Bool, true, false, List, [], ◌∷◌, ◌++◌, ◌⊎◌, Option, Some, None, Result, Ok, Err, refl, ap, sym, ◌∙◌, subst, inl, inr, suc, length, take, get_or, set, ◌≤◌, arith}
+use Rattle.std.proofs.Math.ListN.{drop_of_length-le}
+use Rattle.std.proofs.Math.Seq.{take-length}
+use Rattle.std.proofs.lemmas.List.{set_split, take_more}
 use Rattle.carte_value.specs.declared.value.Value.{Value}
 use Rattle.carte_value.specs.Truths.{Truth}
 use Rattle.carte_value.specs.Asks.{Asks, done, ask, and_then}
@@ -26,6 +29,18 @@ use Rattle.carte_rebuild.proofs.Behind.{went_links, led_none, led_on, led_then, 
 use Rattle.carte_rebuild.proofs.Trials.{last_first}
 
 -- 1. checks
+
+-- a list with another last item
+pub last_set : {A : Type 0} (xs : List A) (n : ℕ) (x : A) → n + 1 ≡ length xs → set xs n x ≡ take n xs ++ x ∷ []
+last_set xs n x is = set_split xs n x (omega (arith, is)) ∙ ap (λ ys. take n xs ++ x ∷ ys) (drop_of_length-le xs (let all : length xs ≤ suc n = omega (arith, is) in all))
+
+-- and with its own
+pub last_own : {A : Type 0} (xs : List A) (n : ℕ) (x : A) → n + 1 ≡ length xs → x ≡ get_or xs n x → xs ≡ take n xs ++ x ∷ []
+last_own xs n x is own = sym (take-length xs) ∙ ap (λ m. take m xs) (sym is) ∙ take_more xs n x (omega (arith, is)) ∙ ap (λ y. take n xs ++ y ∷ []) (sym own)
+
+pub no_items : {A : Type 0} (xs : List A) → length xs ≡ 0 → xs ≡ []
+no_items [] none = refl
+no_items (x ∷ xs) none = cc
 
 -- the checks so far, whatever comes behind them
 abbrev pub LedTo : Truth → Option Answers → Option Answers → List Checking → List Checking → Type 0
@@ -56,10 +71,10 @@ last_holds t u own other log0 log1 log cs ds es c d o same before (a, led) (is, 
 
 -- it halts
 pub last_halts : {S : Type 0} (t u : Truth) (own other : List ℕ → S → Type 0) (log0 log1 log : Option Answers) (cs ds : List Checking) (c d : Checking) (h : Halt S) → u ≡ t → SameStops own other → d.earlier ≡ c.earlier → LedTo t log0 log1 cs (ds ++ c ∷ []) → Checked u other log1 log c d (Err h) → Tried t own log0 log cs (ds ++ d ∷ []) (Err h)
-last_halts t u own other log0 log1 log cs ds c d NoMemory same stops kept before (a, led) m = 
+last_halts t u own other log0 log1 log cs ds c d NoMemory same stops kept before (a, led) = λ m.
     let n = led_last t log0 log1 log cs ds c (rest_from d) a before (subst (λ w. Led w log1 log (rest_from c) a (rest_from d)) same led) m in
     (n.0, subst (λ r. Led t log0 log (tries cs m) n.0 r) (ap (λ x. and_then (rest_from d) (judged_by x (tries ds m))) (sym kept) ∙ sym (last_first ds d m)) n.1)
-last_halts {S = S} t u own other log0 log1 log cs ds c d (Stop s) same stops kept before (a, led, stop) m =
+last_halts {S = S} t u own other log0 log1 log cs ds c d (Stop s) same stops kept before (a, led, stop) = λ m.
     let n = led_last t log0 log1 log cs ds c (rest_from d) a before (subst (λ w. Led w log1 log (rest_from c) a (rest_from d)) same led) m in
     let here : StopsAt t own (rest_from d) s = record { name = stop.name; go = stop.go; is = stop.is; none = ap (λ w. w stop.name) (sym same) ∙ stop.none; own_stop = stops.1 stop.name s stop.own_stop } in
     (n.0,

@@ -6,7 +6,7 @@ use Rattle.carte_value.specs.Truths.{Truth, Extends, Among, HasValue}
 use Rattle.carte_value.specs.Asks.{run, asked, firsts}
 use Rattle.carte_value.proofs.Asks.{extends_self, stop_asked}
 use Rattle.carte_value.proofs.Firsts.{among_firsts, firsts_among}
-use Rattle.carte_value.proofs.Members.{among_append, among_right}
+use Rattle.carte_value.proofs.Members.{among_append, among_left, among_right}
 use Rattle.carte_tree.specs.Tree.{Tree}
 use Rattle.carte_tree.specs.Meaning.{asks, fetched}
 use Rattle.carte_book.specs.Book.{Book, rule, content, clean}
@@ -29,7 +29,7 @@ use Rattle.carte_note.specs.Right.{reused_links}
 use Rattle.carte_rebuild.specs.Earlier.{check_of}
 use Rattle.carte_rebuild.specs.Traced.{IsCheckOf}
 use Rattle.carte_rebuild.specs.Goes.{may_ask}
-use Rattle.carte_rebuild.proofs.Parting.{Parted, firsts_parted, HaveSame, asks_too}
+use Rattle.carte_rebuild.proofs.Parting.{Parted, firsts_parted, AsksToo, asks_too}
 use Rattle.carte_rebuild.proofs.Comparing.{digests_in, same_links_are, HasDigestOf, compares_parted}
 
 -- the two kinds of traces that link the needs of a key
@@ -128,17 +128,13 @@ module _ (w : Way) (of : OfNeeds w) (K : SomeKept) (b : Book) (H : List Book) (b
       agrees : (i : List ℕ) → Among split.before i → (v : Value) × (clean c i ≡ Some v) × (clean b i ≡ Some v) × (p i ≡ Some v)
       agrees i here =
           let has = split.all i here in
-          let had = need_has_value c k f s.trace.value s.trace.is_rule s.trace.clean i (subst (λ ks. Among ks i) (sym split.is) (before_among split.before (j ∷ split.behind) i here)) in
+          let had = need_has_value c k f s.trace.value s.trace.is_rule s.trace.clean i (subst (λ ks. Among ks i) (sym split.is) (among_left split.before (j ∷ split.behind) i here)) in
           let now : clean b i ≡ Some has.0 = part i has.0 has.1 in
           let same : digest_of had.0 ≡ digest_of has.0 = ap digest_or (sym had.1) ∙ has.2 in
           let equal : had.0 ≡ has.0 = base.distinct.values c b i i had.0 has.0 s.stood.stood base.present had.1 now same in
           (has.0, had.1 ∙ ap Some equal, now, has.1)
-        where
-          before_among : (xs ys : List (List ℕ)) (i : List ℕ) → Among xs i → Among (xs ++ ys) i
-          before_among [] ys i h = absurd h
-          before_among (x ∷ xs) ys i (inl e) = inl e
-          before_among (x ∷ xs) ys i (inr later) = inr (before_among xs ys i later)
 
+      too : AsksToo (clean b) (asks b.kind f) whole.before j
       too = asks_too (clean c) (clean b) (asks b.kind f) whole.before whole.behind j whole.is (λ i here. let g = agrees i (whole.all i here) in (g.0, g.1, g.2))
 
   check_looks : (c : Checking) → IsCheckOf w K k c → (j : List ℕ) → Among (asked p (rest_from c)) j → LooksAt b p k j

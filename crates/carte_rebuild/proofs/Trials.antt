@@ -19,17 +19,17 @@ last_first [] c m = refl
 last_first (d ∷ cs) c m = last_first cs c (checked d m)
 
 -- what one check comes to
-pub data Checked1 (t : Truth) (c : Checking) (m : Asks Made) (r : Made) : Type 0 where
-  holds : run t (rest_from c) ≡ Ok None → r ≡ Reused c.earlier → Checked1 t c m r
-  differs : (i : ℕ) → run t (rest_from c) ≡ Ok (Some i) → run t m ≡ Ok r → Checked1 t c m r
+pub data CheckedAs (t : Truth) (c : Checking) (m : Asks Made) (r : Made) : Type 0 where
+  given_again : run t (rest_from c) ≡ Ok None → r ≡ Reused c.earlier → CheckedAs t c m r
+  goes_past : (i : ℕ) → run t (rest_from c) ≡ Ok (Some i) → run t m ≡ Ok r → CheckedAs t c m r
 
-pub checked_cases : (t : Truth) (c : Checking) (m : Asks Made) (r : Made) → run t (checked c m) ≡ Ok r → Checked1 t c m r
+pub checked_cases : (t : Truth) (c : Checking) (m : Asks Made) (r : Made) → run t (checked c m) ≡ Ok r → CheckedAs t c m r
 checked_cases t c m r ends = on (run t (rest_from c)) refl
   where
-    on : (o : Result (Option ℕ) (List ℕ)) → run t (rest_from c) ≡ o → Checked1 t c m r
+    on : (o : Result (Option ℕ) (List ℕ)) → run t (rest_from c) ≡ o → CheckedAs t c m r
     on (Err k) is = (let e : run t (checked c m) ≡ Err k = run_then_err t (rest_from c) (judged_by c.earlier m) k is in cc)
-    on (Ok None) is = (let e : run t (checked c m) ≡ Ok (Reused c.earlier) = run_then_ok t (rest_from c) (judged_by c.earlier m) None is in holds is (let s : r ≡ Reused c.earlier = cc in s))
-    on (Ok (Some i)) is = differs i is (sym (run_then_ok t (rest_from c) (judged_by c.earlier m) (Some i) is) ∙ ends)
+    on (Ok None) is = (let e : run t (checked c m) ≡ Ok (Reused c.earlier) = run_then_ok t (rest_from c) (judged_by c.earlier m) None is in given_again is (let s : r ≡ Reused c.earlier = cc in s))
+    on (Ok (Some i)) is = goes_past i is (sym (run_then_ok t (rest_from c) (judged_by c.earlier m) (Some i) is) ∙ ends)
 
 -- an earlier end is given again whose check holds; or each differs, and what comes behind them ends
 abbrev pub IsGivenAgain : Truth → List Checking → Made → Type 0
@@ -45,9 +45,9 @@ tries_cases t (d ∷ cs) m r ends = elim (tries_cases t cs (checked d m) r ends)
   | inr (differ, then) ↦ last (checked_cases t d m r then) differ
 ]
   where
-    last : Checked1 t d m r → AllDiffer t cs → IsGivenAgain t (d ∷ cs) r ⊎ (AllDiffer t (d ∷ cs) × (run t m ≡ Ok r))
-    last (holds is same) differ = inl (d, inl refl, is, same)
-    last (differs i is then) differ = inr ((λ c has. elim has [
+    last : CheckedAs t d m r → AllDiffer t cs → IsGivenAgain t (d ∷ cs) r ⊎ (AllDiffer t (d ∷ cs) × (run t m ≡ Ok r))
+    last (given_again is same) differ = inl (d, inl refl, is, same)
+    last (goes_past i is then) differ = inr ((λ c has. elim has [
       | inl same ↦ (i, ap (λ x. run t (rest_from x)) same ∙ is)
       | inr later ↦ differ c later
     ]), then)
@@ -61,7 +61,7 @@ tries_stop t (d ∷ cs) m n stops = elim (tries_stop t cs (checked d m) n stops)
 ]
   where
     last : (o : Result (Option ℕ) (List ℕ)) → run t (rest_from d) ≡ o → run t (checked d m) ≡ Err n → ((c : Checking) × Has (d ∷ cs) c × (run t (rest_from c) ≡ Err n)) ⊎ (run t m ≡ Err n)
-    last (Err k) is then = (let e : run t (checked d m) ≡ Err k = run_then_err t (rest_from d) (judged_by d.earlier m) k is in let same : Err k ≡ Err n = sym e ∙ then in inl (d, inl refl, is ∙ same))
+    last (Err k) is then = (let e : run t (checked d m) ≡ Err k = run_then_err t (rest_from d) (judged_by d.earlier m) k is in let same : k ≡ n = cc in inl (d, inl refl, is ∙ ap Err same))
     last (Ok None) is then = (let e : run t (checked d m) ≡ Ok (Reused d.earlier) = run_then_ok t (rest_from d) (judged_by d.earlier m) None is in cc)
     last (Ok (Some i)) is then = inr (sym (run_then_ok t (rest_from d) (judged_by d.earlier m) (Some i) is) ∙ then)
 

@@ -25,7 +25,7 @@ asked_on_way : (p q : Asks Made) (t : Truth) (k : List ℕ) (v : Option Value) (
 asked_on_way p q t k v needs asks a fits known went j among =
     fits.asks_needs j (fits.needed j (subst (λ ks. Among ks j) (sym (went_asked t p q a went known)) (among_left (names_of a) (asked t q) j among)))
 
-pub tries_fits_on : {J : Type 0} (left : J → Asks Made) (p q : J) (t part : Truth) (k : List ℕ) (v : Option Value) (needs asks : List (List ℕ)) (a : Answers) (step : Step) → FitsLeft (left p) t k v needs asks → Extends part t → Gives (left p) part a step (left q) → DriveFits (λ j u i w ns as. FitsLeft (left j) u i w ns as) t k v needs asks part a step q
+pub tries_fits_on : {J : Type 0} (left : J → Asks Made) (p q : J) (t part : Truth) (k : List ℕ) (v : Option Value) (needs asks : List (List ℕ)) (a : Answers) (step : Step) → FitsLeft (left p) t k v needs asks → Extends part t → Gives (left p) part a step (left q) → DriveFits (λ j u i w ns ms. FitsLeft (left j) u i w ns ms) t k v needs asks part a step q
 tries_fits_on left p q t part k v needs asks a (came m) fits more (known, went) =
     let of = known_more part t a more known in
     record {

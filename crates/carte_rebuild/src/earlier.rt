@@ -16,7 +16,7 @@ pub fn checks_of(
     key: &Name,
     wanted: Option<&Digest>,
 ) -> Result<Vec<Check>, NoMemory>
-    ensures { IfOk result (λ checks. checks.items ≡ checks_in (option_copied wanted) values.now key.now traces.now) }
+    ensures { IfOk result (λ checks. checks.items ≡ checks_in (option_copied wanted.entry) values.now key.now traces.now) }
 {
     let mut checks = Vec::new(alloc);
     for at in traces.places(key) {
@@ -34,7 +34,7 @@ fn add(
     wanted: Option<&Digest>,
     checks: &mut Vec<Check>,
 ) -> Result<(), NoMemory>
-    ensures { OnOk result (checks.new.items ≡ checks.old.items ++ checks_if (option_copied wanted) values.now key.now (option_copied trace)) }
+    ensures { OnOk result (checks.new.items ≡ checks.old.items ++ checks_if (option_copied wanted.entry) values.now key.now (option_copied trace.entry)) }
 {
     match trace {
         Some(trace) if is_wanted(wanted, &trace.result) => {
@@ -45,7 +45,7 @@ fn add(
 }
 
 fn is_wanted(wanted: Option<&Digest>, digest: &Digest) -> bool
-    ensures { result ≡ wants (option_copied wanted) digest.now }
+    ensures { result ≡ wants (option_copied wanted.entry) digest.now }
 {
     match wanted {
         Some(other) => other.0.as_slice() == digest.0.as_slice(),

@@ -1,4 +1,4 @@
-ghost use Rattle.std.specs.Prelude.{◌≡◌, [], Some, None, is_some, is_ok, not, ◌&&◌, false, IfOk, OnOk, OnErr, if◌then◌else◌};
+ghost use Rattle.std.specs.Prelude.{◌≡◌, [], Some, None, is_some, is_ok, not, ◌&&◌, true, IfOk, OnOk, OnErr, if◌then◌else◌};
 ghost use Rattle.carte_effect.specs.Effects.{SameStops};
 ghost use Rattle.carte_effect.specs.Ledger.{with_start};
 ghost use Rattle.carte_effect.specs.Jobs.{Gave, Counted};
