@@ -1,3 +1,5 @@
 pub mod Right
-pub mod Notes
+pub mod Lists
 pub mod Methods
+pub mod Writes
+pub mod Notes

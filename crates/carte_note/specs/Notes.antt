@@ -1,14 +1,13 @@
 -- What a finished key brings to the batch of a build.
-use Rattle.std.specs.Prelude.{ℕ, ◌≡◌, false, List, [], ◌∷◌, ◌++◌, ◌×◌, ◌&&◌, if◌then◌else◌}
+use Rattle.std.specs.Prelude.{ℕ, ◌≡◌, false, List, [], ◌∷◌, ◌++◌, ◌&&◌, if◌then◌else◌}
+use Rattle.carte_value.specs.Lists.{Has}
 use Rattle.carte_book.specs.Book.{Book}
-use Rattle.carte_book.specs.Needs.{IsRule}
 use Rattle.carte_record.specs.declared.batch.Batch.{Batch}
 use Rattle.carte_record.specs.declared.entry.Entry.{Entry}
 use Rattle.carte_record.specs.declared.trace.Trace.{Trace}
 use Rattle.carte_record.specs.declared.way.Way.{Way}
 use Rattle.carte_record.specs.Folds.{batch_traces}
 use Rattle.carte_record.specs.Kept.{SomeKept}
-use Rattle.carte_sound.specs.Lists.{Has}
 use Rattle.carte_sound.specs.Base.{AllNow}
 use Rattle.carte_sound.specs.Carries.{Carries}
 use Rattle.carte_sound.specs.Held.{How}
@@ -30,5 +29,6 @@ pub record Noted (h : How) (K L : SomeKept) (b : Book) (k : List ℕ) (f : Finis
   pub carries : Carries b K (add h b L k (has_run f.made)) new
   pub traces : (w : Way) → batch_traces w new ≡ batch_traces w old ++ trace_made h b k f w
 
+-- whatever these keys were, where this one wasn't among them and is right
 abbrev pub Notes : How → SomeKept → Book → Finished → Batch → Batch → Type 0
-Notes h K b f old new = (L : SomeKept) (k : List ℕ) → AllNow K b → Carries b K L old → L.entries k ≡ K.entries k → IsRule b k → IsRightFinished h K b k f → Noted h K L b k f old new
+Notes h K b f old new = (L : SomeKept) (k : List ℕ) → AllNow K b → Carries b K L old → L.entries k ≡ K.entries k → IsRightFinished h K b k f → Noted h K L b k f old new

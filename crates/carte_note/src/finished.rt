@@ -1,3 +1,9 @@
+ghost use Rattle.std.specs.Prelude.{◌≡◌};
+ghost use Rattle.carte_note.specs.Right.{has_run};
+ghost use Rattle.carte_note.specs.Writes.{links_noted};
+ghost use Rattle.carte_note.specs.Methods.{how_of};
+
+use crate::Method;
 use carte_effect::Made;
 use carte_value::Links;
 
@@ -8,4 +14,25 @@ pub struct Finished {
     /// The inputs beneath the key with the digests of their values, in the order in which they are first needed; none
     /// where the rebuilder doesn't gather them.
     pub beneath: Links,
+}
+
+/// Whether a task ran for it.
+pub(crate) fn has_run(made: &Made) -> bool
+    ensures { result ≡ has_run made.now }
+{
+    match made {
+        Made::Ran(_) => true,
+        Made::Reused(_) => false,
+    }
+}
+
+/// The links of the key's trace and entry.
+pub(crate) fn links_noted(method: Method, finished: &Finished) -> &Links
+    ensures { result.now ≡ links_noted (how_of method) finished.now }
+{
+    if method.is_deep() {
+        &finished.beneath
+    } else {
+        finished.made.links()
+    }
 }

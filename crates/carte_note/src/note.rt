@@ -1,14 +1,18 @@
-ghost use Rattle.std.specs.Prelude.{OnOk};
+ghost use Rattle.std.specs.Prelude.{◌≡◌, OnOk, IfOk};
+ghost use Rattle.carte_value.specs.Spelling.{digest_of};
 ghost use Rattle.carte_book.specs.Book.{book_view};
 ghost use Rattle.carte_record.specs.Kept.{kept_view};
 ghost use Rattle.carte_note.specs.Methods.{how_of};
 ghost use Rattle.carte_note.specs.Notes.{Notes, AreUnmarked};
+ghost use Rattle.carte_note.specs.Writes.{digest_made, trace_noted, traced, with_value, with_run, with_entry};
 
+use crate::entry::{entry, stays};
+use crate::finished::{has_run, links_noted};
+use crate::see::see_all;
 use crate::{Finished, Method};
-use carte_book::{Book, Looked};
-use carte_effect::Made;
-use carte_record::{Batch, Entries, Entry, Kept, Seen, Store, Trace, Traces, Way};
-use carte_value::{Digest, Link, Links, Name, Names, NoMemory, Value};
+use carte_book::Book;
+use carte_record::{Batch, Kept, Store, Trace, Way};
+use carte_value::{Digest, NoMemory, Value};
 use std::alloc::Global;
 
 /// Adds to the batch of a build what one more finished key brings: the value that the store lacks and the trace, where
@@ -26,6 +30,93 @@ pub fn note_finished(
     ensures unmarked { OnOk result (AreUnmarked batch.old.entries → AreUnmarked batch.new.entries) }
     ensures start { OnOk result (batch.new.start ≡ batch.old.start) }
     ensures stale { OnOk result (batch.new.stale ≡ batch.old.stale) }
+    ensures chain { OnOk result (batch.new.chain ≡ batch.old.chain) }
 {
-    unreachable!()
+    let digest = finished.made.value().digest();
+    note_run(alloc, method, kept, finished, digest, batch)?;
+    note_entry(alloc, method, kept, book, finished, digest, batch)
+}
+
+fn note_run(
+    alloc: Global,
+    method: Method,
+    kept: &Kept,
+    finished: &Finished,
+    digest: Digest,
+    batch: &mut Batch,
+) -> Result<(), NoMemory>
+    requires { digest ≡ digest_made finished.now }
+    ensures { OnOk result (batch.new ≡ with_run (how_of method) kept.now finished.now batch.old) }
+{
+    if !has_run(&finished.made) {
+        return Ok(());
+    }
+    let value = finished.made.value();
+    note_value(alloc, &kept.values, value, digest, &mut batch.values)?;
+    match method {
+        Method::Dirty => Ok(()),
+        Method::Tracing(way) => note_trace(trace(alloc, method, finished, digest)?, way, batch),
+    }
+}
+
+fn note_value(
+    alloc: Global,
+    kept: &Store,
+    value: &Value,
+    digest: Digest,
+    values: &mut Store,
+) -> Result<(), NoMemory>
+    requires { digest ≡ digest_of value.now }
+    ensures { OnOk result (values.new ≡ with_value kept.now value.now values.old) }
+{
+    if kept.find(&digest).is_some() || values.find(&digest).is_some() {
+        return Ok(());
+    }
+    values.push_with(value.copy(alloc)?, digest)
+}
+
+fn trace(
+    alloc: Global,
+    method: Method,
+    finished: &Finished,
+    digest: Digest,
+) -> Result<Trace, NoMemory>
+    requires { digest ≡ digest_made finished.now }
+    ensures { IfOk result (λ t. t ≡ trace_noted (how_of method) finished.now) }
+{
+    Ok(Trace {
+        key: finished.made.key().copy(alloc)?,
+        links: links_noted(method, finished).copy(alloc)?,
+        result: digest,
+    })
+}
+
+fn note_trace(trace: Trace, way: Way, batch: &mut Batch) -> Result<(), NoMemory>
+    ensures { OnOk result (batch.new ≡ traced way trace batch.old) }
+{
+    match way {
+        Way::Verifying => batch.verifying.push(trace),
+        Way::Constructive => batch.constructive.push(trace),
+        Way::Deep => batch.deep.push(trace),
+    }
+}
+
+fn note_entry(
+    alloc: Global,
+    method: Method,
+    kept: &Kept,
+    book: &Book,
+    finished: &Finished,
+    digest: Digest,
+    batch: &mut Batch,
+) -> Result<(), NoMemory>
+    requires { digest ≡ digest_made finished.now }
+    ensures { OnOk result (batch.new ≡ with_entry (how_of method) (book_view book.now) kept.now finished.now batch.old) }
+{
+    if stays(method, kept, finished, digest) {
+        return Ok(());
+    }
+    let links = links_noted(method, finished);
+    see_all(alloc, &kept.seen, book, links, &mut batch.seen)?;
+    batch.entries.push(entry(alloc, method, finished, digest)?)
 }

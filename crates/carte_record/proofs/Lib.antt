@@ -2,4 +2,10 @@ pub mod FirstPlaces
 pub mod Names
 pub mod Fronts
 pub mod AllPlaces
+pub mod Found
+pub mod Steps
 pub mod Changed
+pub mod Marks
+pub mod Growing
+pub mod Empties
+pub mod Looked

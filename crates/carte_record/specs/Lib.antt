@@ -1,6 +1,9 @@
 pub mod Lookups
 pub mod Changes
 pub mod Places
-pub mod Kinds
+pub mod Steps
+pub mod KeyPlaces
 pub mod Kept
 pub mod Folds
+pub mod Empty
+pub mod Growth

@@ -1,5 +1,9 @@
+ghost use Rattle.std.specs.Prelude.{◌≡◌, IfOk, true};
+ghost use Rattle.carte_record.specs.Empty.{is_empty, brings_no_key, brings_no_trace};
+
 use crate::{Entries, Seen, Start, Store, Traces};
-use carte_value::Names;
+use carte_value::{Names, NoMemory};
+use std::alloc::Global;
 
 /// What a build changes of what is kept. Where it names a key twice, the later one counts.
 #[derive(Drop)]
@@ -14,4 +18,74 @@ pub struct Batch {
     pub constructive: Traces,
     pub deep: Traces,
     pub chain: Option<Names>,
+}
+
+impl Batch {
+    /// A batch that goes on and changes nothing. It takes no memory.
+    pub fn new(alloc: Global) -> Batch
+        ensures { is_empty result ≡ true }
+    {
+        Batch {
+            start: Start::GoOn,
+            values: Store::new(alloc),
+            seen: Seen::new(alloc),
+            stale: Names::new(alloc),
+            entries: Entries::new(alloc),
+            verifying: Traces::new(alloc),
+            constructive: Traces::new(alloc),
+            deep: Traces::new(alloc),
+            chain: None,
+        }
+    }
+
+    /// Whether it goes on and has nothing in it.
+    pub fn is_empty(&self) -> bool
+        ensures { result ≡ is_empty self.now }
+    {
+        self.start == Start::GoOn
+            && self.chain.is_none()
+            && self.brings_no_key()
+            && self.brings_no_trace()
+    }
+
+    fn brings_no_key(&self) -> bool
+        ensures { result ≡ brings_no_key self.now }
+    {
+        self.values.is_empty()
+            && self.seen.is_empty()
+            && self.stale.is_empty()
+            && self.entries.is_empty()
+    }
+
+    fn brings_no_trace(&self) -> bool
+        ensures { result ≡ brings_no_trace self.now }
+    {
+        self.verifying.is_empty() && self.constructive.is_empty() && self.deep.is_empty()
+    }
+
+    /// A second, equal batch.
+    pub fn copy(&self, alloc: Global) -> Result<Batch, NoMemory>
+        ensures { IfOk result (λ copy. copy ≡ self.now) }
+    {
+        Ok(Batch {
+            start: self.start,
+            values: self.values.copy(alloc)?,
+            seen: self.seen.copy(alloc)?,
+            stale: self.stale.copy(alloc)?,
+            entries: self.entries.copy(alloc)?,
+            verifying: self.verifying.copy(alloc)?,
+            constructive: self.constructive.copy(alloc)?,
+            deep: self.deep.copy(alloc)?,
+            chain: self.copy_chain(alloc)?,
+        })
+    }
+
+    fn copy_chain(&self, alloc: Global) -> Result<Option<Names>, NoMemory>
+        ensures { IfOk result (λ copy. copy ≡ self.now.chain) }
+    {
+        match &self.chain {
+            Some(chain) => Ok(Some(chain.copy(alloc)?)),
+            None => Ok(None),
+        }
+    }
 }

@@ -1,13 +1,15 @@
-ghost use Rattle.std.specs.Prelude.{◌≡◌, ◌<◌, ◌^◌, ◌∷◌, ◌++◌, [], List, length, slice_get, option_copied, is_ok, take, IfOk, Bool, true, if◌then◌else◌};
+ghost use Rattle.std.specs.Prelude.{◌≡◌, ◌<◌, ◌^◌, ◌∷◌, ◌++◌, [], List, length, slice_get, option_copied, ◌==◌, is_ok, take, IfOk, OnOk, OnErr, ℕ, Bool, true, option_map, if◌then◌else◌};
 ghost use Rattle.carte_record.specs.Lookups.{first_entry, is_entry_of};
 ghost use Rattle.carte_record.specs.Kept.{staled};
 ghost use Rattle.carte_record.specs.Places.{first_place};
 ghost use Rattle.carte_record.specs.Changes.{change_first, front};
+ghost use Rattle.carte_record.specs.Folds.{is_among};
+ghost use Rattle.carte_record.specs.Steps.{Begins, Replaces, HasRoomFor, HasRoom};
 ghost use Rattle.carte_record.specs.declared.entry.Entry.{Entry as SomeEntry};
 
 use crate::Entry;
 use crate::table::{Table, first, forget, place, push, set};
-use carte_value::{Name, NoMemory, Same};
+use carte_value::{Name, Names, NoMemory, Same};
 use std::alloc::Global;
 use std::marker::Model;
 
@@ -54,6 +56,12 @@ impl Entries {
         self.entries.len()
     }
 
+    pub fn is_empty(&self) -> bool
+        ensures { result ≡ (length self.now == 0) }
+    {
+        self.entries.is_empty()
+    }
+
     /// The entry at a place counted from 0, where the list is longer than that.
     pub fn get(&self, at: usize) -> Option<&Entry>
         ensures { option_copied result ≡ slice_get self.now at }
@@ -89,6 +97,52 @@ impl Entries {
     {
         let at = place(&self.places, key);
         mark(&mut self.entries, at);
+    }
+
+    /// Marks the first entry of each of these keys stale, where there is one.
+    pub(crate) fn mark_all(&mut self, keys: &Names)
+        ensures { (k : List ℕ) → first_entry self.new k ≡ option_map (staled (is_among keys.now k)) (first_entry self.old k) }
+    {
+        for key in keys.as_slice() {
+            self.mark(key);
+        }
+    }
+
+    /// Puts each entry of a later list in the place of the first one of its key, where there is one.
+    pub(crate) fn replace_all(&mut self, later: Entries)
+        ensures { Replaces is_entry_of later self.old self.new }
+    {
+        for entry in later.entries {
+            self.replace(entry);
+        }
+    }
+
+    /// Puts an entry behind the others for each key of a later list that has none. Where there is no room, some may stand there.
+    pub(crate) fn make_room(&mut self, later: &Entries) -> Result<(), NoMemory>
+        ensures ok { OnOk result (HasRoom is_entry_of later.now self.old self.new) }
+        ensures front { Begins self.old self.new }
+    {
+        for entry in later.entries.iter() {
+            self.make_room_for(entry)?;
+        }
+        Ok(())
+    }
+
+    fn make_room_for(&mut self, entry: &Entry) -> Result<(), NoMemory>
+        ensures ok { OnOk result (HasRoomFor is_entry_of (λ e. e.key) self.old self.new entry.now.key) }
+        ensures no_memory { OnErr result (self.new ≡ self.old) }
+    {
+        if self.find(&entry.key).is_some() {
+            return Ok(());
+        }
+        let alloc = self.alloc;
+        self.push(Entry {
+            key: entry.key.copy(alloc)?,
+            result: entry.result,
+            needs: Names::new(alloc),
+            stale: false,
+            shallow: false,
+        })
     }
 
     /// Drops the entries behind the first `len`.

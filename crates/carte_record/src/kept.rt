@@ -1,5 +1,10 @@
-use crate::{Entries, Seen, Store, Traces};
-use carte_value::{Digest, Names};
+ghost use Rattle.std.specs.Prelude.{◌≡◌, IfOk};
+ghost use Rattle.carte_record.specs.Kept.{kept_view, kept_traces, nothing_kept};
+ghost use Rattle.carte_record.specs.Folds.{with_marks};
+
+use crate::{Entries, Seen, Store, Traces, Way};
+use carte_value::{Digest, Names, NoMemory};
+use std::alloc::Global;
 
 /// What is kept from one build to the next.
 #[derive(Drop)]
@@ -13,4 +18,63 @@ pub struct Kept {
     pub deep: Traces,
     pub chain: Names,
     pub values: Store,
+}
+
+impl Kept {
+    /// Nothing kept. What is put in later will come from `alloc`; this takes no memory.
+    pub fn empty(alloc: Global) -> Kept
+        ensures { kept_view result ≡ nothing_kept }
+    {
+        Kept::under(alloc, None)
+    }
+
+    /// Nothing kept, under these rules.
+    pub(crate) fn under(alloc: Global, rules: Option<Digest>) -> Kept
+        ensures { kept_view result ≡ record nothing_kept { rules = rules } }
+    {
+        Kept {
+            rules,
+            seen: Seen::new(alloc),
+            entries: Entries::new(alloc),
+            verifying: Traces::new(alloc),
+            constructive: Traces::new(alloc),
+            deep: Traces::new(alloc),
+            chain: Names::new(alloc),
+            values: Store::new(alloc),
+        }
+    }
+
+    /// The traces of one kind.
+    pub fn traces(&self, way: Way) -> &Traces
+        ensures { result.now ≡ kept_traces way self.now }
+    {
+        match way {
+            Way::Verifying => &self.verifying,
+            Way::Constructive => &self.constructive,
+            Way::Deep => &self.deep,
+        }
+    }
+
+    /// Marks the entries of these keys stale. It takes no memory.
+    pub fn mark(&mut self, keys: &Names)
+        ensures { kept_view self.new ≡ with_marks (kept_view self.old) keys.now }
+    {
+        self.entries.mark_all(keys);
+    }
+
+    /// A second, equal one.
+    pub fn copy(&self, alloc: Global) -> Result<Kept, NoMemory>
+        ensures { IfOk result (λ copy. copy ≡ self.now) }
+    {
+        Ok(Kept {
+            rules: self.rules,
+            seen: self.seen.copy(alloc)?,
+            entries: self.entries.copy(alloc)?,
+            verifying: self.verifying.copy(alloc)?,
+            constructive: self.constructive.copy(alloc)?,
+            deep: self.deep.copy(alloc)?,
+            chain: self.chain.copy(alloc)?,
+            values: self.values.copy(alloc)?,
+        })
+    }
 }

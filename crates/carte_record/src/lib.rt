@@ -1,15 +1,33 @@
 //! What is kept from one build to the next, and the batches that change it.
+//!
+//! `Kept` and `Batch` are plain data: the links, entries, traces and values of a state file. Contracts read them through
+//! `kept_view`, a record of functions (what each name was seen with, the entry of each key, its traces newest first and
+//! each once, the first value of each digest), so that two of them that are alike are equal, and a batch is a function
+//! on it. A list in which something is looked up has a table from keys to places beside it, which grows with the list,
+//! and is seen as the list alone. One generic table serves all: the first place of each key; of traces all places.
+//!
+//! A batch is taken in by two steps. First each list grows behind what it has: values and traces are put there, and an
+//! entry for each key that has none. This can fail, and is undone by cutting the lists. Then entries are marked and
+//! replaced in place, which can't fail. Both cost what the batch has in it. Turned down: to ask for room first, since
+//! the room of a list can't be named where it is seen as a list; and a copy of all that is kept, which no batch pays for.
+//!
+//! Keys are copied into the tables. A batch may name a key twice; the later one counts.
 #![tactic(auto)]
 
+mod apply;
 mod batch;
 mod entries;
 mod entry;
 mod kept;
+mod laws;
+mod lengths;
 mod places;
 mod seen;
 mod start;
 mod store;
 mod table;
+#[cfg(test)]
+mod tests;
 mod trace;
 mod traces;
 mod way;
@@ -18,6 +36,7 @@ pub use batch::Batch;
 pub use entries::Entries;
 pub use entry::Entry;
 pub use kept::Kept;
+pub use laws::empty_changes_nothing;
 pub use seen::Seen;
 pub use start::Start;
 pub use store::Store;

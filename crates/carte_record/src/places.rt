@@ -1,5 +1,5 @@
 ghost use Rattle.std.specs.Prelude.{◌≡◌, ◌++◌, ◌∷◌, [], is_ok, if◌then◌else◌};
-ghost use Rattle.carte_record.specs.Kinds.{places_of};
+ghost use Rattle.carte_record.specs.KeyPlaces.{places_of};
 ghost use Rattle.carte_record.specs.Changes.{front};
 
 use carte_value::NoMemory;

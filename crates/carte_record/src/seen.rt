@@ -1,6 +1,7 @@
-ghost use Rattle.std.specs.Prelude.{◌≡◌, ◌<◌, ◌^◌, ◌∷◌, ◌++◌, [], List, length, slice_get, option_copied, is_ok, take, IfOk, if◌then◌else◌};
+ghost use Rattle.std.specs.Prelude.{◌≡◌, ◌<◌, ◌^◌, ◌∷◌, ◌++◌, [], List, length, slice_get, option_copied, ◌==◌, is_ok, take, IfOk, OnOk, OnErr, if◌then◌else◌};
 ghost use Rattle.carte_record.specs.Lookups.{first_link, is_link_of};
 ghost use Rattle.carte_record.specs.Changes.{change_first, front};
+ghost use Rattle.carte_record.specs.Steps.{Begins, Replaces, HasRoomFor, HasRoom};
 
 use crate::table::{Table, first, forget, place, push, set};
 use carte_value::{Digest, Link, Name, NoMemory, Same};
@@ -43,12 +44,23 @@ impl Seen {
         }
     }
 
+    /// Where its memory comes from.
+    pub(crate) fn allocator(&self) -> Global {
+        self.alloc
+    }
+
     /// How many links there are.
     pub fn len(&self) -> usize
         ensures number { result ≡ length self.now }
         ensures bound { result < 2 ^ 32 }
     {
         self.links.len()
+    }
+
+    pub fn is_empty(&self) -> bool
+        ensures { result ≡ (length self.now == 0) }
+    {
+        self.links.is_empty()
     }
 
     /// The link at a place counted from 0, where the list is longer than that.
@@ -81,6 +93,36 @@ impl Seen {
     {
         let at = place(&self.places, &link.name);
         set(&mut self.links, at, link);
+    }
+
+    /// Puts each link of a later list in the place of the first one of its name, where there is one.
+    pub(crate) fn replace_all(&mut self, later: Seen)
+        ensures { Replaces is_link_of later self.old self.new }
+    {
+        for link in later.links {
+            self.replace(link);
+        }
+    }
+
+    /// Puts a link behind the others for each name of a later list that has none. Where there is no room, some may stand there.
+    pub(crate) fn make_room(&mut self, later: &Seen) -> Result<(), NoMemory>
+        ensures ok { OnOk result (HasRoom is_link_of later.now self.old self.new) }
+        ensures front { Begins self.old self.new }
+    {
+        for link in later.links.iter() {
+            self.make_room_for(link)?;
+        }
+        Ok(())
+    }
+
+    fn make_room_for(&mut self, link: &Link) -> Result<(), NoMemory>
+        ensures ok { OnOk result (HasRoomFor is_link_of (λ l. l.name) self.old self.new link.now.name) }
+        ensures no_memory { OnErr result (self.new ≡ self.old) }
+    {
+        if self.find(&link.name).is_some() {
+            return Ok(());
+        }
+        self.push(link.same(self.alloc)?)
     }
 
     /// Drops the links behind the first `len`.

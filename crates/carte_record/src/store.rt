@@ -1,7 +1,10 @@
-ghost use Rattle.std.specs.Prelude.{◌≡◌, ◌<◌, ◌^◌, ◌∷◌, ◌++◌, [], List, length, slice_get, option_map, option_copied, is_ok, take, IfOk, if◌then◌else◌};
+ghost use Rattle.std.specs.Prelude.{◌≡◌, ◌<◌, ◌^◌, ◌∷◌, ◌++◌, [], List, length, slice_get, option_map, option_copied, ◌==◌, is_ok, take, IfOk, OnOk, Some, None, if◌then◌else◌};
 ghost use Rattle.carte_value.specs.Spelling.{digest_of};
-ghost use Rattle.carte_record.specs.Lookups.{first_value};
+ghost use Rattle.carte_record.specs.Lookups.{first_value, is_value_of};
 ghost use Rattle.carte_record.specs.Changes.{front};
+ghost use Rattle.carte_value.specs.declared.digest.Digest.{Digest as SomeDigest};
+ghost use Rattle.std.specs.Option.{option_or};
+ghost use Rattle.carte_record.specs.Steps.{Begins};
 
 use crate::table::{Table, first, forget, push};
 use carte_value::{Digest, NoMemory, Value};
@@ -53,6 +56,12 @@ impl Store {
         self.values.len()
     }
 
+    pub fn is_empty(&self) -> bool
+        ensures { result ≡ (length self.now == 0) }
+    {
+        self.values.is_empty()
+    }
+
     /// The value at a place counted from 0, where the list is longer than that.
     pub fn get(&self, at: usize) -> Option<&Value>
         ensures { option_copied result ≡ slice_get self.now at }
@@ -79,6 +88,37 @@ impl Store {
         ensures { option_copied result ≡ option_map digest_of (slice_get self.now at) }
     {
         self.digests.get(at)
+    }
+
+    /// Puts the values of a later list behind these, but for those whose digest is there. Where there is no room for all
+    /// of them, some may stand there.
+    pub(crate) fn take_in(&mut self, later: Store) -> Result<(), NoMemory>
+        ensures ok { OnOk result ((d : SomeDigest) → first_value self.new d ≡ option_or (first_value self.old d) (first_value later d)) }
+        ensures front { Begins self.old self.new }
+    {
+        if self.values.is_empty() {
+            *self = later;
+            return Ok(());
+        }
+        let digests = later.digests;
+        let mut at = 0;
+        for value in later.values {
+            self.put(value, digests[at])?;
+            at += 1;
+        }
+        Ok(())
+    }
+
+    fn put(&mut self, value: Value, digest: Digest) -> Result<(), NoMemory>
+        requires { digest ≡ digest_of value }
+        ensures ok { OnOk result ((d : SomeDigest) → first_value self.new d ≡ option_or (first_value self.old d) (if is_value_of d value then Some value else None)) }
+        ensures front { Begins self.old self.new }
+    {
+        if self.find(&digest).is_some() {
+            return Ok(());
+        }
+        self.push_with(value, digest)?;
+        Ok(())
     }
 
     /// Drops the values behind the first `len`.

@@ -1,11 +1,12 @@
-ghost use Rattle.std.specs.Prelude.{◌≡◌, ◌<◌, ◌^◌, ◌∷◌, ◌++◌, [], List, length, slice_get, option_copied, is_ok, take, IfOk, if◌then◌else◌};
+ghost use Rattle.std.specs.Prelude.{◌≡◌, ◌<◌, ◌^◌, ◌∷◌, ◌++◌, [], List, length, slice_get, option_copied, ◌==◌, is_ok, take, IfOk, if◌then◌else◌};
 ghost use Rattle.std.specs.Prelude.{ℕ, OnOk, OnErr};
 ghost use Rattle.std.specs.HashMap.{get};
 ghost use Rattle.carte_value.specs.Names.{name_eq};
 ghost use Rattle.carte_record.specs.Lookups.{is_trace_of};
 ghost use Rattle.carte_record.specs.Places.{places, AddsToPlaces, DropsPlace};
 ghost use Rattle.carte_record.specs.Changes.{front};
-ghost use Rattle.carte_record.specs.Kinds.{places_in};
+ghost use Rattle.carte_record.specs.Steps.{Begins};
+ghost use Rattle.carte_record.specs.KeyPlaces.{places_in};
 
 use crate::Trace;
 use crate::places::Places;
@@ -28,7 +29,7 @@ impl Model for Traces {
     ghost use Rattle.carte_value.specs.Names.{name_eq};
     ghost use Rattle.carte_record.specs.declared.trace.Trace.{Trace};
     ghost use Rattle.carte_record.specs.Places.{ArePlaces};
-    ghost use Rattle.carte_record.specs.Kinds.{places_in};
+    ghost use Rattle.carte_record.specs.KeyPlaces.{places_in};
     ghost use Rattle.carte_record.specs.Lookups.{is_trace_of};
 
     ghost Value = { List Trace };
@@ -58,6 +59,12 @@ impl Traces {
         self.traces.len()
     }
 
+    pub fn is_empty(&self) -> bool
+        ensures { result ≡ (length self.now == 0) }
+    {
+        self.traces.is_empty()
+    }
+
     /// The trace at a place counted from 0, where the list is longer than that.
     pub fn get(&self, at: usize) -> Option<&Trace>
         ensures { option_copied result ≡ slice_get self.now at }
@@ -80,6 +87,21 @@ impl Traces {
             Some(places) => places.as_slice(),
             None => &[],
         }
+    }
+
+    /// Puts the traces of a later list behind these. Where there is no room for all of them, some may stand there.
+    pub(crate) fn append(&mut self, later: Traces) -> Result<(), NoMemory>
+        ensures ok { OnOk result (self.new ≡ self.old ++ later) }
+        ensures front { Begins self.old self.new }
+    {
+        if self.traces.is_empty() {
+            *self = later;
+            return Ok(());
+        }
+        for trace in later.traces {
+            self.push(trace)?;
+        }
+        Ok(())
     }
 
     /// Drops the traces behind the first `len`.

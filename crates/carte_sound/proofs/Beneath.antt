@@ -1,38 +1,22 @@
 -- The inputs beneath a rule, in books with the same rules whose inputs there are the same.
-use Rattle.std.proofs.Common.{◌≡◌, ◌⊎◌, ℕ, zero, suc, ◌+◌, ◌≤◌, List, [], ◌∷◌, ◌++◌, length, Option, Some, None, Ok, refl, ap, sym, ◌∙◌, inl, inr, subst, arith}
+use Rattle.std.proofs.Common.{◌≡◌, ℕ, zero, suc, List, [], ◌∷◌, ◌++◌, Option, Some, None, Ok, refl, ap, sym, ◌∙◌, inl, inr, subst}
 use Rattle.std.specs.Result.{result_ok}
 use Rattle.carte_value.specs.declared.value.Value.{Value}
 use Rattle.carte_value.specs.Asks.{firsts, asked}
-use Rattle.carte_value.specs.Truths.{Truth, Among}
+use Rattle.carte_value.specs.Truths.{Among}
 use Rattle.carte_value.proofs.Asks.{asked_kept, asked_known}
 use Rattle.carte_value.proofs.Firsts.{among_firsts, firsts_among}
+use Rattle.carte_value.proofs.Members.{among_append, among_left, among_right}
 use Rattle.carte_tree.specs.Tree.{Tree}
-use Rattle.carte_tree.specs.Meaning.{asks, eval, fetched}
-use Rattle.carte_book.specs.Book.{Item, input, rule, Book, content, valued, val, rules_of, clean}
+use Rattle.carte_tree.specs.Meaning.{asks, eval}
+use Rattle.carte_book.specs.Book.{Item, input, rule, Book, content, valued, val, clean}
 use Rattle.carte_book.specs.Needs.{needs}
-use Rattle.carte_book.proofs.Clean.{ended, clean_input, clean_nothing, val_clean}
-use Rattle.carte_sound.specs.Beneath.{gathered, beneath_item, beneath_in, beneath}
+use Rattle.carte_book.proofs.Clean.{clean_nothing, val_clean}
+use Rattle.carte_sound.specs.Beneath.{gathered, beneath_item, beneath_in}
 use Rattle.carte_sound.specs.Base.{SameRules}
-use Rattle.carte_sound.proofs.Agreeing.{same_run, same_asked}
-use Rattle.carte_sound.proofs.Fresh.{val_rule, clean_ends}
+use Rattle.carte_value.proofs.Agreeing.{same_run, same_asked}
+use Rattle.carte_sound.proofs.Fresh.{val_rule}
 use Rattle.carte_sound.proofs.Held.{needs_rule}
-
-among_left : (xs ys : List (List ℕ)) (k : List ℕ) → Among xs k → Among (xs ++ ys) k
-among_left [] ys k among = absurd among
-among_left (x ∷ xs) ys k (inl same) = inl same
-among_left (x ∷ xs) ys k (inr later) = inr (among_left xs ys k later)
-
-among_right : (xs ys : List (List ℕ)) (k : List ℕ) → Among ys k → Among (xs ++ ys) k
-among_right [] ys k among = among
-among_right (x ∷ xs) ys k among = inr (among_right xs ys k among)
-
-among_either : (xs ys : List (List ℕ)) (k : List ℕ) → Among (xs ++ ys) k → Among xs k ⊎ Among ys k
-among_either [] ys k among = inr among
-among_either (x ∷ xs) ys k (inl same) = inl (inl same)
-among_either (x ∷ xs) ys k (inr later) = elim (among_either xs ys k later) [
-  | inl here ↦ inl (inr here)
-  | inr there ↦ inr there
-]
 
 pub among_gathered : (f : List ℕ → List (List ℕ)) (ks : List (List ℕ)) (j i : List ℕ) → Among ks j → Among (f j) i → Among (gathered f ks) i
 among_gathered f [] j i among here = absurd among
@@ -41,7 +25,7 @@ among_gathered f (k ∷ ks) j i (inr later) here = among_right (f k) (gathered f
 
 pub gathered_among : (f : List ℕ → List (List ℕ)) (ks : List (List ℕ)) (i : List ℕ) → Among (gathered f ks) i → (j : List ℕ) × Among ks j × Among (f j) i
 gathered_among f [] i among = absurd among
-gathered_among f (k ∷ ks) i among = elim (among_either (f k) (gathered f ks) i among) [
+gathered_among f (k ∷ ks) i among = elim (among_append (f k) (gathered f ks) i among) [
   | inl here ↦ (k, inl refl, here)
   | inr there ↦ let r = gathered_among f ks i there in (r.0, inr r.1, r.2)
 ]
@@ -121,7 +105,7 @@ module _ (c b : Book) (rules : SameRules c b) where
           let ran : eval b.kind (val c n) f ≡ Ok v = subst (λ q. eval q (val c n) f ≡ Ok v) rules.kind (val_rule c n k f v is has) in
           let looks : needs c k ≡ firsts (asked (val c n) (asks b.kind f)) = round_needs c n k f v is has ∙ ap (λ q. firsts (asked (val c n) (asks q f))) rules.kind in
           let runs : eval b.kind (val b n) f ≡ Ok v = same_run (val c n) (val b n) (asks b.kind f) v ran (λ j w among known.
-              rec j w known (agree_need n k f is agree j (rw looks (firsts_among (asked (val c n) (asks b.kind f)) j among)))) in
+          rec j w known (agree_need n k f is agree j (rw looks (firsts_among (asked (val c n) (asks b.kind f)) j among)))) in
           rw here (ap result_ok runs)
 
   -- so the clean value is the same
@@ -147,9 +131,9 @@ module _ (c b : Book) (rules : SameRules c b) where
           let ran : eval b.kind (val c n) f ≡ Ok v = subst (λ q. eval q (val c n) f ≡ Ok v) rules.kind (val_rule c n k f v is has) in
           let looks : needs c k ≡ firsts (asked (val c n) (asks b.kind f)) = round_needs c n k f v is has ∙ ap (λ q. firsts (asked (val c n) (asks q f))) rules.kind in
           let same : asked (val b n) (asks b.kind f) ≡ asked (val c n) (asks b.kind f) = same_asked (val c n) (val b n) (asks b.kind f) v ran (λ j w among known.
-              beneath_val n j w known (agree_need n k f is agree j (rw looks (firsts_among (asked (val c n) (asks b.kind f)) j among)))) in
+          beneath_val n j w known (agree_need n k f is agree j (rw looks (firsts_among (asked (val c n) (asks b.kind f)) j among)))) in
           let needed : needs b k ≡ needs c k = round_needs b n k f v here in_b ∙ ap firsts same ∙ sym looks in
           beneath_of_rule n b k f here ∙ ap (gathered (λ j. beneath_in n b j)) needed
-            ∙ gathered_same (λ j. beneath_in n b j) (λ j. beneath_in n c j) (needs c k) (λ j among.
-                let w = round_known c n k f v is has j among in rec j w.0 w.1 (agree_need n k f is agree j among))
-            ∙ sym (beneath_of_rule n c k f is)
+          ∙ gathered_same (λ j. beneath_in n b j) (λ j. beneath_in n c j) (needs c k) (λ j among.
+          let w = round_known c n k f v is has j among in rec j w.0 w.1 (agree_need n k f is agree j among))
+          ∙ sym (beneath_of_rule n c k f is)

@@ -1,24 +1,23 @@
 -- What a key has that is held by links of the inputs beneath it.
-use Rattle.std.proofs.Common.{◌≡◌, ◌⊎◌, ℕ, zero, suc, ◌+◌, ◌-◌, ◌≤◌, List, [], ◌∷◌, length, Option, Some, None, refl, ap, sym, ◌∙◌, inl, inr, subst, arith}
+use Rattle.std.proofs.Common.{◌≡◌, ℕ, zero, suc, ◌+◌, ◌-◌, List, [], ◌∷◌, length, Option, Some, None, refl, ap, sym, ◌∙◌, inl, inr, subst, arith}
 use Rattle.std.proofs.lemmas.Bool.{cases_lt}
 use Rattle.carte_value.specs.declared.digest.Digest.{Digest}
 use Rattle.carte_value.specs.declared.value.Value.{Value}
 use Rattle.carte_value.specs.Asks.{firsts}
 use Rattle.carte_value.specs.Spelling.{digest_of}
-use Rattle.carte_value.specs.Truths.{Truth, Among}
+use Rattle.carte_value.specs.Truths.{Among}
 use Rattle.carte_value.proofs.Firsts.{among_firsts, firsts_among}
-use Rattle.carte_tree.specs.Tree.{Tree}
 use Rattle.carte_book.specs.Book.{Item, input, rule, Book, content, val, rules_of, clean}
 use Rattle.carte_book.specs.Needs.{needs}
-use Rattle.carte_book.proofs.Clean.{clean_input, val_kept, val_clean}
+use Rattle.carte_book.proofs.Clean.{clean_input, val_kept}
 use Rattle.carte_record.specs.declared.trace.Trace.{Trace}
 use Rattle.carte_record.specs.declared.way.Way.TheVariants.{Verifying, Constructive, Deep}
 use Rattle.carte_record.specs.Kept.{SomeKept}
-use Rattle.carte_sound.specs.Lists.{Has}
+use Rattle.carte_value.specs.Lists.{Has}
 use Rattle.carte_sound.specs.Marks.{present}
-use Rattle.carte_sound.specs.Beneath.{gathered, beneath_in, beneath}
-use Rattle.carte_sound.specs.True.{digest_or, links_to, trace_of}
-use Rattle.carte_sound.specs.Base.{SameRules, HasDistinctDigests, IsBase}
+use Rattle.carte_sound.specs.Beneath.{beneath_in, beneath}
+use Rattle.carte_sound.specs.True.{digest_or, links_to}
+use Rattle.carte_sound.specs.Base.{HasDistinctDigests, IsBase}
 use Rattle.carte_sound.specs.Held.{How, dirty, tracing, AreLinks, IsHeldBy, IsHeld}
 use Rattle.carte_sound.proofs.Begun.{present_input}
 use Rattle.carte_sound.specs.Results.{HasResult}
@@ -48,9 +47,10 @@ pub beneath_more : (b : Book) (n : ℕ) (k : List ℕ) (v : Value) → val b n k
 beneath_more b n k v has zero m is = let e : m ≡ n = omega arith in (ap (λ x. beneath_in x b k) e, ap (λ x. val b x k) e ∙ has)
 beneath_more b n k v has (suc d) m is =
     let before = beneath_more b n k v has d (n + d) refl in
-    let e : m ≡ suc (n + d) = omega arith in
-    (ap (λ x. beneath_in x b k) e ∙ beneath_stays b (n + d) k v before.1 ∙ before.0,
-     ap (λ x. val b x k) e ∙ val_kept b (n + d) k v before.1)
+    let e : m ≡ suc (n + d) = omega arith in (
+      ap (λ x. beneath_in x b k) e ∙ beneath_stays b (n + d) k v before.1 ∙ before.0,
+      ap (λ x. val b x k) e ∙ val_kept b (n + d) k v before.1,
+    )
 
 -- two rounds that find a key's value find the same beneath it
 pub beneath_either : (b : Book) (n m : ℕ) (k : List ℕ) (v w : Value) → val b n k ≡ Some v → val b m k ≡ Some w → beneath_in n b k ≡ beneath_in m b k
@@ -79,17 +79,18 @@ module _ (K : SomeKept) (b : Book) (H : List Book) (base : IsBase K b H) where
       let rules = same_rules K b H base c s.stood in
       let then : AreLinks (present b) (links_to (clean c) (beneath c k)) = subst (λ (x : Trace). AreLinks (present b) x.links) s.trace.trace held.links in
       let agree = λ (i : List ℕ) (among : Among (beneath_in rounds c k) i).
-          let x = beneath_input rounds c k i among in
-          present_agrees H base.distinct c b s.stood.stood base.present (beneath c k) then i (firsts_among (beneath_in rounds c k) i among) x.0 x.1 ∙ sym x.1 in
+      let x = beneath_input rounds c k i among in
+      present_agrees H base.distinct c b s.stood.stood base.present (beneath c k) then i (firsts_among (beneath_in rounds c k) i among) x.0 x.1 ∙ sym x.1 in
       let now : clean b k ≡ Some v = beneath_value c b rules rounds k v s.trace.clean agree in
       let same : beneath b k ≡ beneath c k = ap firsts (beneath_either b (length (rules_of b) + 1) rounds k v v now (beneath_val c b rules rounds k v s.trace.clean agree) ∙ beneath_same c b rules rounds k v s.trace.clean agree) in
       let of : t.result ≡ digest_of v = ap (λ (x : Trace). x.result) s.trace.trace ∙ ap digest_or s.trace.clean in
       let values : links_to (clean c) (beneath c k) ≡ links_to (clean b) (beneath c k) = links_same (clean c) (clean b) (beneath c k) (λ i among.
-          let there = among_firsts (beneath_in rounds c k) i among in
-          let x = beneath_input rounds c k i there in
-          clean_input c i x.0 x.1 ∙ sym (clean_input b i x.0 (agree i there ∙ x.1))) in
-      (record { value = v; clean = now; digest = of; stored = stored_value K H base.sound base.distinct c s.stood.stood k v s.trace.clean t.result (base.sound.trace_stored Deep k t held.kept) of },
-       ap (λ (x : Trace). x.links) s.trace.trace ∙ values ∙ ap (links_to (clean b)) (sym same))
+      let there = among_firsts (beneath_in rounds c k) i among in
+      let x = beneath_input rounds c k i there in
+      clean_input c i x.0 x.1 ∙ sym (clean_input b i x.0 (agree i there ∙ x.1))) in (
+        record { value = v; clean = now; digest = of; stored = stored_value K H base.sound base.distinct c s.stood.stood k v s.trace.clean t.result (base.sound.trace_stored Deep k t held.kept) of },
+        ap (λ (x : Trace). x.links) s.trace.trace ∙ values ∙ ap (links_to (clean b)) (sym same),
+      )
 
   -- a held key has its clean value in the store, under all four rebuilders
   pub held_result : (h : How) (k : List ℕ) → IsHeld h K b k → (d : Digest) × HasResult K b k d

@@ -1,26 +1,19 @@
 -- The entry of a finished key, and when it is written.
-use Rattle.std.proofs.Common.{◌≡◌, ◌⊎◌, ℕ, Bool, true, false, not, ◌&&◌, cond, List, [], ◌∷◌, Option, Some, None, is_some, filter, refl, ap, sym, ◌∙◌, inl, inr, subst}
+use Rattle.std.proofs.Common.{◌≡◌, ℕ, Bool, true, false, ◌&&◌, cond, List, [], ◌∷◌, Option, Some, None, refl, ap, sym, ◌∙◌}
 use Rattle.carte_value.specs.declared.digest.Digest.{Digest}
-use Rattle.carte_value.specs.declared.value.Value.{Value}
 use Rattle.carte_value.specs.Names.{name_eq}
-use Rattle.carte_value.specs.Spelling.{digest_of}
 use Rattle.carte_value.specs.Truths.{Among}
-use Rattle.carte_book.specs.Book.{Item, input, rule, Book, content, clean}
+use Rattle.carte_book.specs.Book.{Book}
 use Rattle.carte_book.specs.Needs.{IsRule, needs}
 use Rattle.carte_record.specs.declared.entry.Entry.{Entry}
-use Rattle.carte_record.specs.declared.trace.Trace.{Trace}
-use Rattle.carte_record.specs.declared.way.Way.{Way}
 use Rattle.carte_record.specs.declared.way.Way.TheVariants.{Verifying, Constructive, Deep}
-use Rattle.carte_record.specs.Folds.{is_among}
-use Rattle.carte_record.specs.Kept.{SomeKept, is_fresh, put_at, newest}
-use Rattle.carte_record.specs.Lookups.{digest_eq, trace_eq}
-use Rattle.carte_sound.specs.Lists.{Has}
-use Rattle.carte_sound.specs.Marks.{IsFresh, digest_in, present}
-use Rattle.carte_sound.specs.True.{digest_or, trace_of, full_entry, shallow_entry}
-use Rattle.carte_sound.specs.Sound.{IsStored}
+use Rattle.carte_record.specs.Kept.{SomeKept, is_fresh}
+use Rattle.carte_record.specs.Lookups.{digest_eq}
+use Rattle.carte_sound.specs.Marks.{IsFresh}
+use Rattle.carte_sound.specs.True.{full_entry, shallow_entry}
 use Rattle.carte_sound.specs.Held.{How, dirty, tracing}
-use Rattle.carte_sound.specs.Left.{fresh_or, entry_left, names_eq, bool_eq, entry_eq, is_kept, seen_left, is_way, or_first, add}
-use Rattle.carte_sound.proofs.Tests.{same_name, eq_or_apart, same_digest, digest_self, tested_among, among_tested, put_here, put_there, put_cases, has_filter}
+use Rattle.carte_sound.specs.Left.{fresh_or, entry_left, names_eq, bool_eq, entry_eq, is_kept}
+use Rattle.carte_sound.proofs.Tests.{same_name, same_digest}
 
 pub both_true : (a b : Bool) → (a && b) ≡ true → (a ≡ true) × (b ≡ true)
 both_true true true is = (refl, refl)

@@ -1,12 +1,11 @@
 -- Fresh entries, each true of a book of its own that agrees with the present one, are true of the present one.
-use Rattle.std.proofs.Common.{◌≡◌, ℕ, zero, suc, ◌+◌, true, List, length, Option, Some, None, Result, Ok, refl, ap, sym, ◌∙◌, subst}
+use Rattle.std.proofs.Common.{◌≡◌, ℕ, zero, suc, ◌+◌, true, List, length, Option, Some, None, Ok, refl, ap, sym, ◌∙◌, subst}
 use Rattle.std.specs.Result.{result_ok}
 use Rattle.carte_value.specs.declared.value.Value.{Value}
 use Rattle.carte_value.specs.Asks.{firsts, asked}
-use Rattle.carte_value.specs.Truths.{Truth, Among}
+use Rattle.carte_value.specs.Truths.{Among}
 use Rattle.carte_value.specs.Spelling.{digest_of}
-use Rattle.carte_value.proofs.Asks.{asked_known}
-use Rattle.carte_value.proofs.Firsts.{among_firsts, firsts_among}
+use Rattle.carte_value.proofs.Firsts.{firsts_among}
 use Rattle.carte_tree.specs.Tree.{Tree}
 use Rattle.carte_tree.specs.Meaning.{asks, eval, fetched}
 use Rattle.carte_book.specs.Book.{Item, input, rule, Book, content, valued, val, rules_of, clean}
@@ -15,8 +14,8 @@ use Rattle.carte_book.proofs.Clean.{ended, clean_rule, clean_input, clean_nothin
 use Rattle.carte_record.specs.declared.entry.Entry.{Entry}
 use Rattle.carte_record.specs.Kept.{SomeKept, is_fresh}
 use Rattle.carte_sound.specs.Marks.{IsFresh, Leads, need, on}
-use Rattle.carte_sound.specs.Base.{IsNow, AllNow}
-use Rattle.carte_sound.proofs.Agreeing.{same_three, same_asked}
+use Rattle.carte_sound.specs.Base.{AllNow}
+use Rattle.carte_value.proofs.Agreeing.{same_three, same_asked}
 
 -- two books have the same at the key and at all that it leads to
 pub record AgreeOn (K : SomeKept) (b c : Book) (k : List ℕ) : Type 0 where
@@ -72,7 +71,7 @@ module _ (K : SomeKept) (b : Book) (holds : (k : List ℕ) (e : Entry) → K.ent
       let f = t.formula in
       let ran : eval b.kind (val c n) f ≡ Ok v = subst (λ q. eval q (val c n) f ≡ Ok v) to_c.kind (val_rule c n k f v (to_c.here ∙ t.is_rule) h) in
       let runs : eval b.kind (clean d) f ≡ Ok v = same_three (val c n) (clean t.book) (clean d) (asks b.kind f) v ran (λ j w among known.
-          at_need (λ i e' kept' fresh' d' to_c' to_d' x is. fresh_value n i e' kept' fresh' c d' to_c' to_d' x is) t j w (rw (t.needs) (firsts_among (asked (clean t.book) (asks b.kind f)) j among)) known (content b j) refl) in
+      at_need (λ i e' kept' fresh' d' to_c' to_d' x is. fresh_value n i e' kept' fresh' c d' to_c' to_d' x is) t j w (rw (t.needs) (firsts_among (asked (clean t.book) (asks b.kind f)) j among)) known (content b j) refl) in
       ends_clean d k f v (to_d.here ∙ t.is_rule) (subst (λ q. eval q (clean d) f ≡ Ok v) (sym to_d.kind) runs)
     where
       at_need : ((j : List ℕ) (e : Entry) → K.entries j ≡ Some e → is_fresh e ≡ true → (d : Book) → AgreeOn K b c j → AgreeOn K b d j → (w : Value) → val c n j ≡ Some w → clean d j ≡ Some w) → (t : IsTrue K b k e) (j : List ℕ) (w : Value) → Among e.needs j → val c n j ≡ Some w → (o : Option Item) → content b j ≡ o → (clean t.book j ≡ Some w) × (clean d j ≡ Some w)
@@ -86,9 +85,10 @@ module _ (K : SomeKept) (b : Book) (holds : (k : List ℕ) (e : Entry) → K.ent
           let same : x ≡ w = cc in
           (clean_input t.book j x (t.agree.beyond j (need e kept among) ∙ is) ∙ ap Some same, clean_input d j x (to_d.beyond j (need e kept among) ∙ is) ∙ ap Some same)
       at_need rec t j w among known (Some (rule g)) is =
-          let r = t.rules j among (g, is) in
-          (rec j r.entry r.kept r.fresh t.book (agree_on K b c k j e kept among to_c) (agree_on K b t.book k j e kept among t.agree) w known,
-           rec j r.entry r.kept r.fresh d (agree_on K b c k j e kept among to_c) (agree_on K b d k j e kept among to_d) w known)
+          let r = t.rules j among (g, is) in (
+            rec j r.entry r.kept r.fresh t.book (agree_on K b c k j e kept among to_c) (agree_on K b t.book k j e kept among t.agree) w known,
+            rec j r.entry r.kept r.fresh d (agree_on K b c k j e kept among to_c) (agree_on K b d k j e kept among to_d) w known,
+          )
 
   -- the present book gives the entry's value
   pub fresh_ends : (k : List ℕ) (e : Entry) → K.entries k ≡ Some e → is_fresh e ≡ true → (t : IsTrue K b k e) → clean b k ≡ Some t.value
@@ -111,7 +111,7 @@ module _ (K : SomeKept) (b : Book) (holds : (k : List ℕ) (e : Entry) → K.ent
       let f = t.formula in
       let ran : eval b.kind (clean t.book) f ≡ Ok t.value = subst (λ q. eval q (clean t.book) f ≡ Ok t.value) t.agree.kind (clean_ends t.book k f t.value (t.agree.here ∙ t.is_rule) t.ends) in
       let looks : asked (clean b) (asks b.kind f) ≡ asked (clean t.book) (asks b.kind f) = same_asked (clean t.book) (clean b) (asks b.kind f) t.value ran (λ j w among known.
-          need_clean k e kept fresh t j w (rw (t.needs) (firsts_among (asked (clean t.book) (asks b.kind f)) j among)) known (content b j) refl) in
+      need_clean k e kept fresh t j w (rw (t.needs) (firsts_among (asked (clean t.book) (asks b.kind f)) j among)) known (content b j) refl) in
       t.needs ∙ ap firsts (sym looks) ∙ ap (λ o. needs_of o (λ g. fetched b.kind (clean b) g)) (sym t.is_rule)
 
   -- so each fresh entry is true now

@@ -1,5 +1,5 @@
 -- What a held key has: its clean value, in the store, and by links of its needs those that they have now.
-use Rattle.std.proofs.Common.{◌≡◌, ◌⊎◌, ℕ, Bool, true, false, List, [], ◌∷◌, Option, Some, None, option_map, Ok, refl, ap, sym, ◌∙◌, inl, inr, subst}
+use Rattle.std.proofs.Common.{◌≡◌, ℕ, List, [], ◌∷◌, Option, Some, None, option_map, Ok, refl, ap, sym, ◌∙◌, inl, inr, subst}
 use Rattle.carte_value.specs.declared.digest.Digest.{Digest}
 use Rattle.carte_value.specs.declared.value.Value.{Value}
 use Rattle.carte_value.specs.Asks.{firsts, asked}
@@ -10,21 +10,20 @@ use Rattle.carte_value.proofs.Firsts.{among_firsts, firsts_among}
 use Rattle.carte_tree.specs.Tree.{Tree}
 use Rattle.carte_tree.specs.Meaning.{asks, eval, fetched}
 use Rattle.carte_book.specs.Book.{rule, Book, content, clean}
-use Rattle.carte_book.specs.Needs.{IsRule, needs, needs_of}
+use Rattle.carte_book.specs.Needs.{needs, needs_of}
 use Rattle.carte_book.specs.Digest.{rules_digest_of}
-use Rattle.carte_record.specs.declared.entry.Entry.{Entry}
 use Rattle.carte_record.specs.declared.trace.Trace.{Trace}
 use Rattle.carte_record.specs.declared.way.Way.{Way}
-use Rattle.carte_record.specs.declared.way.Way.TheVariants.{Verifying, Constructive, Deep}
-use Rattle.carte_record.specs.Kept.{SomeKept, nothing_kept, is_fresh}
-use Rattle.carte_sound.specs.Lists.{Has}
+use Rattle.carte_record.specs.declared.way.Way.TheVariants.{Verifying, Constructive}
+use Rattle.carte_record.specs.Kept.{SomeKept}
+use Rattle.carte_value.specs.Lists.{Has}
 use Rattle.carte_sound.specs.Marks.{IsFresh}
 use Rattle.carte_sound.specs.True.{digest_or, links_to, trace_of}
 use Rattle.carte_sound.specs.Sound.{Stood, IsTraceOfSome, IsStored, IsSound}
 use Rattle.carte_sound.specs.Base.{SameRules, HasDistinctDigests, IsBase}
-use Rattle.carte_sound.specs.Held.{AreLinks, clean_digest, digest_now, IsHeldBy}
+use Rattle.carte_sound.specs.Held.{AreLinks, clean_digest, IsHeldBy}
 use Rattle.carte_sound.specs.Results.{HasResult}
-use Rattle.carte_sound.proofs.Agreeing.{same_run, same_asked}
+use Rattle.carte_value.proofs.Agreeing.{same_run, same_asked}
 use Rattle.carte_sound.proofs.Fresh.{clean_ends, ends_clean}
 
 pub needs_rule : (b : Book) (k : List ℕ) (f : Tree) → content b k ≡ Some (rule f) → needs b k ≡ fetched b.kind (clean b) f
@@ -102,6 +101,15 @@ module _ (K : SomeKept) (b : Book) (H : List Book) (base : IsBase K b H) where
         base.distinct.rules c b stood.stood base.present e
   ]
 
+  -- and the other way
+  pub same_rules_back : (c : Book) → Stood H K c → SameRules b c
+  same_rules_back c stood = elim (base.rules) [
+    | inl nothing ↦ let none : K.rules ≡ None = ap (λ (L : SomeKept). L.rules) nothing in let some : K.rules ≡ Some (rules_digest_of c) = stood.rules in cc
+    | inr same ↦
+        let e : rules_digest_of b ≡ rules_digest_of c = (let s : Some (rules_digest_of b) ≡ Some (rules_digest_of c) = sym same ∙ stood.rules in cc) in
+        base.distinct.rules b c base.present stood.stood e
+  ]
+
   -- a trace of needs that is held: its result, and its links
   needs_held : (k : List ℕ) (t : Trace) (s : (w : Way) × IsTraceOfSome K H w k t) → t ≡ trace_of Constructive s.1.book k → IsStored K t.result → AreLinks (clean_digest b) t.links → HasResult K b k t.result × (t.links ≡ links_to (clean b) (needs b k))
   needs_held k t s is stored are =
@@ -112,9 +120,10 @@ module _ (K : SomeKept) (b : Book) (H : List Book) (base : IsBase K b H) where
       let rule_b : content b k ≡ Some (rule f) = rules.rules k f s.1.trace.is_rule in
       let then : AreLinks (clean_digest b) (links_to (clean c) (needs c k)) = subst (λ (x : Trace). AreLinks (clean_digest b) x.links) is are in
       let now : clean b k ≡ Some v = same_value H base.distinct c b s.1.stood.stood base.present rules.kind k f v s.1.trace.is_rule rule_b s.1.trace.clean then in
-      let of : t.result ≡ digest_of v = ap (λ (x : Trace). x.result) is ∙ ap digest_or s.1.trace.clean in
-      (record { value = v; clean = now; digest = of; stored = stored_value K H base.sound base.distinct c s.1.stood.stood k v s.1.trace.clean t.result stored of },
-       ap (λ (x : Trace). x.links) is ∙ same_links H base.distinct c b s.1.stood.stood base.present rules.kind k f v s.1.trace.is_rule rule_b s.1.trace.clean then)
+      let of : t.result ≡ digest_of v = ap (λ (x : Trace). x.result) is ∙ ap digest_or s.1.trace.clean in (
+        record { value = v; clean = now; digest = of; stored = stored_value K H base.sound base.distinct c s.1.stood.stood k v s.1.trace.clean t.result stored of },
+        ap (λ (x : Trace). x.links) is ∙ same_links H base.distinct c b s.1.stood.stood base.present rules.kind k f v s.1.trace.is_rule rule_b s.1.trace.clean then,
+      )
 
   -- a key held by links of its needs
   pub verifying_held : (k : List ℕ) (t : Trace) → IsHeldBy Verifying K b k t → HasResult K b k t.result × (t.links ≡ links_to (clean b) (needs b k))

@@ -1,30 +1,29 @@
 -- Each station of a build is sound, and each key that was finished is kept with its clean value.
-use Rattle.std.proofs.Common.{◌≡◌, ◌⊎◌, ℕ, Bool, true, false, List, [], ◌∷◌, Option, Some, None, refl, ap, sym, ◌∙◌, inl, inr, subst}
+use Rattle.std.proofs.Common.{◌≡◌, ◌⊎◌, ℕ, Bool, true, false, List, [], ◌∷◌, Some, refl, ap, sym, ◌∙◌, inl, inr, subst}
 use Rattle.carte_value.specs.declared.digest.Digest.{Digest}
 use Rattle.carte_value.specs.declared.value.Value.{Value}
 use Rattle.carte_value.specs.Spelling.{digest_of}
 use Rattle.carte_value.specs.Truths.{Among, NoneTwice}
-use Rattle.carte_tree.specs.Tree.{Tree}
-use Rattle.carte_book.specs.Book.{rule, Book, content, clean}
+use Rattle.carte_book.specs.Book.{Book, clean}
 use Rattle.carte_book.specs.Needs.{IsRule, needs}
 use Rattle.carte_book.specs.Digest.{rules_digest_of}
-use Rattle.carte_record.specs.declared.entry.Entry.{Entry}
 use Rattle.carte_record.specs.declared.way.Way.TheVariants.{Verifying, Constructive, Deep}
-use Rattle.carte_record.specs.Kept.{SomeKept, put_at}
+use Rattle.carte_record.specs.Kept.{SomeKept}
 use Rattle.carte_sound.specs.Marks.{IsFresh}
-use Rattle.carte_sound.specs.Sound.{IsStored, IsSound}
-use Rattle.carte_sound.specs.Base.{HasDistinctDigests, IsBase}
+use Rattle.carte_sound.specs.Sound.{IsStored}
+use Rattle.carte_sound.specs.Base.{IsBase}
 use Rattle.carte_sound.specs.Held.{How, dirty, tracing, IsHeld}
-use Rattle.carte_sound.specs.Results.{HasResult, IsKeptNow}
-use Rattle.carte_sound.specs.Left.{entry_left, add, opened, Finishes, keys_of, add_all, left}
+use Rattle.carte_sound.specs.Results.{IsKeptNow}
+use Rattle.carte_sound.specs.Left.{entry_left, add, opened, Finishes, add_all, left}
 use Rattle.carte_sound.specs.Finished.{RanOrHeld, IsFinishedAfter, AreFinished}
-use Rattle.carte_sound.proofs.Tests.{eq_or_apart, put_here, put_there}
-use Rattle.carte_sound.proofs.Held.{stored_value}
+use Rattle.carte_sound.proofs.Tests.{put_here}
 use Rattle.carte_sound.proofs.Deep.{held_result}
 use Rattle.carte_sound.proofs.Entries.{NeedsFresh}
 use Rattle.carte_sound.proofs.Written.{stored_grows}
-use Rattle.carte_sound.proofs.Added.{fresh_grows, kept_here, kept_grows, added}
-use Rattle.carte_sound.proofs.Rebased.{with_chain, chained_base, opened_base}
+use Rattle.carte_sound.proofs.AddedNow.{IsNext, fresh_grows}
+use Rattle.carte_sound.proofs.Added.{added}
+use Rattle.carte_sound.proofs.AddedKept.{kept_here, kept_grows}
+use Rattle.carte_sound.proofs.Rebased.{chained_base, opened_base}
 
 -- a build that began with M stands at L, with these keys finished
 pub record IsStation (h : How) (b : Book) (H : List Book) (M L : SomeKept) (before : List (List ℕ)) : Type 0 where
@@ -65,7 +64,7 @@ needs_fresh (tracing Constructive) b H M begun L before at k ran next = behind (
 needs_fresh (tracing Deep) b H M begun L before at k ran next = tt
 
 -- but under deep traces the entry of a finished key is fresh
-fresh_here : (h : How) (b : Book) (L : SomeKept) (k : List ℕ) (ran : Bool) → (h ≡ tracing Deep) ⊎ IsFresh (add h b L k ran) k
+pub fresh_here : (h : How) (b : Book) (L : SomeKept) (k : List ℕ) (ran : Bool) → (h ≡ tracing Deep) ⊎ IsFresh (add h b L k ran) k
 fresh_here dirty b L k ran = inr (record { entry = entry_left dirty L b k; kept = put_here L.entries k (entry_left dirty L b k); fresh = refl })
 fresh_here (tracing Verifying) b L k ran = inr (record { entry = entry_left (tracing Verifying) L b k; kept = put_here L.entries k (entry_left (tracing Verifying) L b k); fresh = refl })
 fresh_here (tracing Constructive) b L k ran = inr (record { entry = entry_left (tracing Constructive) L b k; kept = put_here L.entries k (entry_left (tracing Constructive) L b k); fresh = refl })
@@ -87,33 +86,40 @@ module _ (h : How) (b : Book) (H : List Book) (M : SomeKept) (begun : IsBase M b
     finished = inr (λ j among. absurd among);
   }
 
+  may_be_next : (L : SomeKept) (before : List (List ℕ)) (k : List ℕ) (ran : Bool) → IsStation h b H M L before → IsFinishedAfter h b M before k ran → IsNext h b H L k ran
+  may_be_next L before k ran at next = record {
+    base = at.base;
+    rules = at.rules;
+    formula = next.is_rule.0;
+    is_rule = next.is_rule.1;
+    value = next.clean.0;
+    clean = next.clean.1;
+    stored = ran_stored h b H M begun L before at k next.clean.0 next.clean.1 ran next.came;
+    order = needs_fresh h b H M begun L before at k ran next;
+  }
+
+  fresh_on : (L : SomeKept) (before : List (List ℕ)) (k : List ℕ) (ran : Bool) → IsNext h b H L k ran → (h ≡ tracing Deep) ⊎ ((j : List ℕ) → Among before j → IsFresh L j) → (h ≡ tracing Deep) ⊎ IsFresh (add h b L k ran) k → (h ≡ tracing Deep) ⊎ ((j : List ℕ) → Among (k ∷ before) j → IsFresh (add h b L k ran) j)
+  fresh_on L before k ran p (inl is_deep) here = inl is_deep
+  fresh_on L before k ran p (inr all) (inl is_deep) = inl is_deep
+  fresh_on L before k ran p (inr all) (inr here) = inr (λ j among. elim among [
+    | inl same ↦ subst (IsFresh (add h b L k ran)) (sym same) here
+    | inr later ↦ fresh_grows h b H L k ran p j (all j later)
+  ])
+
   pub next_station : (L : SomeKept) (before : List (List ℕ)) (k : List ℕ) (ran : Bool) → IsStation h b H M L before → IsFinishedAfter h b M before k ran → IsStation h b H M (add h b L k ran) (k ∷ before)
   next_station L before k ran at next =
-      let f = next.is_rule.0 in
-      let is_rule = next.is_rule.1 in
-      let v = next.clean.0 in
-      let has = next.clean.1 in
-      let stored = ran_stored h b H M begun L before at k v has ran next.came in
-      let order = needs_fresh h b H M begun L before at k ran next in
+      let p = may_be_next L before k ran at next in
       record {
-        base = added h b H L at.base at.rules k f v is_rule has ran stored order;
+        base = added h b H L k ran p;
         rules = at.rules;
         stored = λ d u is. stored_grows h b L k ran d u (at.stored d u is);
-        fresh = λ j fresh. fresh_grows h b H L at.base at.rules k f v is_rule has ran stored order j (at.fresh j fresh);
+        fresh = λ j fresh. fresh_grows h b H L k ran p j (at.fresh j fresh);
         kept = λ j among. elim among [
-          | inl same ↦ subst (IsKeptNow (add h b L k ran) b) (sym same) (kept_here h b H L at.base at.rules k f v is_rule has ran stored order)
-          | inr later ↦ kept_grows h b H L at.base at.rules k f v is_rule has ran stored order j (at.kept j later)
+          | inl same ↦ subst (IsKeptNow (add h b L k ran) b) (sym same) (kept_here h b H L k ran p)
+          | inr later ↦ kept_grows h b H L k ran p j (at.kept j later)
         ];
-        finished = fresh_on f v is_rule has stored order at.finished (fresh_here h b L k ran);
+        finished = fresh_on L before k ran p at.finished (fresh_here h b L k ran);
       }
-    where
-      fresh_on : (f : Tree) (v : Value) (is_rule : content b k ≡ Some (rule f)) (has : clean b k ≡ Some v) → (ran ≡ true) ⊎ IsStored L (digest_of v) → NeedsFresh h b L k → (h ≡ tracing Deep) ⊎ ((j : List ℕ) → Among before j → IsFresh L j) → (h ≡ tracing Deep) ⊎ IsFresh (add h b L k ran) k → (h ≡ tracing Deep) ⊎ ((j : List ℕ) → Among (k ∷ before) j → IsFresh (add h b L k ran) j)
-      fresh_on f v is_rule has stored order (inl is_deep) here = inl is_deep
-      fresh_on f v is_rule has stored order (inr all) (inl is_deep) = inl is_deep
-      fresh_on f v is_rule has stored order (inr all) (inr here) = inr (λ j among. elim among [
-        | inl same ↦ subst (IsFresh (add h b L k ran)) (sym same) here
-        | inr later ↦ fresh_grows h b H L at.base at.rules k f v is_rule has ran stored order j (all j later)
-      ])
 
   pub stations : (fs : Finishes) (L : SomeKept) (before : List (List ℕ)) → IsStation h b H M L before → AreFinished h b M before fs → IsStation h b H M (add_all h b L fs) (finished_before fs before)
   stations [] L before at are = at

@@ -1,31 +1,16 @@
 -- What is fresh and true now leads to seen inputs and to rules alone.
-use Rattle.std.proofs.Common.{◌≡◌, ◌⊎◌, ℕ, Bool, true, false, List, [], ◌∷◌, Option, Some, None, refl, ap, sym, ◌∙◌, inl, inr, subst}
-use Rattle.carte_value.specs.declared.digest.Digest.{Digest}
+use Rattle.std.proofs.Common.{◌≡◌, ◌⊎◌, ℕ, true, List, Option, Some, None, refl, ap, sym, ◌∙◌, inl, inr, subst}
 use Rattle.carte_value.specs.declared.value.Value.{Value}
-use Rattle.carte_value.specs.Names.{name_eq}
-use Rattle.carte_value.specs.Spelling.{digest_of}
 use Rattle.carte_value.specs.Truths.{Among}
-use Rattle.carte_tree.specs.Tree.{Tree}
 use Rattle.carte_book.specs.Book.{Item, input, rule, Book, content, clean}
-use Rattle.carte_book.specs.Needs.{IsRule, needs}
-use Rattle.carte_book.specs.Digest.{rules_digest_of}
+use Rattle.carte_book.specs.Needs.{IsRule}
 use Rattle.carte_book.proofs.Clean.{clean_nothing}
 use Rattle.carte_record.specs.declared.entry.Entry.{Entry}
-use Rattle.carte_record.specs.declared.trace.Trace.{Trace}
-use Rattle.carte_record.specs.declared.way.Way.{Way}
 use Rattle.carte_record.specs.Kept.{SomeKept, is_fresh}
-use Rattle.carte_sound.specs.Lists.{Has}
-use Rattle.carte_sound.specs.Marks.{IsFresh, Leads, need, on, present}
-use Rattle.carte_sound.specs.True.{digest_or, trace_of, full_entry, shallow_entry, IsEntryOf}
-use Rattle.carte_sound.specs.Sound.{Stood, IsSeen, IsFreshIn, IsStored, IsSeenInput, IsEntryOfSome, IsTraceOfSome, IsSound}
-use Rattle.carte_sound.specs.Base.{SameRules, HasDistinctDigests, IsNow, AllNow, IsBase}
-use Rattle.carte_sound.specs.Held.{How}
-use Rattle.carte_sound.specs.Left.{entry_left, is_kept, add}
-use Rattle.carte_sound.proofs.Tests.{eq_or_apart, put_here, put_there, put_cases, fresh_parts}
-use Rattle.carte_sound.proofs.Begun.{present_input}
-use Rattle.carte_sound.proofs.Held.{need_has_value, same_rules}
-use Rattle.carte_sound.proofs.Entries.{kept_is, Leaves, full, old, shallow, NeedsFresh, leaves}
-use Rattle.carte_sound.proofs.Written.{seen_grows, seen_written, seen_back, stored_grows, stored_ran, stored_back, traces_back}
+use Rattle.carte_sound.specs.Marks.{IsFresh, Leads, need, on}
+use Rattle.carte_sound.specs.Sound.{IsSeen, IsFreshIn}
+use Rattle.carte_sound.specs.Base.{IsNow, AllNow}
+use Rattle.carte_sound.proofs.Held.{need_has_value}
 
 -- what has a value is an input or a rule
 pub input_or_rule : (b : Book) (j : List ℕ) (w : Value) → clean b j ≡ Some w → ((x : Value) × (content b j ≡ Some (input x))) ⊎ IsRule b j

@@ -1,14 +1,14 @@
 -- A new chain, and the rules of the present book over nothing, change nothing of soundness.
-use Rattle.std.proofs.Common.{◌≡◌, ◌⊎◌, ℕ, true, List, Option, Some, None, refl, ap, sym, ◌∙◌, inl, inr, subst}
-use Rattle.carte_value.specs.Truths.{Among, NoneTwice}
+use Rattle.std.proofs.Common.{◌≡◌, ℕ, List, Some, None, refl, ap, sym, ◌∙◌, inl, inr, subst}
+use Rattle.carte_value.specs.Truths.{NoneTwice}
 use Rattle.carte_book.specs.Book.{Book}
 use Rattle.carte_book.specs.Digest.{rules_digest_of}
 use Rattle.carte_record.specs.declared.entry.Entry.{Entry}
-use Rattle.carte_record.specs.Kept.{SomeKept, nothing_kept, is_fresh}
-use Rattle.carte_sound.specs.Lists.{Has}
+use Rattle.carte_record.specs.Kept.{SomeKept, nothing_kept}
+use Rattle.carte_value.specs.Lists.{Has}
 use Rattle.carte_sound.specs.Marks.{IsFresh, Leads, need, on}
 use Rattle.carte_sound.specs.Sound.{Stood, IsFreshIn, IsSound}
-use Rattle.carte_sound.specs.Base.{HasDistinctDigests, IsNow, IsBase}
+use Rattle.carte_sound.specs.Base.{HasDistinctDigests, IsBase}
 use Rattle.carte_sound.specs.Left.{opened}
 
 abbrev pub with_chain : SomeKept → List (List ℕ) → SomeKept

@@ -1,26 +1,23 @@
 -- What one finished key more changes of what is kept.
-use Rattle.std.proofs.Common.{◌≡◌, ◌⊎◌, ℕ, Bool, true, false, not, ◌&&◌, cond, List, [], ◌∷◌, Option, Some, None, is_some, filter, refl, ap, sym, ◌∙◌, inl, inr, subst}
+use Rattle.std.proofs.Common.{◌≡◌, ◌⊎◌, ℕ, Bool, true, false, not, ◌&&◌, cond, List, Option, Some, None, is_some, refl, ap, sym, ◌∙◌, inl, inr}
 use Rattle.carte_value.specs.declared.digest.Digest.{Digest}
 use Rattle.carte_value.specs.declared.value.Value.{Value}
 use Rattle.carte_value.specs.Names.{name_eq}
 use Rattle.carte_value.specs.Spelling.{digest_of}
 use Rattle.carte_value.specs.Truths.{Among}
-use Rattle.carte_book.specs.Book.{Item, input, rule, Book, content, clean}
-use Rattle.carte_book.specs.Needs.{IsRule, needs}
-use Rattle.carte_record.specs.declared.entry.Entry.{Entry}
+use Rattle.carte_book.specs.Book.{input, Book, content, clean}
 use Rattle.carte_record.specs.declared.trace.Trace.{Trace}
 use Rattle.carte_record.specs.declared.way.Way.{Way}
-use Rattle.carte_record.specs.declared.way.Way.TheVariants.{Verifying, Constructive, Deep}
 use Rattle.carte_record.specs.Folds.{is_among}
-use Rattle.carte_record.specs.Kept.{SomeKept, is_fresh, put_at, newest}
+use Rattle.carte_record.specs.Kept.{SomeKept, newest}
 use Rattle.carte_record.specs.Lookups.{digest_eq, trace_eq}
-use Rattle.carte_sound.specs.Lists.{Has}
-use Rattle.carte_sound.specs.Marks.{IsFresh, digest_in, present}
-use Rattle.carte_sound.specs.True.{digest_or, trace_of, full_entry, shallow_entry}
+use Rattle.carte_value.specs.Lists.{Has}
+use Rattle.carte_sound.specs.Marks.{digest_in, present}
+use Rattle.carte_sound.specs.True.{digest_or, trace_of}
 use Rattle.carte_sound.specs.Sound.{IsStored}
-use Rattle.carte_sound.specs.Held.{How, dirty, tracing}
-use Rattle.carte_sound.specs.Left.{fresh_or, entry_left, names_eq, bool_eq, entry_eq, is_kept, seen_left, is_way, or_first, add}
-use Rattle.carte_sound.proofs.Tests.{same_name, eq_or_apart, same_digest, digest_self, tested_among, among_tested, put_here, put_there, put_cases, has_filter}
+use Rattle.carte_sound.specs.Held.{How}
+use Rattle.carte_sound.specs.Left.{entry_left, is_kept, seen_left, is_way, or_first, add}
+use Rattle.carte_sound.proofs.Tests.{same_name, same_digest, digest_self, among_tested, has_filter}
 use Rattle.carte_sound.proofs.Entries.{both_true}
 
 -- a choice of two equal things is that thing
@@ -38,14 +35,14 @@ module _ (h : How) (b : Book) (K : SomeKept) (k : List ℕ) (ran : Bool) where
   pub seen_grows : (i : List ℕ) (x : Value) → content b i ≡ Some (input x) → K.seen i ≡ Some (digest_of x) → (add h b K k ran).seen i ≡ Some (digest_of x)
   seen_grows i x is seen =
       either_way (is_kept (K.entries k) (entry_left h K b k)) (K.seen i) (seen_left K.seen b (entry_left h K b k).needs i) (Some (digest_of x)) seen
-        (either_way (is_among (entry_left h K b k).needs i && is_some (present b i)) (present b i) (K.seen i) (Some (digest_of x)) (ap digest_in is) seen)
+      (either_way (is_among (entry_left h K b k).needs i && is_some (present b i)) (present b i) (K.seen i) (Some (digest_of x)) (ap digest_in is) seen)
 
   -- the inputs that a written entry names are seen
   pub seen_written : is_kept (K.entries k) (entry_left h K b k) ≡ false → (i : List ℕ) (x : Value) → Among (entry_left h K b k).needs i → content b i ≡ Some (input x) → (add h b K k ran).seen i ≡ Some (digest_of x)
   seen_written written i x among is =
       let tests : (is_among (entry_left h K b k).needs i && is_some (present b i)) ≡ true = tested (is_among (entry_left h K b k).needs i) (present b i) (among_tested (entry_left h K b k).needs i among) (ap digest_in is) in
       ap (λ t. cond t (K.seen i) (seen_left K.seen b (entry_left h K b k).needs i)) written
-        ∙ ap (λ t. cond t (present b i) (K.seen i)) tests ∙ ap digest_in is
+      ∙ ap (λ t. cond t (present b i) (K.seen i)) tests ∙ ap digest_in is
     where
       tested : (t : Bool) (o : Option Digest) → t ≡ true → o ≡ Some (digest_of x) → (t && is_some o) ≡ true
       tested t o yes_t some = rw (yes_t, some) refl

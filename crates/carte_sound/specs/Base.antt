@@ -9,7 +9,7 @@ use Rattle.carte_book.specs.Needs.{IsRule, needs}
 use Rattle.carte_book.specs.Digest.{rules_digest_of}
 use Rattle.carte_record.specs.Kept.{SomeKept, nothing_kept, is_fresh}
 use Rattle.carte_record.specs.declared.entry.Entry.{Entry}
-use Rattle.carte_sound.specs.Lists.{Has}
+use Rattle.carte_value.specs.Lists.{Has}
 use Rattle.carte_sound.specs.Marks.{IsFresh}
 use Rattle.carte_sound.specs.Sound.{IsSound}
 

@@ -1,5 +1,5 @@
 -- Batches that carry just what one station of what is kept has besides another.
-use Rattle.std.specs.Prelude.{ℕ, ◌≡◌, List, Option, Some, None, map, unwrap_or}
+use Rattle.std.specs.Prelude.{ℕ, ◌≡◌, List, Some, None, map, unwrap_or}
 use Rattle.std.specs.Option.{option_or}
 use Rattle.carte_value.specs.declared.digest.Digest.{Digest}
 use Rattle.carte_value.specs.declared.value.Value.{Value}

@@ -1,5 +1,5 @@
 -- Keys in an order in which a build may finish them.
-use Rattle.std.specs.Prelude.{ℕ, ◌≡◌, Bool, true, false, List, [], ◌∷◌}
+use Rattle.std.specs.Prelude.{ℕ, Bool, true, false, List, [], ◌∷◌}
 use Rattle.carte_value.specs.Truths.{Among, NoneTwice}
 use Rattle.carte_book.specs.Book.{Book}
 use Rattle.carte_book.specs.Needs.{IsRule, needs}

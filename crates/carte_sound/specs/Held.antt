@@ -9,7 +9,7 @@ use Rattle.carte_record.specs.declared.entry.Entry.{Entry}
 use Rattle.carte_record.specs.declared.trace.Trace.{Trace}
 use Rattle.carte_record.specs.declared.way.Way.{Way}
 use Rattle.carte_record.specs.declared.way.Way.TheVariants.{Verifying, Constructive, Deep}
-use Rattle.carte_sound.specs.Lists.{Has}
+use Rattle.carte_value.specs.Lists.{Has}
 use Rattle.carte_sound.specs.Marks.{present, IsFresh}
 
 -- how a build tells what has changed: by the marks of entries, or by traces of one kind

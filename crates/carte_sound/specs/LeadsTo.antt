@@ -1,5 +1,5 @@
 -- The batches that a build may commit.
-use Rattle.std.specs.Prelude.{ℕ, ◌≡◌, ◌⊎◌, ◌&&◌, true, false, not, List, [], ◌∷◌, ◌++◌, None, filter, if◌then◌else◌}
+use Rattle.std.specs.Prelude.{ℕ, ◌≡◌, ◌⊎◌, ◌&&◌, false, not, List, [], ◌∷◌, ◌++◌, None, filter, if◌then◌else◌}
 use Rattle.carte_book.specs.Book.{Book}
 use Rattle.carte_book.specs.Digest.{rules_digest_of}
 use Rattle.carte_record.specs.declared.batch.Batch.{Batch}
@@ -9,12 +9,13 @@ use Rattle.carte_record.specs.declared.trace.Trace.{Trace}
 use Rattle.carte_record.specs.declared.way.Way.{Way}
 use Rattle.carte_record.specs.Folds.{is_among, batch_traces, apply}
 use Rattle.carte_record.specs.Kept.{SomeKept, nothing_kept}
-use Rattle.carte_sound.specs.Lists.{Has}
+use Rattle.carte_value.specs.Lists.{Has}
 use Rattle.carte_sound.specs.Begun.{has_rules_of, begin, AreMarks}
 use Rattle.carte_sound.specs.True.{trace_of}
 use Rattle.carte_sound.specs.Held.{How}
-use Rattle.carte_sound.specs.Left.{is_way, Finishes, keys_of, opened, left}
+use Rattle.carte_sound.specs.Left.{is_way, Finishes, keys_of, left}
 use Rattle.carte_sound.specs.Finished.{IsFinishing}
+use Rattle.carte_sound.specs.Treated.{IsDoneInOrder, IsDoneSuspending}
 use Rattle.carte_sound.specs.Carries.{Carries}
 
 abbrev pub empty_batch : Batch
@@ -62,3 +63,18 @@ pub record BringsNothing (done : SomeKept → List ℕ → Type 0) (K : SomeKept
 -- what a build that does what is done leads to
 abbrev pub LeadsTo : How → (SomeKept → List ℕ → Type 0) → Chaining → SomeKept → Book → Batch → Type 0
 LeadsTo h done chained K b B = Brings h done chained K b B ⊎ BringsNothing done K b B
+
+-- where rules are ordered before any is worked out: what is reached is done
+abbrev pub LeadsInOrder : How → SomeKept → Book → List (List ℕ) → Batch → Type 0
+LeadsInOrder h K b targets B = LeadsTo h (λ M k. IsDoneInOrder b targets k) chain_stays K b B
+
+-- and nothing where the build is refused then
+abbrev pub LeadsRefused : How → SomeKept → Book → Batch → Type 0
+LeadsRefused h K b B = LeadsTo h (λ M k. ⊥) chain_stays K b B
+
+-- where a rule waits for what it needs: what is treated over what the build begins with
+abbrev pub BringsSuspending : How → SomeKept → Book → List (List ℕ) → Batch → Type 0
+BringsSuspending h K b targets B = Brings h (λ M k. IsDoneSuspending h M b targets k) chain_stays K b B
+
+abbrev pub LeadsSuspending : How → SomeKept → Book → List (List ℕ) → Batch → Type 0
+LeadsSuspending h K b targets B = LeadsTo h (λ M k. IsDoneSuspending h M b targets k) chain_stays K b B

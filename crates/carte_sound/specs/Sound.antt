@@ -1,18 +1,17 @@
 -- Soundness: all that is kept was true of a book that stood.
-use Rattle.std.specs.Prelude.{ℕ, ◌≡◌, ◌⊎◌, true, List, Option, Some, None}
+use Rattle.std.specs.Prelude.{ℕ, ◌≡◌, ◌⊎◌, true, List, Some, None}
 use Rattle.carte_value.specs.declared.digest.Digest.{Digest}
 use Rattle.carte_value.specs.declared.value.Value.{Value}
 use Rattle.carte_value.specs.Spelling.{digest_of}
 use Rattle.carte_value.specs.Truths.{Among, NoneTwice}
-use Rattle.carte_tree.specs.Tree.{Tree}
-use Rattle.carte_book.specs.Book.{input, rule, Book, content, clean}
+use Rattle.carte_book.specs.Book.{input, Book, content, clean}
 use Rattle.carte_book.specs.Needs.{IsRule}
 use Rattle.carte_book.specs.Digest.{rules_digest_of}
 use Rattle.carte_record.specs.Kept.{SomeKept, nothing_kept, is_fresh}
 use Rattle.carte_record.specs.declared.entry.Entry.{Entry}
 use Rattle.carte_record.specs.declared.trace.Trace.{Trace}
 use Rattle.carte_record.specs.declared.way.Way.{Way}
-use Rattle.carte_sound.specs.Lists.{Has}
+use Rattle.carte_value.specs.Lists.{Has}
 use Rattle.carte_sound.specs.Marks.{IsFresh, Leads}
 use Rattle.carte_sound.specs.True.{IsTraceOf, IsEntryOf}
 

@@ -1,0 +1,35 @@
+use Rattle.std.proofs.Common.{◌≡◌, Result, Ok, Err, OnOk, ap, sym, ◌∙◌, subst}
+use Rattle.carte_book.specs.Book.{book_view}
+use Rattle.carte_record.specs.declared.batch.Batch.{Batch}
+use Rattle.carte_record.specs.Kept.{kept_view}
+use Rattle.carte_note.specs.Methods.{how_of}
+use Rattle.carte_note.specs.Notes.{Notes, AreUnmarked}
+use Rattle.carte_note.specs.Writes.{with_run, with_entry}
+use Rattle.carte_note.proofs.Noted.{noted, unmarked}
+use Rattle.carte_note.proofs.note.note_finished.Goals as goal
+
+on_ok : {A E : Type 0} {P Q : Type 0} (r : Result A E) → (P → Q) → OnOk r P → OnOk r Q
+on_ok (Ok x) f p = f p
+on_ok (Err e) f p = p
+
+pub returns-clause-notes : goal.returns-clause-notes
+returns-clause-notes c =
+    let h = how_of c.args.method in
+    let b = book_view c.args.book.now in
+    let K = c.args.kept.now in
+    let f = c.args.finished.now in
+    on_ok c.note_entry.result
+        (λ (is : c.note_entry.new.batch ≡ with_entry h b K f c.note_run.new.batch).
+            subst (λ B. Notes h (kept_view K) b f c.args.batch.now B) (sym (is ∙ ap (with_entry h b K f) (c.in_ok-note_run.ensures {u = tt}))) (noted h K b f c.args.batch.now))
+        c.note_entry.ensures
+
+pub returns-clause-unmarked : goal.returns-clause-unmarked
+returns-clause-unmarked c =
+    let h = how_of c.args.method in
+    let b = book_view c.args.book.now in
+    let K = c.args.kept.now in
+    let f = c.args.finished.now in
+    on_ok c.note_entry.result
+        (λ (is : c.note_entry.new.batch ≡ with_entry h b K f c.note_run.new.batch).
+            subst (λ (B : Batch). AreUnmarked c.args.batch.now.entries → AreUnmarked B.entries) (sym (is ∙ ap (with_entry h b K f) (c.in_ok-note_run.ensures {u = tt}))) (unmarked h K f c.args.batch.now.entries))
+        c.note_entry.ensures

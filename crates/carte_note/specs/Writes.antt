@@ -1,0 +1,92 @@
+-- What one more finished key brings to a batch, read off the lists of what is kept and of the batch.
+use Rattle.std.specs.Prelude.{ℕ, Bool, true, false, not, ◌&&◌, ◌||◌, List, [], ◌∷◌, ◌++◌, Option, Some, None, is_some, map, if◌then◌else◌}
+use Rattle.carte_value.specs.declared.digest.Digest.{Digest}
+use Rattle.carte_value.specs.declared.link.Link.{Link}
+use Rattle.carte_value.specs.declared.value.Value.{Value}
+use Rattle.carte_value.specs.Spelling.{digest_of}
+use Rattle.carte_effect.specs.Jobs.{outcome_of}
+use Rattle.carte_book.specs.Book.{Book}
+use Rattle.carte_record.specs.declared.batch.Batch.{Batch}
+use Rattle.carte_record.specs.declared.entry.Entry.{Entry}
+use Rattle.carte_record.specs.declared.kept.Kept.{Kept}
+use Rattle.carte_record.specs.declared.trace.Trace.{Trace}
+use Rattle.carte_record.specs.declared.way.Way.{Way}
+use Rattle.carte_record.specs.declared.way.Way.TheVariants.{Verifying, Constructive, Deep}
+use Rattle.carte_record.specs.Kept.{is_fresh}
+use Rattle.carte_record.specs.Lookups.{first_entry, first_link, first_value}
+use Rattle.carte_sound.specs.Begun.{is_digest}
+use Rattle.carte_sound.specs.Held.{How}
+use Rattle.carte_sound.specs.Left.{entry_eq, is_way}
+use Rattle.carte_sound.specs.Marks.{present}
+use Rattle.carte_note.specs.declared.finished.Finished.{Finished}
+use Rattle.carte_note.specs.Methods.{is_deep, is_dirty}
+use Rattle.carte_note.specs.Right.{key_of, has_run}
+
+-- the links of the key's trace and entry: those of the inputs beneath it, or those that it was made by
+abbrev pub links_noted : How → Finished → List Link
+links_noted h f = if is_deep h then f.beneath else (outcome_of f.made).links
+
+abbrev pub names_in : List Link → List (List ℕ)
+names_in ls = map (λ l. l.name) ls
+
+abbrev pub digest_made : Finished → Digest
+digest_made f = digest_of (outcome_of f.made).value
+
+abbrev pub trace_noted : How → Finished → Trace
+trace_noted h f = record { key = key_of f; links = links_noted h f; result = digest_made f }
+
+abbrev pub entry_noted : How → Finished → Entry
+entry_noted h f = record { key = key_of f; result = digest_made f; needs = names_in (links_noted h f); stale = false; shallow = is_deep h }
+
+-- a value behind those of the batch, where neither these nor those that are kept have its digest
+abbrev pub with_value : List Value → Value → List Value → List Value
+with_value kept v vs = if is_some (first_value kept (digest_of v)) || is_some (first_value vs (digest_of v)) then vs else vs ++ v ∷ []
+
+-- of a key that ran
+abbrev pub values_noted : List Value → Finished → List Value → List Value
+values_noted kept f vs = if has_run f.made then with_value kept (outcome_of f.made).value vs else vs
+
+abbrev pub traces_noted : How → Way → Finished → List Trace → List Trace
+traces_noted h w f ts = if has_run f.made && is_way h w then ts ++ trace_noted h f ∷ [] else ts
+
+-- the batch with one trace more
+abbrev pub traced : Way → Trace → Batch → Batch
+traced Verifying t B = record B { verifying = B.verifying ++ t ∷ [] }
+traced Constructive t B = record B { constructive = B.constructive ++ t ∷ [] }
+traced Deep t B = record B { deep = B.deep ++ t ∷ [] }
+
+-- an input with its digest behind those of the batch, where the name isn't there yet and isn't kept with this digest
+abbrev pub with_seen : Book → List Link → Link → List Link → List Link
+with_seen b kept l ls = if is_some (present b l.name) && not (is_some (first_link ls l.name) || is_digest (first_link kept l.name) l.digest) then ls ++ l ∷ [] else ls
+
+abbrev pub all_seen : Book → List Link → List Link → List Link → List Link
+all_seen b kept [] ls = ls
+all_seen b kept (m ∷ ms) ls = all_seen b kept ms (with_seen b kept m ls)
+
+-- the kept entry stays: under deep traces a fresh one, and always one that is equal
+abbrev pub stays_as : How → Option Entry → Entry → Bool
+stays_as h None e = false
+stays_as h (Some old) e = (is_deep h && is_fresh old) || entry_eq old e
+
+-- and under dirty bits that of a held key
+abbrev pub stays : How → Kept → Finished → Bool
+stays h K f = (is_dirty h && not (has_run f.made)) || stays_as h (first_entry K.entries (key_of f)) (entry_noted h f)
+
+abbrev pub seen_noted : How → Book → Kept → Finished → List Link → List Link
+seen_noted h b K f ls = if stays h K f then ls else all_seen b K.seen (links_noted h f) ls
+
+abbrev pub entries_noted : How → Kept → Finished → List Entry → List Entry
+entries_noted h K f es = if stays h K f then es else es ++ entry_noted h f ∷ []
+
+-- the batch with the value and the trace of a key that ran
+abbrev pub with_run : How → Kept → Finished → Batch → Batch
+with_run h K f B = record B {
+  values = values_noted K.values f B.values;
+  verifying = traces_noted h Verifying f B.verifying;
+  constructive = traces_noted h Constructive f B.constructive;
+  deep = traces_noted h Deep f B.deep;
+}
+
+-- and with its entry, and the inputs that the entry names
+abbrev pub with_entry : How → Book → Kept → Finished → Batch → Batch
+with_entry h b K f B = record B { seen = seen_noted h b K f B.seen; entries = entries_noted h K f B.entries }

@@ -1,0 +1,131 @@
+ghost use Rattle.std.specs.Prelude.{◌≡◌, ◌<◌, ◌^◌, ◌++◌, ◌∷◌, [], length, slice_get, option_copied, ◌==◌, is_ok, OnOk, OnErr, ℕ, List, if◌then◌else◌};
+ghost use Rattle.std.specs.HashMap.{get};
+ghost use Rattle.carte_value.specs.Names.{name_eq};
+ghost use Rattle.carte_record.specs.Places.{AddsPlace};
+ghost use Rattle.carte_note.specs.Lists.{finished_of};
+
+use crate::Finished;
+use carte_value::{Name, NoMemory};
+use std::alloc::Global;
+use std::collections::HashMap;
+use std::marker::Model;
+
+/// The most finished keys that a list has: no book has more rules.
+const MOST: usize = 4294967295;
+
+/// The keys that a build has finished, in their order, seen as these; a key is looked up at once.
+#[derive(Drop)]
+pub struct FinishedList {
+    alloc: Global,
+    finished: Vec<Finished>,
+    places: HashMap<Name, u32>,
+}
+
+impl Model for FinishedList {
+    ghost use Rattle.std.specs.Prelude.{List, length, ◌<◌, ◌^◌};
+    ghost use Rattle.std.specs.HashMap.{get};
+    ghost use Rattle.carte_value.specs.Names.{name_eq};
+    ghost use Rattle.carte_record.specs.Places.{IsFirstPlaces};
+    ghost use Rattle.carte_note.specs.declared.finished.Finished.{Finished};
+    ghost use Rattle.carte_note.specs.Lists.{is_of_key};
+
+    ghost Value = { List Finished };
+
+    ghost view = { λ a. a.finished.items };
+
+    ghost invariant = { λ a. (length a.finished.items < 2 ^ 32) × IsFirstPlaces is_of_key a.finished.items (get name_eq a.places) };
+}
+
+impl FinishedList {
+    /// The empty list, whose keys will come from `alloc`. It takes no memory.
+    pub fn new(alloc: Global) -> FinishedList
+        ensures { result ≡ [] }
+    {
+        FinishedList {
+            alloc,
+            finished: Vec::new(alloc),
+            places: HashMap::new(alloc),
+        }
+    }
+
+    /// How many keys there are.
+    pub fn len(&self) -> usize
+        ensures number { result ≡ length self.now }
+        ensures bound { result < 2 ^ 32 }
+    {
+        self.finished.len()
+    }
+
+    pub fn is_empty(&self) -> bool
+        ensures { result ≡ (length self.now == 0) }
+    {
+        self.finished.is_empty()
+    }
+
+    /// The finished key at a place counted from 0, where the list is longer than that.
+    pub fn get(&self, at: usize) -> Option<&Finished>
+        ensures { option_copied result ≡ slice_get self.now at }
+    {
+        self.finished.get(at)
+    }
+
+    /// The finished keys as a slice.
+    pub fn as_slice(&self) -> &[Finished]
+        ensures { result.now ≡ self.now }
+    {
+        self.finished.as_slice()
+    }
+
+    /// The first finished key of a name, where there is one. It takes no memory.
+    pub fn find(&self, key: &Name) -> Option<&Finished>
+        ensures { option_copied result ≡ finished_of self.now key.now }
+    {
+        match place(&self.places, key) {
+            Some(at) => item(self.finished.as_slice(), at),
+            None => None,
+        }
+    }
+
+    /// Puts a finished key behind the others. Where there is no room for it, it is dropped and nothing has changed.
+    pub fn push(&mut self, finished: Finished) -> Result<(), NoMemory>
+        ensures { self.new ≡ (if is_ok result then self.old ++ finished ∷ [] else self.old) }
+    {
+        let at = self.finished.len();
+        if at >= MOST {
+            return Err(NoMemory);
+        }
+        let key = finished.made.key().copy(self.alloc)?;
+        self.finished.reserve(1)?;
+        add(&mut self.places, key, at as u32)?;
+        self.finished.push_reserved(finished);
+        Ok(())
+    }
+}
+
+fn place(places: &HashMap<Name, u32>, key: &Name) -> Option<usize>
+    ensures { result ≡ get name_eq places.now key.now }
+{
+    match places.get(key) {
+        Some(at) => Some(*at as usize),
+        None => None,
+    }
+}
+
+fn item(finished: &[Finished], at: usize) -> Option<&Finished>
+    ensures { option_copied result ≡ slice_get finished.now at }
+{
+    finished.get(at)
+}
+
+fn add(places: &mut HashMap<Name, u32>, key: Name, at: u32) -> Result<(), NoMemory>
+    ensures ok { OnOk result (AddsPlace name_eq (get name_eq places.old) (get name_eq places.new) key at) }
+    ensures no_memory { OnErr result ((q : List ℕ) → get name_eq places.new q ≡ get name_eq places.old q) }
+{
+    if places.contains_key(&key) {
+        return Ok(());
+    }
+    match places.insert(key, at) {
+        Ok(_) => Ok(()),
+        Err(_) => Err(NoMemory),
+    }
+}

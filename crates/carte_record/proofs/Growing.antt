@@ -1,0 +1,78 @@
+-- What is kept, after a batch is taken in, and where it isn't.
+use Rattle.std.proofs.Common.{◌≡◌, ℕ, Bool, true, List, [], ◌∷◌, ◌++◌, Option, Some, None, refl, ap, sym, ◌∙◌, take, length, cond}
+use Rattle.std.proofs.Math.Seq.{take-append_seam}
+use Rattle.std.specs.Prelude.{find, option_map, unwrap_or, is_some}
+use Rattle.std.specs.Option.{option_or}
+use Rattle.carte_value.specs.declared.digest.Digest.{Digest}
+use Rattle.carte_value.specs.Names.{name_eq}
+use Rattle.carte_record.specs.declared.entry.Entry.{Entry}
+use Rattle.carte_record.specs.declared.trace.Trace.{Trace}
+use Rattle.carte_record.specs.declared.way.Way.{Way}
+use Rattle.carte_record.specs.declared.way.Way.TheVariants.{Verifying, Constructive, Deep}
+use Rattle.carte_record.specs.declared.kept.Kept.{Kept}
+use Rattle.carte_record.specs.declared.batch.Batch.{Batch}
+use Rattle.carte_record.specs.declared.lengths.Lengths.{Lengths}
+use Rattle.carte_record.specs.Lookups.{first_link, link_in, first_entry, entry_in, first_value, digest_in, find_last, is_link_of, is_entry_of}
+use Rattle.carte_record.specs.Steps.{Begins, replaced_by}
+use Rattle.carte_record.specs.Kept.{SomeKept, kept_view, kept_traces, newest, traces_in, staled}
+use Rattle.carte_record.specs.Folds.{is_among, batch_traces, carried}
+use Rattle.carte_record.specs.Growth.{Grows, AreLengthsOf, HasTraces, HasRoomIn, Settles}
+use Rattle.carte_record.proofs.Found.{map_or}
+use Rattle.carte_record.proofs.Steps.{taken_in, begins_self}
+
+-- what is alike is equal
+pub kept_same : (K L : SomeKept) → K.rules ≡ L.rules → ((k : List ℕ) → K.seen k ≡ L.seen k) → ((k : List ℕ) → K.entries k ≡ L.entries k) → ((w : Way) (k : List ℕ) → K.traces w k ≡ L.traces w k)
+    → K.chain ≡ L.chain → ((d : Digest) → K.stored d ≡ L.stored d) → K ≡ L
+kept_same K L rules seen entries traces chain stored i = record { rules = rules i; seen = λ k. seen k i; entries = λ k. entries k i; traces = λ w k. traces w k i; chain = chain i; stored = λ d. stored d i }
+
+pub traces_on : (k : List ℕ) (xs ys old : List Trace) → traces_in k (xs ++ ys) old ≡ traces_in k ys (traces_in k xs old)
+traces_on k [] ys old = refl
+traces_on k (x ∷ xs) ys old = traces_on k xs ys (cond (name_eq k x.key) (newest x old) old)
+
+pub no_traces : (K : Kept) → K.verifying ≡ [] → K.constructive ≡ [] → K.deep ≡ [] → (w : Way) (k : List ℕ) → traces_in k (kept_traces w K) [] ≡ []
+no_traces K v c d Verifying k = ap (λ ts. traces_in k ts []) v
+no_traces K v c d Constructive k = ap (λ ts. traces_in k ts []) c
+no_traces K v c d Deep k = ap (λ ts. traces_in k ts []) d
+
+marked_and_replaced : (f : Entry → Entry) (l o p : Option Entry) → (is_some l ≡ true → is_some o ≡ true) → (l ≡ None → o ≡ p) → replaced_by (option_map f o) l ≡ option_or l (option_map f p)
+marked_and_replaced f None None p there only = ap (option_map f) (only refl)
+marked_and_replaced f None (Some y) p there only = ap (option_map f) (only refl)
+marked_and_replaced f (Some x) None p there only = let some = there refl in cc
+marked_and_replaced f (Some x) (Some y) p there only = refl
+
+pub carried_by : (B : Batch) (old mid new : Kept) → Grows old mid → HasTraces B.verifying B.constructive B.deep old mid → HasRoomIn B.values B.seen B.entries old mid → Settles B.seen B.stale B.entries B.chain mid new
+    → kept_view new ≡ carried B (kept_view old)
+carried_by B old mid new grows more room settles = kept_same (kept_view new) (carried B (kept_view old)) (settles.rules ∙ grows.rules) seen entries traces (settles.chain ∙ ap (unwrap_or B.chain) grows.chain) stored
+  where
+    seen : (k : List ℕ) → first_link new.seen k ≡ option_or (link_in B.seen k) (first_link old.seen k)
+    seen k = ap digest_in (taken_in (λ l. l.name) B.seen old.seen mid.seen new.seen room.seen settles.seen k) ∙ map_or (λ l. l.digest) (find_last (is_link_of k) B.seen) (find (is_link_of k) old.seen)
+
+    entries : (k : List ℕ) → first_entry new.entries k ≡ option_or (entry_in B.entries k) (option_map (staled (is_among B.stale k)) (first_entry old.entries k))
+    entries k = settles.entries k ∙ marked_and_replaced (staled (is_among B.stale k)) (entry_in B.entries k) (first_entry mid.entries k) (first_entry old.entries k) (room.entries.there k) (room.entries.only k)
+
+    traces : (w : Way) (k : List ℕ) → traces_in k (kept_traces w new) [] ≡ traces_in k (batch_traces w B) (traces_in k (kept_traces w old) [])
+    traces Verifying k = ap (λ ts. traces_in k ts []) (settles.verifying ∙ more.verifying) ∙ traces_on k old.verifying B.verifying []
+    traces Constructive k = ap (λ ts. traces_in k ts []) (settles.constructive ∙ more.constructive) ∙ traces_on k old.constructive B.constructive []
+    traces Deep k = ap (λ ts. traces_in k ts []) (settles.deep ∙ more.deep) ∙ traces_on k old.deep B.deep []
+
+    stored : (d : Digest) → first_value new.values d ≡ option_or (first_value old.values d) (first_value B.values d)
+    stored d = ap (λ vs. first_value vs d) settles.values ∙ room.values d
+
+begin_cut : {A : Type 0} (xs ys : List A) (n : ℕ) → Begins xs ys → n ≡ length xs → take n ys ≡ xs
+begin_cut xs ys n (zs, is) many = rw (is, many) (take-append_seam xs zs)
+
+pub shrunk : (old mid new : Kept) (n : Lengths) → Grows old mid → AreLengthsOf old n → new.rules ≡ mid.rules → new.seen ≡ take n.seen mid.seen → new.entries ≡ take n.entries mid.entries
+    → new.verifying ≡ take n.verifying mid.verifying → new.constructive ≡ take n.constructive mid.constructive → new.deep ≡ take n.deep mid.deep → new.chain ≡ mid.chain → new.values ≡ take n.values mid.values → new ≡ old
+shrunk old mid new n grows are rules seen entries verifying constructive deep chain values i = record {
+  rules = (rules ∙ grows.rules) i;
+  seen = (seen ∙ begin_cut old.seen mid.seen n.seen grows.seen are.seen) i;
+  entries = (entries ∙ begin_cut old.entries mid.entries n.entries grows.entries are.entries) i;
+  verifying = (verifying ∙ begin_cut old.verifying mid.verifying n.verifying grows.verifying are.verifying) i;
+  constructive = (constructive ∙ begin_cut old.constructive mid.constructive n.constructive grows.constructive are.constructive) i;
+  deep = (deep ∙ begin_cut old.deep mid.deep n.deep grows.deep are.deep) i;
+  chain = (chain ∙ grows.chain) i;
+  values = (values ∙ begin_cut old.values mid.values n.values grows.values are.values) i;
+}
+
+pub grows_self : (K : Kept) → Grows K K
+grows_self K = record { rules = refl; seen = begins_self K.seen; entries = begins_self K.entries; verifying = begins_self K.verifying; constructive = begins_self K.constructive; deep = begins_self K.deep; chain = refl; values = begins_self K.values }

@@ -1,0 +1,57 @@
+-- How what is kept takes in a batch: its lists grow behind what they had, which can fail, and then their items are replaced.
+use Rattle.std.specs.Prelude.{ℕ, List, length, ◌++◌, ◌≡◌, Option, option_map, unwrap_or}
+use Rattle.std.specs.Option.{option_or}
+use Rattle.carte_value.specs.declared.digest.Digest.{Digest}
+use Rattle.carte_value.specs.declared.link.Link.{Link}
+use Rattle.carte_value.specs.declared.value.Value.{Value}
+use Rattle.carte_record.specs.declared.entry.Entry.{Entry}
+use Rattle.carte_record.specs.declared.trace.Trace.{Trace}
+use Rattle.carte_record.specs.declared.kept.Kept.{Kept}
+use Rattle.carte_record.specs.declared.lengths.Lengths.{Lengths}
+use Rattle.carte_record.specs.Lookups.{first_value, first_entry, entry_in, is_link_of, is_entry_of}
+use Rattle.carte_record.specs.Steps.{Begins, replaced_by, Replaces, HasRoom}
+use Rattle.carte_record.specs.Kept.{staled}
+use Rattle.carte_record.specs.Folds.{is_among}
+
+-- each list begins with what it had
+pub record Grows (old new : Kept) : Type 0 where
+  pub rules : new.rules ≡ old.rules
+  pub seen : Begins old.seen new.seen
+  pub entries : Begins old.entries new.entries
+  pub verifying : Begins old.verifying new.verifying
+  pub constructive : Begins old.constructive new.constructive
+  pub deep : Begins old.deep new.deep
+  pub chain : new.chain ≡ old.chain
+  pub values : Begins old.values new.values
+
+-- how long its lists are
+pub record AreLengthsOf (K : Kept) (n : Lengths) : Type 0 where
+  pub seen : n.seen ≡ length K.seen
+  pub entries : n.entries ≡ length K.entries
+  pub verifying : n.verifying ≡ length K.verifying
+  pub constructive : n.constructive ≡ length K.constructive
+  pub deep : n.deep ≡ length K.deep
+  pub values : n.values ≡ length K.values
+
+-- with traces behind the others
+pub record HasTraces (vs cs ds : List Trace) (old new : Kept) : Type 0 where
+  pub verifying : new.verifying ≡ old.verifying ++ vs
+  pub constructive : new.constructive ≡ old.constructive ++ cs
+  pub deep : new.deep ≡ old.deep ++ ds
+
+-- with values whose digests it lacked, and room for links and entries
+pub record HasRoomIn (vs : List Value) (ls : List Link) (es : List Entry) (old new : Kept) : Type 0 where
+  pub values : (d : Digest) → first_value new.values d ≡ option_or (first_value old.values d) (first_value vs d)
+  pub seen : HasRoom is_link_of ls old.seen new.seen
+  pub entries : HasRoom is_entry_of es old.entries new.entries
+
+-- marked and replaced, with another chain where there is one
+pub record Settles (ls : List Link) (ks : List (List ℕ)) (es : List Entry) (c : Option (List (List ℕ))) (old new : Kept) : Type 0 where
+  pub rules : new.rules ≡ old.rules
+  pub seen : Replaces is_link_of ls old.seen new.seen
+  pub entries : (k : List ℕ) → first_entry new.entries k ≡ replaced_by (option_map (staled (is_among ks k)) (first_entry old.entries k)) (entry_in es k)
+  pub verifying : new.verifying ≡ old.verifying
+  pub constructive : new.constructive ≡ old.constructive
+  pub deep : new.deep ≡ old.deep
+  pub chain : new.chain ≡ unwrap_or c old.chain
+  pub values : new.values ≡ old.values

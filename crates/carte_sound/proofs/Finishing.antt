@@ -1,0 +1,71 @@
+-- Lists of finished keys that grow at their end.
+use Rattle.std.proofs.Common.{◌≡◌, ◌⊎◌, ℕ, Bool, List, [], ◌∷◌, ◌++◌, refl, ap, ◌∙◌, inl, inr}
+use Rattle.carte_value.specs.Truths.{Among}
+use Rattle.carte_book.specs.Book.{Book}
+use Rattle.carte_record.specs.declared.way.Way.TheVariants.{Verifying, Constructive, Deep}
+use Rattle.carte_record.specs.Kept.{SomeKept}
+use Rattle.carte_sound.specs.Held.{How, dirty, tracing}
+use Rattle.carte_sound.specs.Left.{Finishes, keys_of, opened, add, add_all}
+use Rattle.carte_sound.specs.Finished.{IsFinishedAfter, AreFinished}
+use Rattle.carte_sound.proofs.LeftSound.{finished_before}
+
+-- a key may be finished behind more
+pub after_more : (h : How) (b : Book) (K : SomeKept) (before more : List (List ℕ)) (k : List ℕ) (ran : Bool) → ((j : List ℕ) → Among before j → Among more j) → IsFinishedAfter h b K before k ran → IsFinishedAfter h b K more k ran
+after_more h b K before more k ran into next = record {
+  is_rule = next.is_rule;
+  clean = next.clean;
+  came = next.came;
+  order = λ followed j among is_rule. into j (next.order followed j among is_rule);
+}
+
+-- the keys that are finished are those of the list and those before it
+pub finished_among : (fs : Finishes) (before : List (List ℕ)) (k : List ℕ) → Among (finished_before fs before) k → Among (keys_of fs) k ⊎ Among before k
+finished_among [] before k among = inr among
+finished_among (f ∷ fs) before k among = elim (finished_among fs (f.0 ∷ before) k among) [
+  | inl later ↦ inl (inr later)
+  | inr here ↦ elim here [
+    | inl same ↦ inl (inl same)
+    | inr there ↦ inr there
+  ]
+]
+
+-- one more behind those of the list
+pub finished_end : (h : How) (b : Book) (K : SomeKept) (fs : Finishes) (before : List (List ℕ)) (k : List ℕ) (ran : Bool) → AreFinished h b K before fs → IsFinishedAfter h b K (finished_before fs before) k ran → AreFinished h b K before (fs ++ (k, ran) ∷ [])
+finished_end h b K [] before k ran are next = (next, tt)
+finished_end h b K (f ∷ fs) before k ran are next = (are.0, finished_end h b K fs (f.0 ∷ before) k ran are.1 next)
+
+-- and the other way
+pub among_finished : (fs : Finishes) (before : List (List ℕ)) (k : List ℕ) → Among (keys_of fs) k ⊎ Among before k → Among (finished_before fs before) k
+among_finished [] before k (inl none) = absurd none
+among_finished [] before k (inr there) = there
+among_finished (f ∷ fs) before k (inl (inl same)) = among_finished fs (f.0 ∷ before) k (inr (inl same))
+among_finished (f ∷ fs) before k (inl (inr later)) = among_finished fs (f.0 ∷ before) k (inl later)
+among_finished (f ∷ fs) before k (inr there) = among_finished fs (f.0 ∷ before) k (inr (inr there))
+
+-- in an order that has each rule that is looked into behind the rules among its needs, by the keys of the list
+pub finished_next : (h : How) (b : Book) (K : SomeKept) (fs : Finishes) (k : List ℕ) (ran : Bool) → AreFinished h b K [] fs → IsFinishedAfter h b K (keys_of fs) k ran → AreFinished h b K [] (fs ++ (k, ran) ∷ [])
+finished_next h b K fs k ran are next = finished_end h b K fs [] k ran are (after_more h b K (keys_of fs) (finished_before fs []) k ran (λ j among. among_finished fs [] j (inl among)) next)
+
+pub keys_end : (fs : Finishes) (k : List ℕ) (ran : Bool) → keys_of (fs ++ (k, ran) ∷ []) ≡ keys_of fs ++ k ∷ []
+keys_end [] k ran = refl
+keys_end (f ∷ fs) k ran = ap (λ ks. f.0 ∷ ks) (keys_end fs k ran)
+
+pub adds_end : (h : How) (b : Book) (K : SomeKept) (fs : Finishes) (k : List ℕ) (ran : Bool) → add_all h b K (fs ++ (k, ran) ∷ []) ≡ add h b (add_all h b K fs) k ran
+adds_end h b K [] k ran = refl
+adds_end h b K (f ∷ fs) k ran = adds_end h b (add h b K f.0 f.1) fs k ran
+
+opened_add : (h : How) (b : Book) (K : SomeKept) (k : List ℕ) (ran : Bool) → add h b (opened b K) k ran ≡ opened b (add h b K k ran)
+opened_add dirty b K k ran = refl
+opened_add (tracing Verifying) b K k ran = refl
+opened_add (tracing Constructive) b K k ran = refl
+opened_add (tracing Deep) b K k ran = refl
+
+-- the rules of the book may be put in before or behind
+pub opened_adds : (h : How) (b : Book) (K : SomeKept) (fs : Finishes) → add_all h b (opened b K) fs ≡ opened b (add_all h b K fs)
+opened_adds h b K [] = refl
+opened_adds h b K (f ∷ fs) = ap (λ L. add_all h b L fs) (opened_add h b K f.0 f.1) ∙ opened_adds h b (add h b K f.0 f.1) fs
+
+-- finished keys leave the chain
+pub adds_chain : (h : How) (b : Book) (K : SomeKept) (fs : Finishes) → (add_all h b K fs).chain ≡ K.chain
+adds_chain h b K [] = refl
+adds_chain h b K (f ∷ fs) = adds_chain h b (add h b K f.0 f.1) fs

@@ -1,0 +1,94 @@
+-- Traces stay as keys are finished.
+use Rattle.std.proofs.Common.{◌≡◌, ℕ, Bool, true, false, not, ◌&&◌, cond, List, [], ◌∷◌, filter, refl, ap, inl, inr}
+use Rattle.carte_value.specs.declared.digest.Digest.{Digest}
+use Rattle.carte_value.specs.declared.link.Link.{Link}
+use Rattle.carte_value.specs.Names.{name_eq}
+use Rattle.carte_book.specs.Book.{Book}
+use Rattle.carte_record.specs.declared.trace.Trace.{Trace}
+use Rattle.carte_record.specs.declared.way.Way.{Way}
+use Rattle.carte_record.specs.Kept.{SomeKept, newest}
+use Rattle.carte_record.specs.Lookups.{digest_eq, links_eq, trace_eq}
+use Rattle.carte_value.specs.Lists.{Has}
+use Rattle.carte_sound.specs.True.{trace_of}
+use Rattle.carte_sound.specs.Held.{How, tracing}
+use Rattle.carte_sound.specs.Left.{is_way, add}
+use Rattle.carte_sound.proofs.Tests.{name_self, same_name, same_digest}
+use Rattle.carte_sound.proofs.Entries.{both_true}
+
+link_by : List ℕ → Digest → Link
+link_by k d = record { name = k; digest = d }
+
+link_parts : (l m : Link) → link_by l.name l.digest ≡ link_by m.name m.digest → l ≡ m
+unfolding link_by
+link_parts l m same = same
+
+same_link : (l m : Link) → (name_eq l.name m.name && digest_eq l.digest m.digest) ≡ true → l ≡ m
+same_link l m is =
+    let both = both_true (name_eq l.name m.name) (digest_eq l.digest m.digest) is in
+    let k : l.name ≡ m.name = same_name l.name m.name both.0 in
+    let d : l.digest ≡ m.digest = same_digest l.digest m.digest both.1 in
+    link_parts l m (cc)
+
+same_links : (ls ms : List Link) → links_eq ls ms ≡ true → ls ≡ ms
+same_links [] [] is = refl
+same_links [] (m ∷ ms) is = cc
+same_links (l ∷ ls) [] is = cc
+same_links (l ∷ ls) (m ∷ ms) is =
+    let both = both_true (name_eq l.name m.name && digest_eq l.digest m.digest) (links_eq ls ms) is in
+    let here : l ≡ m = same_link l m both.0 in
+    let later : ls ≡ ms = same_links ls ms both.1 in
+    cc
+
+trace_by : List ℕ → List Link → Digest → Trace
+trace_by k ls d = record { key = k; links = ls; result = d }
+
+trace_parts : (s t : Trace) → trace_by s.key s.links s.result ≡ trace_by t.key t.links t.result → s ≡ t
+unfolding trace_by
+trace_parts s t same = same
+
+pub same_trace : (s t : Trace) → trace_eq s t ≡ true → s ≡ t
+same_trace s t is =
+    let both = both_true (name_eq s.key t.key && digest_eq s.result t.result) (links_eq s.links t.links) is in
+    let front = both_true (name_eq s.key t.key) (digest_eq s.result t.result) both.0 in
+    let k : s.key ≡ t.key = same_name s.key t.key front.0 in
+    let d : s.result ≡ t.result = same_digest s.result t.result front.1 in
+    let ls : s.links ≡ t.links = same_links s.links t.links both.1 in
+    trace_parts s t (cc)
+
+filter_has : (p : Trace → Bool) (ts : List Trace) (t : Trace) → p t ≡ true → Has ts t → Has (filter p ts) t
+filter_has p [] t passes there = absurd there
+filter_has p (s ∷ ss) t passes there = elim (p s) as (λ x. p s ≡ x → Has (cond x (s ∷ filter p ss) (filter p ss)) t) [
+  | true ↦ λ is. elim there [
+    | inl same ↦ inl same
+    | inr later ↦ inr (filter_has p ss t passes later)
+  ]
+  | false ↦ λ is. elim there [
+    | inl same ↦ absurd (let e : p t ≡ p s = ap p same in cc)
+    | inr later ↦ filter_has p ss t passes later
+  ]
+] refl
+
+-- a trace that becomes the newest drives none out
+newest_has : (new : Trace) (ts : List Trace) (t : Trace) → Has ts t → Has (newest new ts) t
+newest_has new ts t there = elim (trace_eq t new) as (λ x. trace_eq t new ≡ x → Has (newest new ts) t) [
+  | true ↦ λ is. inl (same_trace t new is)
+  | false ↦ λ is. inr (filter_has (λ s. not (trace_eq s new)) ts t (ap not is) there)
+] refl
+
+chosen_has : (x : Bool) (new : Trace) (ts : List Trace) (t : Trace) → Has ts t → Has (cond x (newest new ts) ts) t
+chosen_has true new ts t there = newest_has new ts t there
+chosen_has false new ts t there = there
+
+pub traces_grow : (h : How) (b : Book) (K : SomeKept) (k : List ℕ) (ran : Bool) (w : Way) (q : List ℕ) (t : Trace) → Has (K.traces w q) t → Has ((add h b K k ran).traces w q) t
+traces_grow h b K k ran w q t there = chosen_has ((ran && is_way h w) && name_eq q k) (trace_of w b k) (K.traces w q) t there
+
+-- a key that ran has the new trace
+pub trace_there : (w : Way) (b : Book) (K : SomeKept) (k : List ℕ) → is_way (tracing w) w ≡ true → Has ((add (tracing w) b K k true).traces w k) (trace_of w b k)
+trace_there w b K k is_w = on_tests ((true && is_way (tracing w) w) && name_eq k k) (tests (is_way (tracing w) w) (name_eq k k) is_w (name_self k))
+  where
+    tests : (x y : Bool) → x ≡ true → y ≡ true → ((true && x) && y) ≡ true
+    tests x y one other = rw (one, other) refl
+
+    on_tests : (x : Bool) → x ≡ true → Has (cond x (newest (trace_of w b k) (K.traces w k)) (K.traces w k)) (trace_of w b k)
+    on_tests true is = inl refl
+    on_tests false is = cc

@@ -1,0 +1,108 @@
+// Laws of what is kept, each as the contract of a function that does nothing.
+ghost use Rattle.std.specs.Prelude.{◌≡◌, ◌++◌, ◌∷◌, [], ℕ, List, Some, if◌then◌else◌};
+ghost use Rattle.carte_value.specs.declared.digest.Digest.{Digest};
+ghost use Rattle.carte_value.specs.Truths.{Among, NoneTwice};
+ghost use Rattle.carte_book.specs.Book.{Book, content, clean};
+ghost use Rattle.carte_book.specs.Digest.{rules_digest_of};
+ghost use Rattle.carte_book.specs.Needs.{IsRule, Reaches, needs};
+ghost use Rattle.carte_book.specs.Reason.{AllClean};
+ghost use Rattle.carte_record.specs.declared.batch.Batch.{Batch};
+ghost use Rattle.carte_record.specs.declared.entry.Entry.{Entry};
+ghost use Rattle.carte_record.specs.declared.start.Start.TheVariants.{Anew, GoOn};
+ghost use Rattle.carte_record.specs.declared.trace.Trace.{Trace};
+ghost use Rattle.carte_record.specs.declared.way.Way.TheVariants.{Constructive, Deep, Verifying};
+ghost use Rattle.carte_record.specs.Folds.{apply, with_marks};
+ghost use Rattle.carte_record.specs.Kept.{SomeKept, nothing_kept};
+ghost use Rattle.carte_sound.specs.Base.{HasDistinctDigests, IsBase};
+ghost use Rattle.carte_sound.specs.Begun.{AreMarks, begin, has_rules_of};
+ghost use Rattle.carte_sound.specs.Beneath.{beneath};
+ghost use Rattle.carte_sound.specs.Carries.{Carries};
+ghost use Rattle.carte_sound.specs.Finished.{AreFinished};
+ghost use Rattle.carte_sound.specs.Held.{How, IsHeld, IsHeldBy, tracing};
+ghost use Rattle.carte_sound.specs.LeadsTo.{BringsSuspending, LeadsInOrder, LeadsRefused, LeadsSuspending, marks_left};
+ghost use Rattle.carte_sound.specs.Left.{Finishes, keys_of, left};
+ghost use Rattle.carte_value.specs.Lists.{Has};
+ghost use Rattle.carte_sound.specs.Marks.{IsFresh};
+ghost use Rattle.carte_sound.specs.Results.{HasResult, IsKeptNow};
+ghost use Rattle.carte_sound.specs.Sound.{IsSound};
+ghost use Rattle.carte_sound.specs.Treated.{IsDoneSuspending};
+ghost use Rattle.carte_sound.specs.True.{IsTraceOf, digest_or, links_to};
+
+/// Nothing kept is sound for every history.
+pub fn nothing_is_sound()
+    ensures { (H : List Book) → IsSound nothing_kept H }
+{}
+
+/// What is sound stays so as the history grows.
+pub fn sound_as_history_grows()
+    ensures { (K : SomeKept) (H J : List Book) → IsSound K H → IsSound K (H ++ J) }
+{}
+
+/// The marking keeps what is kept sound, and each entry that is fresh behind it says what the present book says.
+pub fn marking_is_sound()
+    ensures { (K : SomeKept) (b : Book) (H : List Book) (marks : List (List ℕ)) → IsSound K H → Has H b → HasDistinctDigests H → AreMarks K b marks → IsBase (begin K b marks) b H }
+{}
+
+/// What a build leaves is sound and says what the present book says, under each rebuilder and at each station: the keys
+/// finished so far in any such order leave it so.
+pub fn left_is_sound()
+    ensures { (h : How) (b : Book) (H : List Book) (M : SomeKept) (finished : Finishes) (chain : List (List ℕ)) → IsBase M b H → NoneTwice chain → AreFinished h b M [] finished → IsBase (left h b M finished chain) b H }
+{}
+
+/// A held key's result is the digest of its clean value, and the store has that value.
+pub fn held_is_clean()
+    ensures { (h : How) (K : SomeKept) (b : Book) (H : List Book) (k : List ℕ) → IsBase K b H → IsHeld h K b k → (d : Digest) × HasResult K b k d }
+{}
+
+/// The links of a trace that a key is held by are those of the present needs, or of the inputs beneath it.
+pub fn held_links_are_present()
+    ensures verifying { (K : SomeKept) (b : Book) (H : List Book) (k : List ℕ) (t : Trace) → IsBase K b H → IsHeldBy Verifying K b k t → t.links ≡ links_to (clean b) (needs b k) }
+    ensures constructive { (K : SomeKept) (b : Book) (H : List Book) (k : List ℕ) (t : Trace) → IsBase K b H → IsHeldBy Constructive K b k t → t.links ≡ links_to (clean b) (needs b k) }
+    ensures deep { (K : SomeKept) (b : Book) (H : List Book) (k : List ℕ) (t : Trace) → IsBase K b H → IsHeldBy Deep K b k t → t.links ≡ links_to (clean b) (beneath b k) }
+{}
+
+/// Where the targets that are rules have fresh entries, each rule that they reach is kept with its clean value.
+pub fn reached_is_kept()
+    ensures { (K : SomeKept) (b : Book) (H : List Book) (targets : List (List ℕ)) → IsBase K b H → ((k : List ℕ) → Among targets k → IsRule b k → IsFresh K k) → (k : List ℕ) → Reaches b targets k → IsRule b k → IsKeptNow K b k }
+{}
+
+/// Minimality: a key is held where a trace of it is of a book in which its links had their present values; under
+/// verifying traces the result of its entry must be of that book too.
+pub fn unchanged_is_held()
+    ensures verifying { (K : SomeKept) (b c : Book) (k : List ℕ) (t : Trace) (e : Entry) → Has (K.traces Verifying k) t → IsTraceOf Verifying c k t → K.entries k ≡ Some e → e.result ≡ digest_or (clean c k) → ((j : List ℕ) → Among (needs c k) j → clean b j ≡ clean c j) → IsHeld (tracing Verifying) K b k }
+    ensures constructive { (K : SomeKept) (b c : Book) (k : List ℕ) (t : Trace) → Has (K.traces Constructive k) t → IsTraceOf Constructive c k t → ((j : List ℕ) → Among (needs c k) j → clean b j ≡ clean c j) → IsHeld (tracing Constructive) K b k }
+    ensures deep { (K : SomeKept) (b c : Book) (k : List ℕ) (t : Trace) → Has (K.traces Deep k) t → IsTraceOf Deep c k t → ((i : List ℕ) → Among (beneath c k) i → content b i ≡ content c i) → IsHeld (tracing Deep) K b k }
+{}
+
+/// Early cutoff: a key that is held for one book is held for the next, with any marks, where its needs keep their values,
+/// whatever has run beneath it; under deep traces where the inputs beneath it stay.
+pub fn early_cutoff()
+    ensures verifying { (K : SomeKept) (b c : Book) (H : List Book) (k : List ℕ) (marks : List (List ℕ)) → IsBase K b H → IsHeld (tracing Verifying) K b k → ((j : List ℕ) → Among (needs b k) j → clean c j ≡ clean b j) → IsHeld (tracing Verifying) (with_marks K marks) c k }
+    ensures constructive { (K : SomeKept) (b c : Book) (H : List Book) (k : List ℕ) (marks : List (List ℕ)) → IsBase K b H → IsHeld (tracing Constructive) K b k → ((j : List ℕ) → Among (needs b k) j → clean c j ≡ clean b j) → IsHeld (tracing Constructive) (with_marks K marks) c k }
+    ensures deep { (K : SomeKept) (b c : Book) (H : List Book) (k : List ℕ) (marks : List (List ℕ)) → IsBase K b H → IsHeld (tracing Deep) K b k → ((i : List ℕ) → Among (beneath b k) i → content c i ≡ content b i) → IsHeld (tracing Deep) (with_marks K marks) c k }
+{}
+
+/// A second build of the same book holds each key that the first one finished, under each rebuilder: it runs none of them.
+pub fn finished_is_held()
+    ensures { (h : How) (b : Book) (H : List Book) (M : SomeKept) (finished : Finishes) (chain marks : List (List ℕ)) → IsBase M b H → NoneTwice chain → AreFinished h b M [] finished → AreMarks (left h b M finished chain) b marks → (k : List ℕ) → Among (keys_of finished) k → IsHeld h (begin (left h b M finished chain) b marks) b k }
+{}
+
+/// A batch that carries the difference, with the start and the marks of its build, makes what the build leaves.
+pub fn difference_is_left()
+    ensures { (h : How) (b : Book) (K : SomeKept) (marks : List (List ℕ)) (finished : Finishes) (chain : List (List ℕ)) (B : Batch) → B.start ≡ (if has_rules_of K b then GoOn else Anew (rules_digest_of b)) → B.stale ≡ marks_left finished marks → Carries b (begin K b marks) (left h b (begin K b marks) finished chain) B → apply B K ≡ left h b (begin K b marks) finished chain }
+{}
+
+/// A batch that a build leads to leaves what is kept sound for the history with the present book.
+pub fn batch_is_sound()
+    ensures in_order { (h : How) (K : SomeKept) (H : List Book) (b : Book) (targets : List (List ℕ)) (B : Batch) → IsSound K H → HasDistinctDigests (H ++ b ∷ []) → LeadsInOrder h K b targets B → IsSound (apply B K) (H ++ b ∷ []) }
+    ensures refused { (h : How) (K : SomeKept) (H : List Book) (b : Book) (B : Batch) → IsSound K H → HasDistinctDigests (H ++ b ∷ []) → LeadsRefused h K b B → IsSound (apply B K) (H ++ b ∷ []) }
+    ensures suspending { (h : How) (K : SomeKept) (H : List Book) (b : Book) (targets : List (List ℕ)) (B : Batch) → IsSound K H → HasDistinctDigests (H ++ b ∷ []) → LeadsSuspending h K b targets B → IsSound (apply B K) (H ++ b ∷ []) }
+{}
+
+/// Behind the batch of a build whose targets all have clean values, each rule that they reach is kept with its clean
+/// value; where the build waits for what it needs this is so but under deep traces, where each rule that was done is.
+pub fn batch_keeps_reached()
+    ensures in_order { (h : How) (K : SomeKept) (H : List Book) (b : Book) (targets : List (List ℕ)) (B : Batch) → IsSound K H → HasDistinctDigests (H ++ b ∷ []) → LeadsInOrder h K b targets B → AllClean b targets → (k : List ℕ) → Reaches b targets k → IsRule b k → IsKeptNow (apply B K) b k }
+    ensures suspending { (h : How) (K : SomeKept) (H : List Book) (b : Book) (targets : List (List ℕ)) (B : Batch) → ¬ (h ≡ tracing Deep) → IsSound K H → HasDistinctDigests (H ++ b ∷ []) → LeadsSuspending h K b targets B → AllClean b targets → (k : List ℕ) → Reaches b targets k → IsRule b k → IsKeptNow (apply B K) b k }
+    ensures deep { (h : How) (K : SomeKept) (H : List Book) (b : Book) (targets : List (List ℕ)) (B : Batch) → IsSound K H → HasDistinctDigests (H ++ b ∷ []) → (brings : BringsSuspending h K b targets B) → (k : List ℕ) → IsDoneSuspending h (begin K b brings.marks) b targets k → IsKeptNow (apply B K) b k }
+{}
