@@ -19,10 +19,11 @@ went_then m r f ((k, v) ∷ a) (go, is, rest) = ((λ w. and_then (go w) f), ap (
 -- a task goes on
 pub went_links : (k : List ℕ) (m r : Asks Value) (b a : Answers) → Went m a r → Went (with_links k b m) a (with_links k (b ++ a) r)
 went_links k m r b [] is = ap (with_links k b) is ∙ ap (λ c. with_links k c r) (sym (append-nil b))
-went_links k m r b ((j, v) ∷ a) (go, is, rest) =
-    ((λ w. with_links k (b ++ (j, w) ∷ []) (go w)),
-     ap (with_links k b) is,
-     subst (λ c. Went (with_links k (b ++ (j, v) ∷ []) (go v)) a (with_links k c r)) (append_assoc b ((j, v) ∷ []) a) (went_links k (go v) r (b ++ (j, v) ∷ []) a rest))
+went_links k m r b ((j, v) ∷ a) (go, is, rest) = (
+  (λ w. with_links k (b ++ (j, w) ∷ []) (go w)),
+  ap (with_links k b) is,
+  subst (λ c. Went (with_links k (b ++ (j, v) ∷ []) (go v)) a (with_links k c r)) (append_assoc b ((j, v) ∷ []) a) (went_links k (go v) r (b ++ (j, v) ∷ []) a rest),
+)
 
 pub led_none : {A : Type 0} (t : Truth) (log : Option Answers) (r : Asks A) → Led t log log r [] r
 led_none t log r = record { known = tt; went = refl; logged = sym (more_none log) }

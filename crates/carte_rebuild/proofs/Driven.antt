@@ -52,11 +52,12 @@ begins t log cs m = ([], led_none t log (tries cs m))
 -- the last check came to this
 led_last : (t : Truth) (log0 log1 log : Option Answers) (cs ds : List Checking) (c : Checking) (r : Asks (Option ℕ)) (a : Answers) → LedTo t log0 log1 cs (ds ++ c ∷ []) → Led t log1 log (rest_from c) a r → (m : Asks Made) → (further : Answers) × Led t log0 log (tries cs m) further (and_then r (judged_by c.earlier (tries ds m)))
 led_last t log0 log1 log cs ds c r a before led m =
-    let b = before m in
-    (b.0 ++ a,
-     led_on t log0 log1 log (tries cs m) (checked c (tries ds m)) (and_then r (judged_by c.earlier (tries ds m))) b.0 a
-       (subst (λ n. Led t log0 log1 (tries cs m) b.0 n) (last_first ds c m) b.1)
-       (led_then t log1 log (rest_from c) r (judged_by c.earlier (tries ds m)) a led))
+    let b = before m in (
+      b.0 ++ a,
+      led_on t log0 log1 log (tries cs m) (checked c (tries ds m)) (and_then r (judged_by c.earlier (tries ds m))) b.0 a
+          (subst (λ n. Led t log0 log1 (tries cs m) b.0 n) (last_first ds c m) b.1)
+          (led_then t log1 log (rest_from c) r (judged_by c.earlier (tries ds m)) a led),
+    )
 
 -- it differs, and is dropped
 pub last_differs : {S : Type 0} (t u : Truth) (own : List ℕ → S → Type 0) (log0 log1 log : Option Answers) (cs ds : List Checking) (c d : Checking) (i : ℕ) → u ≡ t → LedTo t log0 log1 cs (ds ++ c ∷ []) → Checked u own log1 log c d (Ok (Differs i)) → LedTo t log0 log cs ds
@@ -76,10 +77,11 @@ last_halts t u own other log0 log1 log cs ds c d NoMemory same stops kept before
     (n.0, subst (λ r. Led t log0 log (tries cs m) n.0 r) (ap (λ x. and_then (rest_from d) (judged_by x (tries ds m))) (sym kept) ∙ sym (last_first ds d m)) n.1)
 last_halts {S = S} t u own other log0 log1 log cs ds c d (Stop s) same stops kept before (a, led, stop) = λ m.
     let n = led_last t log0 log1 log cs ds c (rest_from d) a before (subst (λ w. Led w log1 log (rest_from c) a (rest_from d)) same led) m in
-    let here : StopsAt t own (rest_from d) s = record { name = stop.name; go = stop.go; is = stop.is; none = ap (λ w. w stop.name) (sym same) ∙ stop.none; own_stop = stops.1 stop.name s stop.own_stop } in
-    (n.0,
-     subst (λ r. Led t log0 log (tries cs m) n.0 r) (ap (λ x. and_then (rest_from d) (judged_by x (tries ds m))) (sym kept) ∙ sym (last_first ds d m)) n.1,
-     subst (λ r. StopsAt t own r s) (sym (last_first ds d m)) (stops_then t own (rest_from d) (judged_by d.earlier (tries ds m)) s here))
+    let here : StopsAt t own (rest_from d) s = record { name = stop.name; go = stop.go; is = stop.is; none = ap (λ w. w stop.name) (sym same) ∙ stop.none; own_stop = stops.1 stop.name s stop.own_stop } in (
+      n.0,
+      subst (λ r. Led t log0 log (tries cs m) n.0 r) (ap (λ x. and_then (rest_from d) (judged_by x (tries ds m))) (sym kept) ∙ sym (last_first ds d m)) n.1,
+      subst (λ r. StopsAt t own r s) (sym (last_first ds d m)) (stops_then t own (rest_from d) (judged_by d.earlier (tries ds m)) s here),
+    )
 
 -- 2. the task behind them
 

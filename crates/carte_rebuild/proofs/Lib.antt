@@ -7,5 +7,7 @@ pub mod TracedChecks
 pub mod TracedJobs
 pub mod TracesOf
 pub mod Starting
+pub mod Finishing
+pub mod Often
 mod Collecting
 mod Driven

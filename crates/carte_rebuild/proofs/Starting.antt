@@ -10,7 +10,7 @@ use Rattle.carte_record.specs.declared.trace.Trace.{Trace}
 use Rattle.carte_record.specs.declared.way.Way.{Way}
 use Rattle.carte_record.specs.Lookups.{first_value, is_trace_of}
 use Rattle.carte_record.specs.Kept.{SomeKept, traces_in}
-use Rattle.carte_sound.specs.Lists.{Has}
+use Rattle.carte_value.specs.Lists.{Has}
 use Rattle.carte_sound.specs.Held.{IsTrusted}
 use Rattle.carte_rebuild.specs.Earlier.{check_of, check_at, is_wanted, checks_for, checks_in}
 use Rattle.carte_rebuild.specs.Traced.{IsCheckOf, AreTried, IsTracedJob, IsStart}

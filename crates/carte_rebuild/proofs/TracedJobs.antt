@@ -21,7 +21,7 @@ use Rattle.carte_task.specs.Checks.{rest_from}
 use Rattle.carte_record.specs.declared.trace.Trace.{Trace}
 use Rattle.carte_record.specs.declared.way.Way.{Way}
 use Rattle.carte_record.specs.Kept.{SomeKept}
-use Rattle.carte_sound.specs.Lists.{Has}
+use Rattle.carte_value.specs.Lists.{Has}
 use Rattle.carte_sound.specs.True.{links_to}
 use Rattle.carte_sound.specs.Base.{IsBase}
 use Rattle.carte_sound.specs.Held.{tracing, AreLinks, IsHeldBy, IsHeld, IsFollowed}
@@ -159,14 +159,16 @@ module _ (w : Way) (of : OfNeeds w) (K : SomeKept) (b : Book) (H : List Book) (b
     -- over the inputs and some of the other clean values it makes what is right, or goes on
     pub traced_goes : (a : Answers) (step : Step) (q : Tries) → Gives (left_of p) part a step (left_of q) → GoesOver (tracing w) K b k part (λ u j. IsTracedJob w K b u k j) step q
     traced_goes a (came m) q (known, went) =
-        let ends : run part (tries job.checks (task_left k (asks b.kind job.formula))) ≡ Ok m = runs_as a (done m) known went in
-        (traced_right w of K b H base k job.formula job.is_rule job.checks job.tried m (run_kept part (clean b) (tries job.checks (task_left k (asks b.kind job.formula))) m is_part.part ends),
-         (λ followed. traced_there w of K b H base k job.formula job.is_rule job.checks job.tried part is_part.part m ends))
+        let ends : run part (tries job.checks (task_left k (asks b.kind job.formula))) ≡ Ok m = runs_as a (done m) known went in (
+          traced_right w of K b H base k job.formula job.is_rule job.checks job.tried m (run_kept part (clean b) (tries job.checks (task_left k (asks b.kind job.formula))) m is_part.part ends),
+          (λ followed. traced_there w of K b H base k job.formula job.is_rule job.checks job.tried part is_part.part m ends),
+        )
     traced_goes a (stopped n) q (known, went, (go, is), none) =
-        let stops : run part (tries job.checks (task_left k (asks b.kind job.formula))) ≡ Err n = runs_as a (left_of q) known went ∙ ap (run part) is ∙ stop_here go none in
-        (goes_job a q known went,
-         (λ held. of.looks),
-         traced_before w of K b H base k job.formula job.is_rule job.checks job.tried part is_part.part n stops)
+        let stops : run part (tries job.checks (task_left k (asks b.kind job.formula))) ≡ Err n = runs_as a (left_of q) known went ∙ ap (run part) is ∙ stop_here go none in (
+          goes_job a q known went,
+          (λ held. of.looks),
+          traced_before w of K b H base k job.formula job.is_rule job.checks job.tried part is_part.part n stops,
+        )
       where
         stop_here : (go : Value → Asks Made) → part n ≡ None → run part (ask n go) ≡ Err n
         stop_here go none = rw none refl

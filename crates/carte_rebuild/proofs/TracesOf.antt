@@ -1,36 +1,12 @@
 -- The traces of a key are those of the list with that key.
 use Rattle.std.proofs.Common.{◌≡◌, ℕ, Bool, true, false, not, ◌&&◌, cond, List, [], ◌∷◌, ◌⊎◌, filter, refl, ap, sym, ◌∙◌, subst, inl, inr}
-use Rattle.std.proofs.lemmas.Bool.{and_parts}
-use Rattle.carte_value.specs.declared.digest.Digest.{Digest}
-use Rattle.carte_value.specs.declared.link.Link.{Link}
 use Rattle.carte_value.specs.Names.{name_eq}
 use Rattle.carte_record.specs.declared.trace.Trace.{Trace}
-use Rattle.carte_record.specs.Lookups.{digest_eq, links_eq, trace_eq}
+use Rattle.carte_record.specs.Lookups.{trace_eq}
 use Rattle.carte_record.specs.Kept.{newest, traces_in}
-use Rattle.carte_sound.specs.Lists.{Has}
-use Rattle.carte_sound.proofs.Tests.{same_name, same_digest, has_filter}
-
-abbrev link_by : List ℕ → Digest → Link
-link_by k d = record { name = k; digest = d }
-
-abbrev trace_by : List ℕ → List Link → Digest → Trace
-trace_by k ls d = record { key = k; links = ls; result = d }
-
-same_links : (ls ms : List Link) → links_eq ls ms ≡ true → ls ≡ ms
-same_links [] [] is = refl
-same_links [] (m ∷ ms) is = cc
-same_links (l ∷ ls) [] is = cc
-same_links (l ∷ ls) (m ∷ ms) is =
-    let parts = and_parts (name_eq l.name m.name && digest_eq l.digest m.digest) (links_eq ls ms) is in
-    let link = and_parts (name_eq l.name m.name) (digest_eq l.digest m.digest) parts.0 in
-    let same : l ≡ m = ap (λ k. link_by k l.digest) (same_name l.name m.name link.0) ∙ ap (link_by m.name) (same_digest l.digest m.digest link.1) in
-    ap (λ x. x ∷ ls) same ∙ ap (λ xs. m ∷ xs) (same_links ls ms parts.1)
-
-pub same_trace : (s t : Trace) → trace_eq s t ≡ true → s ≡ t
-same_trace s t is =
-    let parts = and_parts (name_eq s.key t.key && digest_eq s.result t.result) (links_eq s.links t.links) is in
-    let head = and_parts (name_eq s.key t.key) (digest_eq s.result t.result) parts.0 in
-    ap (λ k. trace_by k s.links s.result) (same_name s.key t.key head.0) ∙ ap (λ ls. trace_by t.key ls s.result) (same_links s.links t.links parts.1) ∙ ap (trace_by t.key t.links) (same_digest s.result t.result head.1)
+use Rattle.carte_value.specs.Lists.{Has}
+use Rattle.carte_sound.proofs.Tests.{has_filter}
+use Rattle.carte_sound.proofs.TracesKept.{same_trace}
 
 -- what is newest stands before all others, once
 filter_has : (t : Trace) (ts : List Trace) (s : Trace) → Has ts s → (s ≡ t) ⊎ Has (filter (λ r. not (trace_eq r t)) ts) s

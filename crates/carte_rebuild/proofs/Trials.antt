@@ -11,7 +11,7 @@ use Rattle.carte_effect.specs.declared.outcome.Made.TheVariants.{Ran, Reused}
 use Rattle.carte_effect.specs.Outcomes.{Outcome}
 use Rattle.carte_task.specs.Checking.{Checking}
 use Rattle.carte_task.specs.Checks.{rest_from}
-use Rattle.carte_sound.specs.Lists.{Has}
+use Rattle.carte_value.specs.Lists.{Has}
 use Rattle.carte_rebuild.specs.Trying.{judged_by, checked, tries}
 
 pub last_first : (cs : List Checking) (c : Checking) (m : Asks Made) → tries (cs ++ c ∷ []) m ≡ checked c (tries cs m)
@@ -47,10 +47,13 @@ tries_cases t (d ∷ cs) m r ends = elim (tries_cases t cs (checked d m) r ends)
   where
     last : CheckedAs t d m r → AllDiffer t cs → IsGivenAgain t (d ∷ cs) r ⊎ (AllDiffer t (d ∷ cs) × (run t m ≡ Ok r))
     last (given_again is same) differ = inl (d, inl refl, is, same)
-    last (goes_past i is then) differ = inr ((λ c has. elim has [
-      | inl same ↦ (i, ap (λ x. run t (rest_from x)) same ∙ is)
-      | inr later ↦ differ c later
-    ]), then)
+    last (goes_past i is then) differ = inr (
+      (λ c has. elim has [
+        | inl same ↦ (i, ap (λ x. run t (rest_from x)) same ∙ is)
+        | inr later ↦ differ c later
+      ]),
+      then,
+    )
 
 -- where it stops, a check stops, or what comes behind them
 pub tries_stop : (t : Truth) (cs : List Checking) (m : Asks Made) (n : List ℕ) → run t (tries cs m) ≡ Err n → ((c : Checking) × Has cs c × (run t (rest_from c) ≡ Err n)) ⊎ (run t m ≡ Err n)

@@ -6,3 +6,5 @@ pub mod Tried
 pub mod Left
 pub mod Traced
 pub mod TryingFits
+pub mod Drives
+pub mod Finishes

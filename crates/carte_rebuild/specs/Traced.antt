@@ -10,7 +10,7 @@ use Rattle.carte_book.specs.Book.{Book, rule, content, clean}
 use Rattle.carte_record.specs.declared.trace.Trace.{Trace}
 use Rattle.carte_record.specs.declared.way.Way.{Way}
 use Rattle.carte_record.specs.Kept.{SomeKept}
-use Rattle.carte_sound.specs.Lists.{Has}
+use Rattle.carte_value.specs.Lists.{Has}
 use Rattle.carte_sound.specs.Held.{IsTrusted}
 use Rattle.carte_rebuild.specs.declared.tries.Tries.{Tries}
 use Rattle.carte_rebuild.specs.Earlier.{check_of}

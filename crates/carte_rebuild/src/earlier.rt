@@ -20,7 +20,14 @@ pub fn checks_of(
 {
     let mut checks = Vec::new(alloc);
     for at in traces.places(key) {
-        add(alloc, traces.get(*at as usize), values, key, wanted, &mut checks)?;
+        add(
+            alloc,
+            traces.get(*at as usize),
+            values,
+            key,
+            wanted,
+            &mut checks,
+        )?;
     }
     Ok(checks)
 }

@@ -15,5 +15,4 @@ use crate::Rebuilder;
 /// can go on: so each value that a schedule makes is clean, and a key runs exactly where it isn't held.
 pub fn driven_right<R: Rebuilder>()
     ensures { (r : R) (K : SomeKept) (b : SomeBook) (H : List SomeBook) (k : List ℕ) (t u : Truth) (p q : R.Job) (step : Step) → IsBase K b H → R.begun r K b t k p → Driven R.Job.gives b t p u step q → GoesOver (R.how r) K b k u (λ w j. R.begun r K b w k j) step q }
-{
-}
+{}

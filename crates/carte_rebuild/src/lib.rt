@@ -21,9 +21,15 @@
 
 mod checks;
 mod earlier;
+mod laws;
+mod made;
 mod rebuilder;
 mod tries;
+mod work;
 
 pub use earlier::checks_of;
+pub use laws::driven_right;
+pub use made::finish;
 pub use rebuilder::Rebuilder;
 pub use tries::Tries;
+pub use work::{PlanFault, Work, WorkEnd};

@@ -52,7 +52,8 @@ pub trait Rebuilder {
         ensures notes { OnOk result (Notes (how self.now) (kept_view kept.now) (book_view book.now) finished.now batch.old batch.new) }
         ensures unmarked { OnOk result (AreUnmarked batch.old.entries → AreUnmarked batch.new.entries) }
         ensures start { OnOk result (batch.new.start ≡ batch.old.start) }
-        ensures stale { OnOk result (batch.new.stale ≡ batch.old.stale) };
+        ensures stale { OnOk result (batch.new.stale ≡ batch.old.stale) }
+        ensures chain { OnOk result (batch.new.chain ≡ batch.old.chain) };
 
     /// Whether the needs of a held key are looked into.
     fn looks_beneath(&self) -> bool

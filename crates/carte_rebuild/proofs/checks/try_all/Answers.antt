@@ -22,7 +22,7 @@ checks-preserved g c =
       truth = says.truth ∙ c.checks.invariant.truth;
       own = ((λ k s h. says.stops.0 k s (c.checks.invariant.own.0 k s h)), (λ k s h. c.checks.invariant.own.1 k s (says.stops.1 k s h)));
       led = subst (LedTo (g.E.Effect.truth c.args.effect.now) (g.E.Effect.log c.args.effect.now) (g.E.Effect.log c.drive.new.effect) c.args.checks.now.items) (sym (c.truncate.ensures.items ∙ take-set c.checks.checks.items (c.len-last.result - 1) c.drive.new.self))
-        (last_differs (g.E.Effect.truth c.args.effect.now) (g.E.Effect.truth c.checks.effect) (g.E.Effect.stops c.checks.effect) (g.E.Effect.log c.args.effect.now) (g.E.Effect.log c.checks.effect) (g.E.Effect.log c.drive.new.effect) c.args.checks.now.items (take (c.len-last.result - 1) c.checks.checks.items) c.index_mut.result.now c.drive.new.self c.in-Ok-Differs.field-0-0 c.checks.invariant.truth led (rw c.in-Ok-Differs.field-0-is at says.checked));
+          (last_differs (g.E.Effect.truth c.args.effect.now) (g.E.Effect.truth c.checks.effect) (g.E.Effect.stops c.checks.effect) (g.E.Effect.log c.args.effect.now) (g.E.Effect.log c.checks.effect) (g.E.Effect.log c.drive.new.effect) c.args.checks.now.items (take (c.len-last.result - 1) c.checks.checks.items) c.index_mut.result.now c.drive.new.self c.in-Ok-Differs.field-0-0 c.checks.invariant.truth led (rw c.in-Ok-Differs.field-0-is at says.checked));
     }
 
 pub returns-in-Err-clause-tried : goal.returns-in-Err-clause-tried
@@ -31,7 +31,7 @@ returns-in-Err-clause-tried g c =
     let says = c.in-Err.ensures {u = tt} in
     let led = subst (LedTo (g.E.Effect.truth c.args.effect.now) (g.E.Effect.log c.args.effect.now) (g.E.Effect.log c.checks.effect) c.args.checks.now.items) (last_own c.checks.checks.items (c.len-last.result - 1) c.index_mut.result.now whole c.index_mut.ensures.value) c.checks.invariant.led in
     subst (λ ds. Tried (g.E.Effect.truth c.args.effect.now) (g.E.Effect.stops c.args.effect.now) (g.E.Effect.log c.args.effect.now) (g.E.Effect.log c.drive.new.effect) c.args.checks.now.items ds (Err c.in-Err.halt)) (sym (last_set c.checks.checks.items (c.len-last.result - 1) c.drive.new.self whole))
-      (last_halts (g.E.Effect.truth c.args.effect.now) (g.E.Effect.truth c.checks.effect) (g.E.Effect.stops c.args.effect.now) (g.E.Effect.stops c.checks.effect) (g.E.Effect.log c.args.effect.now) (g.E.Effect.log c.checks.effect) (g.E.Effect.log c.drive.new.effect) c.args.checks.now.items (take (c.len-last.result - 1) c.checks.checks.items) c.index_mut.result.now c.drive.new.self c.in-Err.halt c.checks.invariant.truth c.checks.invariant.own says.earlier led says.checked)
+    (last_halts (g.E.Effect.truth c.args.effect.now) (g.E.Effect.truth c.checks.effect) (g.E.Effect.stops c.args.effect.now) (g.E.Effect.stops c.checks.effect) (g.E.Effect.log c.args.effect.now) (g.E.Effect.log c.checks.effect) (g.E.Effect.log c.drive.new.effect) c.args.checks.now.items (take (c.len-last.result - 1) c.checks.checks.items) c.index_mut.result.now c.drive.new.self c.in-Err.halt c.checks.invariant.truth c.checks.invariant.own says.earlier led says.checked)
 
 pub returns-clause-tried : goal.returns-clause-tried
 returns-clause-tried g c =

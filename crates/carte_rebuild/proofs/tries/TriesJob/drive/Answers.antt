@@ -14,8 +14,8 @@ returns-in-Ok-None-clause-gave g c =
     let says = c.in-Ok-None.ensures {u = tt} in
     let tried = rw c.in-Ok-None.field-0-is at says.tried in
     gave_behind left_of _ (g.E.Effect.truth c.try_checks.new.effect) _ (g.E.Effect.stops c.try_checks.new.effect) _ (g.E.Effect.log c.try_checks.new.effect) _ (open_in c.args.self.now) (open_in c.try_checks.new.self) (state_of c.args.self.now.machine) c.args.self.now c.try_checks.new.self c.run.new.self c.run.result says.truth says.stops refl
-      (ap (λ cs. tries cs (machine_left (state_of c.try_checks.new.self.machine))) tried.0 ∙ ap (λ m. machine_left (state_of m)) says.machine)
-      tried c.run.ensures.gave
+    (ap (λ cs. tries cs (machine_left (state_of c.try_checks.new.self.machine))) tried.0 ∙ ap (λ m. machine_left (state_of m)) says.machine)
+    tried c.run.ensures.gave
 
 pub returns-in-Err-clause-gave : goal.returns-in-Err-clause-gave
 returns-in-Err-clause-gave g c =
