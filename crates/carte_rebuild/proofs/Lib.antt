@@ -3,6 +3,8 @@ pub mod Trials
 pub mod Parting
 pub mod Comparing
 pub mod TaskRuns
+pub mod TaskAlone
+pub mod Wholes
 pub mod TracedChecks
 pub mod TracedJobs
 pub mod TracesOf

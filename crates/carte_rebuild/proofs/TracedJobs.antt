@@ -37,15 +37,13 @@ use Rattle.carte_rebuild.specs.TryingFits.{known_more}
 use Rattle.carte_rebuild.specs.declared.tries.Tries.{Tries}
 use Rattle.carte_rebuild.proofs.Comparing.{digests_in, are_links_same}
 use Rattle.carte_rebuild.proofs.Trials.{IsGivenAgain, AllDiffer, tries_cases, tries_stop, tries_asked}
-use Rattle.carte_rebuild.proofs.TaskRuns.{task_ran, task_stop, task_asked, known_links}
+use Rattle.carte_rebuild.proofs.TaskAlone.{alone_ran, alone_needs, alone_there, alone_before}
+use Rattle.carte_rebuild.proofs.Wholes.{IsRightWhole, whole_fits, whole_goes}
 use Rattle.carte_rebuild.proofs.TracedChecks.{OfNeeds, reused_needs, asks_needs, links_now, links_then, links_needs, held_needs, linked_names, check_asks, check_stops, check_holds}
 
 module _ (w : Way) (of : OfNeeds w) (K : SomeKept) (b : Book) (H : List Book) (base : IsBase K b H) (k : List ℕ) (f : Tree) (is_rule : content b k ≡ Some (rule f)) (cs : List Checking) (tried : AreTried w K k cs) where
   abbrev whole : Asks Made
   whole = tries cs (task_left k (asks b.kind f))
-
-  needs_are : needs b k ≡ firsts (asked (clean b) (asks b.kind f))
-  needs_are = needs_rule b k f is_rule
 
   -- a trace that holds has its check among the checks, and that holds too
   not_held : AllDiffer (clean b) cs → ¬ (IsHeld (tracing w) K b k)
@@ -74,13 +72,9 @@ module _ (w : Way) (of : OfNeeds w) (K : SomeKept) (b : Book) (H : List Book) (b
 
   ran_right : (m : Made) → AllDiffer (clean b) cs → run (clean b) (task_left k (asks b.kind f)) ≡ Ok m → IsRightMade (tracing w) K b k m
   ran_right m differ ends =
-      let r = task_ran (clean b) k (asks b.kind f) m ends in
-      let right : IsRightMade (tracing w) K b k (Ran (record { key = k; value = r.value; links = links_to (clean b) (firsts (asked (clean b) (asks b.kind f))) })) = record {
-        key = refl;
-        value = ends_clean b k f r.value is_rule r.ended;
-        came = (not_held differ, ap (links_to (clean b)) (sym needs_are));
-      } in
-      subst (IsRightMade (tracing w) K b k) (sym r.is) right
+      let r = alone_ran b k f is_rule m ends in
+      let right : IsRightMade (tracing w) K b k (Ran (record { key = k; value = r.0; links = links_to (clean b) (needs b k) })) = record { key = refl; value = r.1; came = (not_held differ, refl) } in
+      subst (IsRightMade (tracing w) K b k) (sym r.2) right
 
   -- what it makes is right
   pub traced_right : (m : Made) → run (clean b) whole ≡ Ok m → IsRightMade (tracing w) K b k m
@@ -93,7 +87,7 @@ module _ (w : Way) (of : OfNeeds w) (K : SomeKept) (b : Book) (H : List Book) (b
   pub traced_needs : (j : List ℕ) → Among (asked (clean b) whole) j → Among (needs b k) j
   traced_needs j among = elim (tries_asked (clean b) cs (task_left k (asks b.kind f)) j among) [
     | inl (c, has, here) ↦ check_asks w of K b H base k (clean b) (λ i v h. h) c (tried.only c has) j here
-    | inr there ↦ subst (λ ks. Among ks j) (task_asked (clean b) k (asks b.kind f) ∙ sym needs_are) there
+    | inr there ↦ alone_needs b k f is_rule j there
   ]
 
   -- where it ends over a part, all needs are in the part
@@ -105,71 +99,41 @@ module _ (w : Way) (of : OfNeeds w) (K : SomeKept) (b : Book) (H : List Book) (b
         let now = held_by c x (run_kept part (clean b) (rest_from c) None more holds) in
         let links : x.trace.links ≡ links_to (clean b) (needs b k) = (held_needs w of K b H base k x.trace now).1 in
         linked_names part (clean b) (needs b k) (subst (AreLinks (digests_in part)) links here) j among
-    | inr (differ, ran) ↦
-        let r = task_ran part k (asks b.kind f) m ran in
-        asked_known part (asks b.kind f) r.value j r.ended (subst (λ ks. Among ks j) (asked_kept part (clean b) (asks b.kind f) r.value more r.ended) (among_firsts (asked (clean b) (asks b.kind f)) j (subst (λ ks. Among ks j) needs_are among)))
+    | inr (differ, ran) ↦ alone_there b k f is_rule part more m ran j among
   ]
 
   -- where it stops over a part at a name that will never have a value, all other needs are in the part
   pub traced_before : (part : Truth) → Extends part (clean b) → (n : List ℕ) → run part whole ≡ Err n → AreThereBefore b part k n
   traced_before part more n stops none j among = elim (tries_stop part cs (task_left k (asks b.kind f)) n stops) [
     | inl (c, has, here) ↦ check_stops w of K b H base k part more c (tried.only c has) n here none j among
-    | inr there ↦ asked_before part (clean b) (asks b.kind f) n more (task_stop part k (asks b.kind f) n there) none j (among_firsts (asked (clean b) (asks b.kind f)) j (subst (λ ks. Among ks j) needs_are among))
+    | inr there ↦ alone_before b k f is_rule part more n there none j among
   ]
 
--- what is right has the links of the needs, where it ran
-right_links : (w : Way) (K : SomeKept) (b : Book) (k : List ℕ) (f : Tree) (m : Made) → content b k ≡ Some (rule f) → IsRightMade (tracing w) K b k m → HasLinks (clean b) (needs b k) m
-right_links w K b k f (Ran o) is_rule right =
-    let there = need_has_value b k f o.value is_rule right.value in
-    subst (LinksTo (clean b) (needs b k)) (sym right.came.1) (known_links (clean b) (needs b k) there)
-right_links w K b k f (Reused o) is_rule right = tt
+  pub traced_whole : IsRightWhole (tracing w) K b k whole
+  traced_whole = record {
+    formula = f;
+    is_rule = is_rule;
+    right = traced_right;
+    needed = traced_needs;
+    there = λ part more m ends followed. traced_there part more m ends;
+    before = λ part more n stops. ((λ held. of.looks), traced_before part more n stops);
+    may = λ j among. subst (λ ks. Among ks j) (sym (asks_needs w of b k)) among;
+  }
 
 module _ (w : Way) (of : OfNeeds w) (K : SomeKept) (b : Book) (H : List Book) (base : IsBase K b H) (t : Truth) (k : List ℕ) (p : Tries) (job : IsTracedJob w K b t k p) where
-  known_clean : AnswersOf (clean b) job.further
-  known_clean = known_more t (clean b) job.further job.within job.known
+  abbrev whole_of : Asks Made
+  whole_of = tries job.checks (task_left k (asks b.kind job.formula))
+
+  is_whole : IsRightWhole (tracing w) K b k whole_of
+  is_whole = traced_whole w of K b H base k job.formula job.is_rule job.checks job.tried
 
   -- such a job is one for the key's clean value
   pub traced_fits : FitsLeft (left_of p) (clean b) k (clean b k) (needs b k) (may_ask (tracing w) b k)
-  traced_fits = record {
-    ends = λ m is. let right = traced_right w of K b H base k job.formula job.is_rule job.checks job.tried m (went_run (clean b) (tries job.checks (task_left k (asks b.kind job.formula))) (left_of p) job.further job.went known_clean ∙ is) in
-        (right.key, right.value, right_links w K b k job.formula m job.is_rule right);
-    needed = λ j among. traced_needs w of K b H base k job.formula job.is_rule job.checks job.tried j (subst (λ ks. Among ks j) (sym (went_asked (clean b) (tries job.checks (task_left k (asks b.kind job.formula))) (left_of p) job.further job.went known_clean)) (behind j among));
-    asks_needs = λ j among. subst (λ ks. Among ks j) (sym (asks_needs w of b k)) among;
-  }
-    where
-      behind : (j : List ℕ) → Among (asked (clean b) (left_of p)) j → Among (names_of job.further ++ asked (clean b) (left_of p)) j
-      behind j among = among_right (names_of job.further) (asked (clean b) (left_of p)) j among
+  traced_fits = whole_fits (tracing w) K b k whole_of is_whole (left_of p) job.further (known_more t (clean b) job.further job.within job.known) job.went
 
-  module _ (part : Truth) (grown : Extends t part) (is_part : IsPart b part) where
-    -- further answers, behind those of before
-    went_further : (a : Answers) (r : Asks Made) → AnswersOf part a → Went (left_of p) a r → AnswersOf part (job.further ++ a) × Went (tries job.checks (task_left k (asks b.kind job.formula))) (job.further ++ a) r
-    went_further a r known went = (
-      answers_on part job.further a (known_more t part job.further grown job.known) known,
-      went_on (tries job.checks (task_left k (asks b.kind job.formula))) (left_of p) r job.further a job.went went,
-    )
-
-    runs_as : (a : Answers) (r : Asks Made) → AnswersOf part a → Went (left_of p) a r → run part (tries job.checks (task_left k (asks b.kind job.formula))) ≡ run part r
-    runs_as a r known went = let g = went_further a r known went in went_run part (tries job.checks (task_left k (asks b.kind job.formula))) r (job.further ++ a) g.1 g.0
-
-    goes_job : (a : Answers) (q : Tries) → AnswersOf part a → Went (left_of p) a (left_of q) → IsTracedJob w K b part k q
-    goes_job a q known went =
-        let g = went_further a (left_of q) known went in
-        record { formula = job.formula; is_rule = job.is_rule; checks = job.checks; tried = job.tried; within = is_part.part; further = job.further ++ a; known = g.0; went = g.1 }
-
-    -- over the inputs and some of the other clean values it makes what is right, or goes on
-    pub traced_goes : (a : Answers) (step : Step) (q : Tries) → Gives (left_of p) part a step (left_of q) → GoesOver (tracing w) K b k part (λ u j. IsTracedJob w K b u k j) step q
-    traced_goes a (came m) q (known, went) =
-        let ends : run part (tries job.checks (task_left k (asks b.kind job.formula))) ≡ Ok m = runs_as a (done m) known went in (
-          traced_right w of K b H base k job.formula job.is_rule job.checks job.tried m (run_kept part (clean b) (tries job.checks (task_left k (asks b.kind job.formula))) m is_part.part ends),
-          (λ followed. traced_there w of K b H base k job.formula job.is_rule job.checks job.tried part is_part.part m ends),
-        )
-    traced_goes a (stopped n) q (known, went, (go, is), none) =
-        let stops : run part (tries job.checks (task_left k (asks b.kind job.formula))) ≡ Err n = runs_as a (left_of q) known went ∙ ap (run part) is ∙ stop_here go none in (
-          goes_job a q known went,
-          (λ held. of.looks),
-          traced_before w of K b H base k job.formula job.is_rule job.checks job.tried part is_part.part n stops,
-        )
-      where
-        stop_here : (go : Value → Asks Made) → part n ≡ None → run part (ask n go) ≡ Err n
-        stop_here go none = rw none refl
-    traced_goes a no_memory q (known, went) = goes_job a q known went
+  -- over the inputs and some of the other clean values it makes what is right, or goes on
+  pub traced_goes : (part : Truth) → Extends t part → IsPart b part → (a : Answers) (step : Step) (q : Tries) → Gives (left_of p) part a step (left_of q) → GoesOver (tracing w) K b k part (λ u j. IsTracedJob w K b u k j) step q
+  traced_goes part grown is_part a step q gives =
+      whole_goes (tracing w) K b k whole_of is_whole left_of (λ u j. IsTracedJob w K b u k j) t part grown is_part
+        (λ c n known went. record { formula = job.formula; is_rule = job.is_rule; checks = job.checks; tried = job.tried; within = is_part.part; further = c; known = known; went = went })
+        p job.further job.known job.went a step q gives
