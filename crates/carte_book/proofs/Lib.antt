@@ -5,3 +5,5 @@ pub mod RuleNames
 pub mod Fitting
 pub mod Digests
 pub mod Orders
+pub mod Stuck
+pub mod Reasoned

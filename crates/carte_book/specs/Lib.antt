@@ -7,3 +7,4 @@ pub mod Dynamic
 pub mod Looked
 pub mod Edits
 pub mod Digest
+pub mod Stuck

@@ -10,6 +10,7 @@ ghost use Rattle.carte_book.specs.Digest.{OneDigest};
 ghost use Rattle.carte_book.specs.Dynamic.{NoDynamicPath, IsOrderReason};
 ghost use Rattle.carte_book.specs.Edits.{with_item};
 ghost use Rattle.carte_book.specs.Reason.{AllClean, IsReason};
+ghost use Rattle.carte_book.specs.Stuck.{StuckIsLastNeed, CleanOrReason};
 ghost use Rattle.carte_book.specs.declared.reason.Reason.{Reason};
 
 /// The clean values are a fixpoint: one more round of evaluation changes none.
@@ -57,4 +58,16 @@ pub fn order_clean_or_refused()
 /// Books of one kind with the same rules have one digest, whatever texts their formulas were read from.
 pub fn one_digest()
     ensures { OneDigest }
+{}
+
+/// A rule is stuck at a need exactly where that is the last of its needs and has no clean value.
+#[tactic(auto, using(crate::proofs::Stuck::stuck_both))]
+pub fn stuck_need_is_last()
+    ensures { (b : Book) (k j : List ℕ) → StuckIsLastNeed b k j }
+{}
+
+/// Targets have clean values, or there is a reason why a build of them is refused.
+#[tactic(auto, using(crate::proofs::Reasoned::reason_or_clean))]
+pub fn reason_or_clean()
+    ensures { (b : Book) (targets : List (List ℕ)) → CleanOrReason b targets }
 {}

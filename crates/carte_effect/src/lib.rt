@@ -24,6 +24,8 @@ mod look;
 mod outcome;
 mod refs_only;
 mod runs;
+#[cfg(test)]
+mod tests;
 mod tracked;
 
 pub use each::Each;

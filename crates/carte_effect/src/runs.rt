@@ -57,35 +57,25 @@ impl Runs {
         ensures { self.new ≡ (if is_ok result then with_later self.old later else self.old) }
     {
         let len = self.starts.len();
-        match self.starts.append(later.starts) {
-            Ok(()) => match self.ends.append(later.ends) {
-                Ok(()) => Ok(()),
-                Err(refused) => {
-                    self.starts.truncate(len);
-                    Err(refused)
-                }
-            },
-            Err(refused) => Err(refused),
+        self.starts.append(later.starts)?;
+        if let Err(refused) = self.ends.append(later.ends) {
+            self.starts.truncate(len);
+            return Err(refused);
         }
+        Ok(())
     }
 
     /// Counts a start. For those who write tasks and jobs.
     pub fn start(&mut self, alloc: Global, key: &Name) -> Result<(), NoMemory>
         ensures { self.new ≡ (if is_ok result then with_start self.old key.now else self.old) }
     {
-        match key.copy(alloc) {
-            Ok(key) => self.starts.push(key),
-            Err(refused) => Err(refused),
-        }
+        self.starts.push(key.copy(alloc)?)
     }
 
     /// Counts an end. For those who write tasks and jobs.
     pub fn end(&mut self, alloc: Global, key: &Name) -> Result<(), NoMemory>
         ensures { self.new ≡ (if is_ok result then with_end self.old key.now else self.old) }
     {
-        match key.copy(alloc) {
-            Ok(key) => self.ends.push(key),
-            Err(refused) => Err(refused),
-        }
+        self.ends.push(key.copy(alloc)?)
     }
 }

@@ -1,10 +1,10 @@
 -- The depth that the stack counts is that of its frames.
-use Rattle.std.proofs.Common.{List, [], ◌∷◌, ◌≡◌, refl, arith}
+use Rattle.std.proofs.Common.{List, [], ◌∷◌, length, ◌≡◌, ◌≤◌, refl, arith}
 use Rattle.carte_formula.specs.Frames.{depth_in}
 use Rattle.carte_formula.specs.Parser.{frames_of}
 use Rattle.carte_formula.specs.Reading.{depth_of}
-use Rattle.carte_formula.specs.declared.stack.Frame.{Frame}
-use Rattle.carte_formula.specs.declared.stack.Frame.TheVariants as code
+use Rattle.carte_formula.specs.declared.parser.frames.Frame.{Frame}
+use Rattle.carte_formula.specs.declared.parser.frames.Frame.TheVariants as code
 
 pub depth_same : (S : List Frame) → depth_of (frames_of S) ≡ depth_in S
 depth_same [] = refl
@@ -12,3 +12,10 @@ depth_same (code.Sign b ∷ S) = let h = depth_same S in omega arith
 depth_same (code.Chain c ∷ S) = let h = depth_same S in omega arith
 depth_same (code.Group ∷ S) = let h = depth_same S in omega arith
 depth_same (code.Call f xs ∷ S) = let h = depth_same S in omega arith
+
+pub depth_at_most : (S : List Frame) → depth_in S ≤ length S
+depth_at_most [] = omega arith
+depth_at_most (code.Sign b ∷ S) = let h = depth_at_most S in omega arith
+depth_at_most (code.Chain c ∷ S) = let h = depth_at_most S in omega arith
+depth_at_most (code.Group ∷ S) = let h = depth_at_most S in omega arith
+depth_at_most (code.Call f xs ∷ S) = let h = depth_at_most S in omega arith

@@ -216,37 +216,37 @@ shallow_on ts t h low k = elim (lt_or k (length ts)) [
 ]
 
 -- what a state and the tokens behind it are read as
-reads_end : (o : Option Tree) (s : State) (front : List Placed) (size : ℕ) → end_of s ≡ o → Reached s (tokens_of front) → Shallow (tokens_of front) → ReadAs front size (or_syntax o size)
-reads_end None s front size is r low =
-    (front, [], sym (append-nil front), viable (tokens_of front) s r.0, low, (refl, (λ e h. let p : parsed (wants []) (tokens_of front) ≡ Some e = complete h in let q : parsed (wants []) (tokens_of front) ≡ end_of s = rest_none s (tokens_of front) r.0 in let z : ⊥ = cc in z)))
-reads_end (Some e) s front size is r low = (sound (tokens_of front) e (rest_none s (tokens_of front) r.0 ∙ is), low)
+reads_end : (o : Option Tree) (s : State) (prefix : List Placed) (size : ℕ) → end_of s ≡ o → Reached s (tokens_of prefix) → Shallow (tokens_of prefix) → ReadAs prefix size (or_syntax o size)
+reads_end None s prefix size is r low =
+    (prefix, [], sym (append-nil prefix), viable (tokens_of prefix) s r.0, low, (refl, (λ e h. let p : parsed (wants []) (tokens_of prefix) ≡ Some e = complete h in let q : parsed (wants []) (tokens_of prefix) ≡ end_of s = rest_none s (tokens_of prefix) r.0 in let z : ⊥ = cc in z)))
+reads_end (Some e) s prefix size is r low = (sound (tokens_of prefix) e (rest_none s (tokens_of prefix) r.0 ∙ is), low)
 
 pub tokens_append : (ps qs : List Placed) → tokens_of (ps ++ qs) ≡ tokens_of ps ++ tokens_of qs
 tokens_append [] qs = refl
 tokens_append (p ∷ ps) qs = ap (λ ts. p.token ∷ ts) (tokens_append ps qs)
 
-reads_deep : (b : Bool) (s u : State) (front ps : List Placed) (p : Placed) (size : ℕ) (go : Result Tree FormulaFault) → nat_lt 64 (depth u) ≡ b → Reached s (tokens_of front) → Shallow (tokens_of front)
-    → Reached u (tokens_of front ++ p.token ∷ []) → (Shallow (tokens_of front ++ p.token ∷ []) → ReadAs (front ++ (p ∷ ps)) size go)
-    → ReadAs (front ++ (p ∷ ps)) size (if b then Err (TooDeep p.place) else go)
-reads_deep true s u front ps p size go is r low q next =
-    (front, p ∷ ps, refl, low, (refl, viable (tokens_of front ++ p.token ∷ []) u q.0, rw (around_is u (tokens_of front ++ p.token ∷ []) q) (ltb-true 64 (depth u) is)))
-reads_deep false s u front ps p size go is r low q next =
-    next (shallow_on (tokens_of front) p.token low (rw (around_is u (tokens_of front ++ p.token ∷ []) q) (ltb-false 64 (depth u) is)))
+reads_deep : (b : Bool) (s u : State) (prefix ps : List Placed) (p : Placed) (size : ℕ) (go : Result Tree FormulaFault) → nat_lt 64 (depth u) ≡ b → Reached s (tokens_of prefix) → Shallow (tokens_of prefix)
+    → Reached u (tokens_of prefix ++ p.token ∷ []) → (Shallow (tokens_of prefix ++ p.token ∷ []) → ReadAs (prefix ++ (p ∷ ps)) size go)
+    → ReadAs (prefix ++ (p ∷ ps)) size (if b then Err (TooDeep p.place) else go)
+reads_deep true s u prefix ps p size go is r low q next =
+    (prefix, p ∷ ps, refl, low, (refl, viable (tokens_of prefix ++ p.token ∷ []) u q.0, rw (around_is u (tokens_of prefix ++ p.token ∷ []) q) (ltb-true 64 (depth u) is)))
+reads_deep false s u prefix ps p size go is r low q next =
+    next (shallow_on (tokens_of prefix) p.token low (rw (around_is u (tokens_of prefix ++ p.token ∷ []) q) (ltb-false 64 (depth u) is)))
 
-reads_deeper : (o : Option State) (s : State) (front ps : List Placed) (p : Placed) (size : ℕ) → next_state s p.token ≡ o → Reached s (tokens_of front) → Shallow (tokens_of front)
-    → ((u : State) → Reached u (tokens_of front ++ p.token ∷ []) → Shallow (tokens_of front ++ p.token ∷ []) → ReadAs (front ++ (p ∷ ps)) size (tokens_read u ps size))
-    → ReadAs (front ++ (p ∷ ps)) size (deeper o p.place (λ u. tokens_read u ps size))
-reads_deeper None s front ps p size is r low go =
-    (front, p ∷ ps, refl, viable (tokens_of front) s r.0, low, (refl, stuck (tokens_of front ++ p.token ∷ []) (stuck_on s (tokens_of front) p.token (wants []) r.0 is)))
-reads_deeper (Some u) s front ps p size is r low go =
-    let q : Reached u (tokens_of front ++ p.token ∷ []) = reached_on s u (tokens_of front) p.token r is in
-    reads_deep (nat_lt 64 (depth u)) s u front ps p size (tokens_read u ps size) refl r low q (go u q)
+reads_deeper : (o : Option State) (s : State) (prefix ps : List Placed) (p : Placed) (size : ℕ) → next_state s p.token ≡ o → Reached s (tokens_of prefix) → Shallow (tokens_of prefix)
+    → ((u : State) → Reached u (tokens_of prefix ++ p.token ∷ []) → Shallow (tokens_of prefix ++ p.token ∷ []) → ReadAs (prefix ++ (p ∷ ps)) size (tokens_read u ps size))
+    → ReadAs (prefix ++ (p ∷ ps)) size (deeper o p.place (λ u. tokens_read u ps size))
+reads_deeper None s prefix ps p size is r low go =
+    (prefix, p ∷ ps, refl, viable (tokens_of prefix) s r.0, low, (refl, stuck (tokens_of prefix ++ p.token ∷ []) (stuck_on s (tokens_of prefix) p.token (wants []) r.0 is)))
+reads_deeper (Some u) s prefix ps p size is r low go =
+    let q : Reached u (tokens_of prefix ++ p.token ∷ []) = reached_on s u (tokens_of prefix) p.token r is in
+    reads_deep (nat_lt 64 (depth u)) s u prefix ps p size (tokens_read u ps size) refl r low q (go u q)
 
-reads_on : (s : State) (front ps : List Placed) (size : ℕ) → Reached s (tokens_of front) → Shallow (tokens_of front) → ReadAs (front ++ ps) size (tokens_read s ps size)
-reads_on s front [] size r low = rw append-nil (reads_end (end_of s) s front size refl r low)
-reads_on s front (p ∷ ps) size r low =
-    reads_deeper (next_state s p.token) s front ps p size refl r low
-    (λ u q l. rw (← append_assoc front (p ∷ []) ps) (reads_on u (front ++ p ∷ []) ps size (rw (tokens_append front (p ∷ [])) q) (rw (tokens_append front (p ∷ [])) l)))
+reads_on : (s : State) (prefix ps : List Placed) (size : ℕ) → Reached s (tokens_of prefix) → Shallow (tokens_of prefix) → ReadAs (prefix ++ ps) size (tokens_read s ps size)
+reads_on s prefix [] size r low = rw append-nil (reads_end (end_of s) s prefix size refl r low)
+reads_on s prefix (p ∷ ps) size r low =
+    reads_deeper (next_state s p.token) s prefix ps p size refl r low
+    (λ u q l. rw (← append_assoc prefix (p ∷ []) ps) (reads_on u (prefix ++ p ∷ []) ps size (rw (tokens_append prefix (p ∷ [])) q) (rw (tokens_append prefix (p ∷ [])) l)))
 
 pub reads : (ps : List Placed) (size : ℕ) → ReadAs ps size (tokens_read (wants []) ps size)
 reads ps size = reads_on (wants []) [] ps size (refl, refl, refl) (λ k. take_none k)

@@ -20,3 +20,4 @@ pub mod Unpaired
 pub mod Taking
 pub mod Formulas
 pub mod ReadWhole
+pub mod Longest

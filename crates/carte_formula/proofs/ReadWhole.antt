@@ -17,34 +17,34 @@ use Rattle.carte_formula.proofs.Formulas.{spelt_expr, spelt_names}
 
 pub bad_token : (q : Kind) (bytes : List ℕ) (f : FormulaFault) → length bytes ≤ 4096 → LexedTo (lexed q idle 0 bytes) (Err f) → Reads q bytes (Err f)
 bad_token q bytes (BadToken place) low h = (low, h)
-bad_token q bytes NoMemory low h = tt
+bad_token q bytes NoMemory low h = low
 bad_token q bytes (BadSyntax place) low h = absurd h
 bad_token q bytes (TooDeep place) low h = absurd h
 bad_token q bytes (TooLong place) low h = absurd h
 bad_token q bytes (TooWide place) low h = absurd h
 
 -- what tokens are read as, with the width of their ranges
-with_both : (q : Kind) (bytes : List ℕ) (ps : List Placed) (r : Result Tree FormulaFault) (w : Option ℕ) → length bytes ≤ 4096 → lexed q idle 0 bytes ≡ Ok ps → ReadAs ps (length bytes) r → wide_from 0 ps ≡ w → Reads q bytes (with_width r w)
+pub with_both : (q : Kind) (bytes : List ℕ) (ps : List Placed) (r : Result Tree FormulaFault) (w : Option ℕ) → length bytes ≤ 4096 → lexed q idle 0 bytes ≡ Ok ps → ReadAs ps (length bytes) r → wide_from 0 ps ≡ w → Reads q bytes (with_width r w)
 with_both q bytes ps (Ok e) None low is r w = (low, ps, is, r, w)
 with_both q bytes ps (Ok e) (Some place) low is r w = (low, ps, is, e, r, w)
 with_both q bytes ps (Err (BadSyntax place)) o low is r w = (low, ps, is, r)
 with_both q bytes ps (Err (TooDeep place)) o low is r w = (low, ps, is, r)
-with_both q bytes ps (Err NoMemory) o low is r w = tt
+with_both q bytes ps (Err NoMemory) o low is r w = low
 with_both q bytes ps (Err (BadToken place)) o low is r w = absurd r
 with_both q bytes ps (Err (TooLong place)) o low is r w = absurd r
 with_both q bytes ps (Err (TooWide place)) o low is r w = absurd r
 
-told : (q : Kind) (bytes : List ℕ) (r : Result Expr FormulaFault) (s : Result Tree FormulaFault) → ReadsTo r s → Reads q bytes s → Reads q bytes (as_tree r)
-told q bytes (Ok e) s is h = rw is at h
-told q bytes (Err NoMemory) s is h = tt
-told q bytes (Err (BadSyntax place)) s is h = rw is at h
-told q bytes (Err (TooDeep place)) s is h = rw is at h
-told q bytes (Err (BadToken place)) s is h = rw is at h
-told q bytes (Err (TooLong place)) s is h = rw is at h
-told q bytes (Err (TooWide place)) s is h = rw is at h
+told : (q : Kind) (bytes : List ℕ) (r : Result Expr FormulaFault) (s : Result Tree FormulaFault) → length bytes ≤ 4096 → ReadsTo r s → Reads q bytes s → Reads q bytes (as_tree r)
+told q bytes (Ok e) s low is h = rw is at h
+told q bytes (Err NoMemory) s low is h = low
+told q bytes (Err (BadSyntax place)) s low is h = rw is at h
+told q bytes (Err (TooDeep place)) s low is h = rw is at h
+told q bytes (Err (BadToken place)) s low is h = rw is at h
+told q bytes (Err (TooLong place)) s low is h = rw is at h
+told q bytes (Err (TooWide place)) s low is h = rw is at h
 
 pub tokens_told : (q : Kind) (bytes : List ℕ) (ps : List Placed) (r : Result Expr FormulaFault) → length bytes ≤ 4096 → lexed q idle 0 bytes ≡ Ok ps → ReadsTo r (with_width (tokens_read (wants []) ps (length bytes)) (wide_from 0 ps)) → Reads q bytes (as_tree r)
-tokens_told q bytes ps r low is h = told q bytes r (with_width (tokens_read (wants []) ps (length bytes)) (wide_from 0 ps)) h (with_both q bytes ps (tokens_read (wants []) ps (length bytes)) (wide_from 0 ps) low is (reads ps (length bytes)) refl)
+tokens_told q bytes ps r low is h = told q bytes r (with_width (tokens_read (wants []) ps (length bytes)) (wide_from 0 ps)) low h (with_both q bytes ps (tokens_read (wants []) ps (length bytes)) (wide_from 0 ps) low is (reads ps (length bytes)) refl)
 
 pub read_expr : (q : Kind) (bytes : List ℕ) (e : Tree) → Reads q bytes (Ok e) → IsExpr e
 read_expr q bytes e (low, ps, is, (spells, shallow), w) = spelt_expr q spells (lexed_kind q bytes ps is)

@@ -1,18 +1,20 @@
 -- A text is read in one way, and what is printed is read again as it was.
-use Rattle.std.proofs.Common.{ℕ, List, [], length, ◌≡◌, ◌≤◌, ◌+◌, Result, Ok, Err, if◌then◌else◌, refl, sym, ◌∙◌, ap, arith, nat_lt}
-use Rattle.std.proofs.lemmas.Bool.{le-ltb, lt-ltb}
+use Rattle.std.proofs.Common.{ℕ, Bool, true, false, List, [], length, Option, Some, None, ◌≡◌, ◌≤◌, ◌+◌, Result, Ok, Err, if◌then◌else◌, refl, sym, ◌∙◌, ap, arith, nat_lt}
+use Rattle.std.proofs.lemmas.Bool.{le-ltb, lt-ltb, ltb-true, ltb-false}
 use Rattle.carte_value.specs.declared.kind.Kind.{Kind}
 use Rattle.carte_tree.specs.Tree.{Tree}
 use Rattle.carte_formula.specs.Grammar.{Spells}
 use Rattle.carte_formula.specs.Machine.{wants}
-use Rattle.carte_formula.specs.Reading.{FormulaFault, BadToken, BadSyntax, TooDeep, TooLong, TooWide, NoMemory, Placed, tokens_of, tokens_read}
+use Rattle.carte_formula.specs.Reading.{FormulaFault, BadToken, BadSyntax, TooDeep, TooLong, TooWide, NoMemory, Placed, tokens_of, ReadAs, tokens_read}
 use Rattle.carte_formula.specs.Print.{shown, AllOfKind}
 use Rattle.carte_formula.specs.Lexer.{idle, lexed, text_of}
 use Rattle.carte_tree.specs.Printed.{printed}
-use Rattle.carte_formula.specs.Whole.{IsTold, width, with_width, wide_from, Tokens, SpelledBy, Reads}
+use Rattle.carte_formula.specs.Whole.{IsTold, width, with_width, wide_from, with_tokens, reading, Tokens, SpelledBy, Reads}
 use Rattle.carte_formula.proofs.Complete.{complete}
 use Rattle.carte_formula.proofs.Viable.{one_tree}
+use Rattle.carte_formula.proofs.Faults.{reads}
 use Rattle.carte_formula.proofs.Readings.{read_so}
+use Rattle.carte_formula.proofs.ReadWhole.{with_both}
 use Rattle.carte_formula.proofs.Again.{again, bare}
 use Rattle.carte_formula.proofs.ShownKind.{shown_kind}
 use Rattle.carte_formula.proofs.Heights.{shown_shallow}
@@ -22,18 +24,11 @@ use Rattle.carte_formula.proofs.Lexing.{lexes}
 use Rattle.carte_formula.proofs.Lexed.{lexed_kind}
 use Rattle.carte_formula.proofs.Texts.{printed_shown}
 
--- what a text is read as, as a function
-abbrev with_tokens : Result (List Placed) ℕ → ℕ → Result Tree FormulaFault
-with_tokens (Err place) size = Err (BadToken place)
-with_tokens (Ok ps) size = with_width (tokens_read (wants []) ps size) (wide_from 0 ps)
-
-abbrev text_read : Kind → List ℕ → Result Tree FormulaFault
-text_read q bytes = if nat_lt 4096 (length bytes) then Err (TooLong (length bytes)) else with_tokens (lexed q idle 0 bytes) (length bytes)
-
-short_read : (q : Kind) (bytes : List ℕ) → length bytes ≤ 4096 → text_read q bytes ≡ with_tokens (lexed q idle 0 bytes) (length bytes)
+short_read : (q : Kind) (bytes : List ℕ) → length bytes ≤ 4096 → reading q bytes ≡ with_tokens (lexed q idle 0 bytes) (length bytes)
 short_read q bytes h = rw (le-ltb 4096 (length bytes) h) refl
 
-told : (q : Kind) (bytes : List ℕ) (r : Result Tree FormulaFault) → Reads q bytes r → IsTold r → text_read q bytes ≡ r
+-- in no other way, unless there is no memory
+told : (q : Kind) (bytes : List ℕ) (r : Result Tree FormulaFault) → Reads q bytes r → IsTold r → reading q bytes ≡ r
 told q bytes (Ok e) (low, ps, is, r, w) t = short_read q bytes low ∙ ap (λ x. with_tokens x (length bytes)) is ∙ ap (λ x. with_width x (wide_from 0 ps)) (read_so ps (length bytes) (Ok e) r) ∙ ap (λ x. with_width (Ok e) x) w
 told q bytes (Err (TooLong n)) (more, is) t = rw (lt-ltb 4096 (length bytes) more, is) refl
 told q bytes (Err (BadToken place)) (low, is) t = short_read q bytes low ∙ ap (λ x. with_tokens x (length bytes)) is
@@ -41,6 +36,42 @@ told q bytes (Err (BadSyntax place)) (low, ps, is, r) t = short_read q bytes low
 told q bytes (Err (TooDeep place)) (low, ps, is, r) t = short_read q bytes low ∙ ap (λ x. with_tokens x (length bytes)) is ∙ ap (λ x. with_width x (wide_from 0 ps)) (read_so ps (length bytes) (Err (TooDeep place)) r)
 told q bytes (Err (TooWide place)) (low, ps, is, e, r, w) t = short_read q bytes low ∙ ap (λ x. with_tokens x (length bytes)) is ∙ ap (λ x. with_width x (wide_from 0 ps)) (read_so ps (length bytes) (Ok e) r) ∙ ap (λ x. with_width (Ok e) x) w
 told q bytes (Err NoMemory) h t = absurd t
+
+pub only_reading : (q : Kind) (bytes : List ℕ) (r : Result Tree FormulaFault) → Reads q bytes r → IsTold r → r ≡ reading q bytes
+only_reading q bytes r h t = sym (told q bytes r h t)
+
+-- and so each text is read
+reads_tokens : (q : Kind) (bytes : List ℕ) (r : Result (List Placed) ℕ) → length bytes ≤ 4096 → lexed q idle 0 bytes ≡ r → Reads q bytes (with_tokens r (length bytes))
+reads_tokens q bytes (Err place) low is = (low, is)
+reads_tokens q bytes (Ok ps) low is = with_both q bytes ps (tokens_read (wants []) ps (length bytes)) (wide_from 0 ps) low is (reads ps (length bytes)) refl
+
+reads_by : (long : Bool) (q : Kind) (bytes : List ℕ) → nat_lt 4096 (length bytes) ≡ long → Reads q bytes (if long then Err (TooLong (length bytes)) else with_tokens (lexed q idle 0 bytes) (length bytes))
+reads_by true q bytes is = (ltb-true 4096 (length bytes) is, refl)
+reads_by false q bytes is = reads_tokens q bytes (lexed q idle 0 bytes) (ltb-false 4096 (length bytes) is) refl
+
+pub reads_reading : (q : Kind) (bytes : List ℕ) → Reads q bytes (reading q bytes)
+reads_reading q bytes = reads_by (nat_lt 4096 (length bytes)) q bytes refl
+
+told_width : (ps : List Placed) (size : ℕ) (r : Result Tree FormulaFault) (w : Option ℕ) → ReadAs ps size r → IsTold (with_width r w)
+told_width ps size (Ok e) None h = tt
+told_width ps size (Ok e) (Some place) h = tt
+told_width ps size (Err (BadSyntax place)) w h = tt
+told_width ps size (Err (TooDeep place)) w h = tt
+told_width ps size (Err (BadToken place)) w h = tt
+told_width ps size (Err (TooLong place)) w h = tt
+told_width ps size (Err (TooWide place)) w h = tt
+told_width ps size (Err NoMemory) w h = absurd h
+
+told_tokens : (r : Result (List Placed) ℕ) (size : ℕ) → IsTold (with_tokens r size)
+told_tokens (Err place) size = tt
+told_tokens (Ok ps) size = told_width ps size (tokens_read (wants []) ps size) (wide_from 0 ps) (reads ps size)
+
+told_by : (long : Bool) (q : Kind) (bytes : List ℕ) → IsTold (if long then Err (TooLong (length bytes)) else with_tokens (lexed q idle 0 bytes) (length bytes))
+told_by true q bytes = tt
+told_by false q bytes = told_tokens (lexed q idle 0 bytes) (length bytes)
+
+pub told_reading : (q : Kind) (bytes : List ℕ) → IsTold (reading q bytes)
+told_reading q bytes = told_by (nat_lt 4096 (length bytes)) q bytes
 
 -- a text is read in one way at most
 pub one_reading : (q : Kind) (bytes : List ℕ) (r s : Result Tree FormulaFault) → Reads q bytes r → Reads q bytes s → IsTold r → IsTold s → r ≡ s

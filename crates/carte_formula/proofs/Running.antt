@@ -19,7 +19,7 @@ slice_more bytes from at h k =
     let m : from + (at - from) ≡ at = omega arith in
     rw n (take_more (drop from bytes) (at - from) 0 (rw (length-drop from bytes) (omega arith)) ∙ ap (λ b. slice_range bytes from at ++ b ∷ []) (get_or-drop from bytes (at - from) 0 ∙ ap (λ i. get_or bytes i 0) m))
 
-last_of : (bs : List ℕ) (b : ℕ) → slice_index (bs ++ b ∷ []) (length (bs ++ b ∷ []) - 1) ≡ b
+pub last_of : (bs : List ℕ) (b : ℕ) → slice_index (bs ++ b ∷ []) (length (bs ++ b ∷ []) - 1) ≡ b
 last_of bs b = let n : length (bs ++ b ∷ []) - 1 ≡ length bs + 0 = simp length-append (omega arith) in ap (λ i. get_or (bs ++ b ∷ []) i 0) n ∙ get_or-append-add bs (b ∷ []) 0 0
 
 first_kept : (bs : List ℕ) (b : ℕ) → 0 < length bs → slice_index (bs ++ b ∷ []) 0 ≡ slice_index bs 0
@@ -29,7 +29,7 @@ none_is : {P : Type 0} (e : Class) → ◌≡◌ {A = Option Class} None (Some e
 none_is e h = absurd (let z : ⊥ = cc in z)
 
 -- a run that goes on does so with a byte that passes, as what it was
-goes : (b : Bool) (c e : Class) → going_on b c ≡ Some e → (b ≡ true) × (c ≡ e)
+pub goes : (b : Bool) (c e : Class) → going_on b c ≡ Some e → (b ≡ true) × (c ≡ e)
 goes true c e h = (refl, (let z : c ≡ e = cc in z))
 goes false c e h = none_is e h
 
@@ -39,7 +39,7 @@ LastAscii bs = slice_index bs (length bs - 1) < 128
 ascii_last : (bs : List ℕ) (b : ℕ) → b < 128 → LastAscii (bs ++ b ∷ [])
 ascii_last bs b h = rw (last_of bs b) h
 
-or_cases : (a b : Bool) → (a || b) ≡ true → (a ≡ true) ⊎ (b ≡ true)
+pub or_cases : (a b : Bool) → (a || b) ≡ true → (a ≡ true) ⊎ (b ≡ true)
 or_cases true b h = inl refl
 or_cases false b h = inr h
 

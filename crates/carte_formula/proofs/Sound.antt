@@ -222,14 +222,14 @@ ended_is (corner k f xs S) ts s = tt
 ended_is (half k f xs S) ts s = tt
 ended_is (ranged a f xs S) ts s = tt
 
-with_keeps : (o : Option State) (front ts : List Token) → Keeps o front → ((u : State) → Stands u front → Spelt (parsed u ts) (front ++ ts)) → Spelt (with o (λ u. parsed u ts)) (front ++ ts)
-with_keeps None front ts h go = tt
-with_keeps (Some u) front ts h go = go u h
+with_keeps : (o : Option State) (prefix ts : List Token) → Keeps o prefix → ((u : State) → Stands u prefix → Spelt (parsed u ts) (prefix ++ ts)) → Spelt (with o (λ u. parsed u ts)) (prefix ++ ts)
+with_keeps None prefix ts h go = tt
+with_keeps (Some u) prefix ts h go = go u h
 
-pub spells_on : (s : State) (front ts : List Token) → Stands s front → Spelt (parsed s ts) (front ++ ts)
-spells_on s front [] h = rw append-nil (ended_is s front h)
-spells_on s front (t ∷ ts) h =
-    rw (← append_assoc front (t ∷ []) ts) (with_keeps (next_state s t) (front ++ t ∷ []) ts (keeps s t front h) (λ u k. spells_on u (front ++ t ∷ []) ts k))
+pub spells_on : (s : State) (prefix ts : List Token) → Stands s prefix → Spelt (parsed s ts) (prefix ++ ts)
+spells_on s prefix [] h = rw append-nil (ended_is s prefix h)
+spells_on s prefix (t ∷ ts) h =
+    rw (← append_assoc prefix (t ∷ []) ts) (with_keeps (next_state s t) (prefix ++ t ∷ []) ts (keeps s t prefix h) (λ u k. spells_on u (prefix ++ t ∷ []) ts k))
 
 -- what the machine gives is a formula that the tokens spell
 pub sound : (ts : List Token) (e : Tree) → parsed (wants []) ts ≡ Some e → Spells 4 ts e

@@ -111,29 +111,29 @@ ends (corner k f xs S) = ends_corner k f xs S (ways (args f xs ∷ S) (ref k)).0
 ends (half k f xs S) = ends_by (half k f xs S) (cell k) (ranged (area_of k k) f xs S, refl, ends_ranged (area_of k k) f xs S)
 ends (ranged a f xs S) = ends_ranged a f xs S
 
-with_moved : (o : Option State) (s : State) (front rest : List Token) (e : Tree) → ((u : State) → moved u front ≡ Some s → parsed u (front ++ rest) ≡ Some e)
-    → with o (λ u. moved u front) ≡ Some s → with o (λ u. parsed u (front ++ rest)) ≡ Some e
-with_moved None s front rest e go h = absurd (let z : ⊥ = cc in z)
-with_moved (Some u) s front rest e go h = go u h
+with_moved : (o : Option State) (s : State) (prefix rest : List Token) (e : Tree) → ((u : State) → moved u prefix ≡ Some s → parsed u (prefix ++ rest) ≡ Some e)
+    → with o (λ u. moved u prefix) ≡ Some s → with o (λ u. parsed u (prefix ++ rest)) ≡ Some e
+with_moved None s prefix rest e go h = absurd (let z : ⊥ = cc in z)
+with_moved (Some u) s prefix rest e go h = go u h
 
-parsed_moved : (u s : State) (front rest : List Token) (e : Tree) → moved u front ≡ Some s → parsed s rest ≡ Some e → parsed u (front ++ rest) ≡ Some e
+parsed_moved : (u s : State) (prefix rest : List Token) (e : Tree) → moved u prefix ≡ Some s → parsed s rest ≡ Some e → parsed u (prefix ++ rest) ≡ Some e
 parsed_moved u s [] rest e m p = let h : u ≡ s = cc in rw h p
-parsed_moved u s (t ∷ front) rest e m p = with_moved (next_state u t) s front rest e (λ w k. parsed_moved w s front rest e k p) m
+parsed_moved u s (t ∷ prefix) rest e m p = with_moved (next_state u t) s prefix rest e (λ w k. parsed_moved w s prefix rest e k p) m
 
-pub viable : (front : List Token) (s : State) → moved (wants []) front ≡ Some s → Viable front
-viable front s m = ((ends s).0, (ends s).1, sound (front ++ (ends s).0) (ends s).1 (parsed_moved (wants []) s front (ends s).0 (ends s).1 m (ends s).2))
+pub viable : (prefix : List Token) (s : State) → moved (wants []) prefix ≡ Some s → Viable prefix
+viable prefix s m = ((ends s).0, (ends s).1, sound (prefix ++ (ends s).0) (ends s).1 (parsed_moved (wants []) s prefix (ends s).0 (ends s).1 m (ends s).2))
 
-with_stuck : (o : Option State) (front rest : List Token) → ((u : State) → moved u front ≡ None → parsed u (front ++ rest) ≡ None)
-    → with o (λ u. moved u front) ≡ None → with o (λ u. parsed u (front ++ rest)) ≡ None
-with_stuck None front rest go h = refl
-with_stuck (Some u) front rest go h = go u h
+with_stuck : (o : Option State) (prefix rest : List Token) → ((u : State) → moved u prefix ≡ None → parsed u (prefix ++ rest) ≡ None)
+    → with o (λ u. moved u prefix) ≡ None → with o (λ u. parsed u (prefix ++ rest)) ≡ None
+with_stuck None prefix rest go h = refl
+with_stuck (Some u) prefix rest go h = go u h
 
-stuck_on : (u : State) (front rest : List Token) → moved u front ≡ None → parsed u (front ++ rest) ≡ None
+stuck_on : (u : State) (prefix rest : List Token) → moved u prefix ≡ None → parsed u (prefix ++ rest) ≡ None
 stuck_on u [] rest m = absurd (let z : ⊥ = cc in z)
-stuck_on u (t ∷ front) rest m = with_stuck (next_state u t) front rest (λ w k. stuck_on w front rest k) m
+stuck_on u (t ∷ prefix) rest m = with_stuck (next_state u t) prefix rest (λ w k. stuck_on w prefix rest k) m
 
-pub stuck : (front : List Token) → moved (wants []) front ≡ None → Viable front → ⊥
-stuck front m (rest, e, h) = let p : parsed (wants []) (front ++ rest) ≡ Some e = complete h in let q : parsed (wants []) (front ++ rest) ≡ None = stuck_on (wants []) front rest m in cc
+pub stuck : (prefix : List Token) → moved (wants []) prefix ≡ None → Viable prefix → ⊥
+stuck prefix m (rest, e, h) = let p : parsed (wants []) (prefix ++ rest) ≡ Some e = complete h in let q : parsed (wants []) (prefix ++ rest) ≡ None = stuck_on (wants []) prefix rest m in cc
 
 -- tokens spell at most one formula
 pub one_tree : {ts : List Token} {d e : Tree} → Spells 4 ts d → Spells 4 ts e → d ≡ e

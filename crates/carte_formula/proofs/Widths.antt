@@ -7,7 +7,7 @@ use Rattle.carte_tree.specs.Tree.{Tree, number, text, ref, neg, chain, call, Ste
 use Rattle.carte_formula.specs.Tokens.{Level, Func, Token, cell, op, rpar, comma, colon}
 use Rattle.carte_formula.specs.Grammar.{Spells, unary, single, chained, Repeats, none, more, Unary, primary, negated, posited, Primary, a_number, a_text, a_word, a_cell, a_call, a_group, Argument, formula, range, Arguments, last, next}
 use Rattle.carte_formula.specs.Reading.{Placed, tokens_of}
-use Rattle.carte_formula.specs.Whole.{front_size, width, wide_from}
+use Rattle.carte_formula.specs.Whole.{range_size, width, wide_from}
 use Rattle.carte_formula.proofs.Again.{Filled}
 
 abbrev mutual
@@ -35,7 +35,7 @@ abbrev NoColon : List Token → Type 0
 NoColon (colon ∷ ts) = ⊥
 NoColon _ = Unit {0}
 
-no_range : (a : List ℕ) (rest : List Token) → NoColon rest → front_size (cell a) rest ≡ 0
+no_range : (a : List ℕ) (rest : List Token) → NoColon rest → range_size (cell a) rest ≡ 0
 no_range a [] h = refl
 no_range a (colon ∷ ts) h = absurd h
 no_range a (_ ∷ ts) h = refl
@@ -96,15 +96,15 @@ same_width {ts} {us} h k = let a = rw append-nil at (widths h [] tt) in let b = 
 -- nothing is too wide exactly where there are at most 65,536 cells
 pub narrow : (sum : ℕ) (ps : List Placed) → wide_from sum ps ≡ None → sum ≤ 65536 → sum + width (tokens_of ps) ≤ 65536
 narrow sum [] h low = omega arith
-narrow sum (p ∷ ps) h low = narrow_if (nat_lt 65536 (sum + front_size p.token (tokens_of ps))) sum p ps refl h (λ k l. narrow (sum + front_size p.token (tokens_of ps)) ps k l)
+narrow sum (p ∷ ps) h low = narrow_if (nat_lt 65536 (sum + range_size p.token (tokens_of ps))) sum p ps refl h (λ k l. narrow (sum + range_size p.token (tokens_of ps)) ps k l)
   where
-    narrow_if : (b : Bool) (sum : ℕ) (p : Placed) (ps : List Placed) → nat_lt 65536 (sum + front_size p.token (tokens_of ps)) ≡ b
-        → (if b then Some p.place else wide_from (sum + front_size p.token (tokens_of ps)) ps) ≡ None
-        → (wide_from (sum + front_size p.token (tokens_of ps)) ps ≡ None → sum + front_size p.token (tokens_of ps) ≤ 65536 → (sum + front_size p.token (tokens_of ps)) + width (tokens_of ps) ≤ 65536)
-        → sum + (front_size p.token (tokens_of ps) + width (tokens_of ps)) ≤ 65536
+    narrow_if : (b : Bool) (sum : ℕ) (p : Placed) (ps : List Placed) → nat_lt 65536 (sum + range_size p.token (tokens_of ps)) ≡ b
+        → (if b then Some p.place else wide_from (sum + range_size p.token (tokens_of ps)) ps) ≡ None
+        → (wide_from (sum + range_size p.token (tokens_of ps)) ps ≡ None → sum + range_size p.token (tokens_of ps) ≤ 65536 → (sum + range_size p.token (tokens_of ps)) + width (tokens_of ps) ≤ 65536)
+        → sum + (range_size p.token (tokens_of ps) + width (tokens_of ps)) ≤ 65536
     narrow_if true sum p ps is h go = absurd (let z : ⊥ = cc in z)
-    narrow_if false sum p ps is h go = let k = go h (ltb-false 65536 (sum + front_size p.token (tokens_of ps)) is) in omega arith
+    narrow_if false sum p ps is h go = let k = go h (ltb-false 65536 (sum + range_size p.token (tokens_of ps)) is) in omega arith
 
 pub not_wide : (sum : ℕ) (ps : List Placed) → sum + width (tokens_of ps) ≤ 65536 → wide_from sum ps ≡ None
 not_wide sum [] h = refl
-not_wide sum (p ∷ ps) h = rw (le-ltb 65536 (sum + front_size p.token (tokens_of ps)) (omega arith)) (not_wide (sum + front_size p.token (tokens_of ps)) ps (omega arith))
+not_wide sum (p ∷ ps) h = rw (le-ltb 65536 (sum + range_size p.token (tokens_of ps)) (omega arith)) (not_wide (sum + range_size p.token (tokens_of ps)) ps (omega arith))

@@ -1,7 +1,7 @@
 -- How deep a place is, by the code's stack.
 use Rattle.std.specs.Prelude.{ℕ, List, [], ◌∷◌, ◌+◌}
-use Rattle.carte_formula.specs.declared.stack.Frame.{Frame}
-use Rattle.carte_formula.specs.declared.stack.Frame.TheVariants as code
+use Rattle.carte_formula.specs.declared.parser.frames.Frame.{Frame}
+use Rattle.carte_formula.specs.declared.parser.frames.Frame.TheVariants as code
 
 abbrev pub weight_of : Frame → ℕ
 weight_of (code.Sign b) = 1

@@ -46,4 +46,4 @@ mutual
 
 -- a formula's tokens begin so
 abbrev pub Viable : List Token → Type 0
-Viable front = (rest : List Token) × (e : Tree) × Spells 4 (front ++ rest) e
+Viable prefix = (rest : List Token) × (e : Tree) × Spells 4 (prefix ++ rest) e

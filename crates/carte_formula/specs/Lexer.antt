@@ -111,7 +111,7 @@ token_of greater bs = Some (op (greater_op bs))
 token_of inside bs = None
 token_of closing bs = if nat_le (length (quoted_text bs)) 65536 then Some (quoted (quoted_text bs)) else None
 
--- the front of a token, if one is pending
+-- the prefix of a token, if one is pending
 pub data Pending : Type 0 where
   idle : Pending
   run : Class → ℕ → List ℕ → Pending
@@ -135,7 +135,7 @@ abbrev pub from_run : Option Class → Class → ℕ → List ℕ → Start → 
 from_run (Some d) c place bs s at b go = go (run d place (bs ++ b ∷ []))
 from_run None c place bs s at b go = emit (token_of c bs) place (from_start s at b go)
 
--- the tokens of the bytes from a place on, behind the front of a token; or the place of the first bad one
+-- the tokens of the bytes from a place on, behind the prefix of a token; or the place of the first bad one
 abbrev pub lexed : Kind → Pending → ℕ → List ℕ → Result (List Placed) ℕ
 lexed q idle at [] = Ok []
 lexed q (run c place bs) at [] = emit (token_of c bs) place (Ok [])

@@ -9,3 +9,4 @@ pub mod Whole
 pub mod Parser
 pub mod Runs
 pub mod Takes
+pub mod Longest

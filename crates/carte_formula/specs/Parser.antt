@@ -6,11 +6,11 @@ use Rattle.carte_tree.specs.Code.{tree_of, terms_of, args_trees}
 use Rattle.carte_formula.specs.Machine.{Frame, sign, chain_at, group, args, State, wants, had, named, corner, half, ranged}
 use Rattle.carte_formula.specs.Reading.{FormulaFault, BadSyntax, TooDeep, NoMemory as OutOfMemory, depth}
 use Rattle.carte_tree.specs.declared.expr.Expr.{Expr}
-use Rattle.carte_formula.specs.declared.stack.OpenChain.{OpenChain}
-use Rattle.carte_formula.specs.declared.stack.Frame.{Frame as CodeFrame}
-use Rattle.carte_formula.specs.declared.stack.Frame.TheVariants as code
-use Rattle.carte_formula.specs.declared.state.State.{State as CodeState}
-use Rattle.carte_formula.specs.declared.state.State.TheVariants as states
+use Rattle.carte_formula.specs.declared.parser.frames.OpenChain.{OpenChain}
+use Rattle.carte_formula.specs.declared.parser.frames.Frame.{Frame as CodeFrame}
+use Rattle.carte_formula.specs.declared.parser.frames.Frame.TheVariants as code
+use Rattle.carte_formula.specs.declared.parser.states.State.{State as CodeState}
+use Rattle.carte_formula.specs.declared.parser.states.State.TheVariants as states
 
 abbrev pub open_frame : OpenChain → Frame
 open_frame c = chain_at c.level (tree_of c.first) (terms_of c.steps.items) c.last

@@ -48,7 +48,7 @@ rounds r (t ∷ ts) = rounds (round_step r t) ts
 
 -- how many groups, calls and unary signs stand round what follows
 abbrev pub around : List Token → ℕ
-around front = length (rounds (record { wanted = true; by = [] }) front).by
+around prefix = length (rounds (record { wanted = true; by = [] }) prefix).by
 
 -- nothing stands deeper than 64
 abbrev pub Shallow : List Token → Type 0
@@ -56,20 +56,20 @@ Shallow ts = (k : ℕ) → around (take k ts) ≤ 64
 
 -- no formula's tokens begin with those up to and with one, or the text ends too early
 abbrev pub SyntaxAt : List Placed → List Placed → ℕ → ℕ → Type 0
-SyntaxAt front [] size place = (place ≡ size) × ((e : Tree) → Spells 4 (tokens_of front) e → ⊥)
-SyntaxAt front (p ∷ ps) size place = (place ≡ p.place) × (Viable (tokens_of front ++ p.token ∷ []) → ⊥)
+SyntaxAt prefix [] size place = (place ≡ size) × ((e : Tree) → Spells 4 (tokens_of prefix) e → ⊥)
+SyntaxAt prefix (p ∷ ps) size place = (place ≡ p.place) × (Viable (tokens_of prefix ++ p.token ∷ []) → ⊥)
 
 abbrev pub DeepAt : List Placed → List Placed → ℕ → Type 0
-DeepAt front [] place = ⊥
-DeepAt front (p ∷ ps) place = (place ≡ p.place) × Viable (tokens_of front ++ p.token ∷ []) × (64 < around (tokens_of front ++ p.token ∷ []))
+DeepAt prefix [] place = ⊥
+DeepAt prefix (p ∷ ps) place = (place ≡ p.place) × Viable (tokens_of prefix ++ p.token ∷ []) × (64 < around (tokens_of prefix ++ p.token ∷ []))
 
 -- what the tokens of a text of a size are read as, but for the width of ranges
 abbrev pub ReadAs : List Placed → ℕ → Result Tree FormulaFault → Type 0
 ReadAs ps size (Ok e) = Spells 4 (tokens_of ps) e × Shallow (tokens_of ps)
 ReadAs ps size (Err (BadSyntax place)) =
-    (front : List Placed) × (rest : List Placed) × (ps ≡ front ++ rest) × Viable (tokens_of front) × Shallow (tokens_of front) × SyntaxAt front rest size place
+    (prefix : List Placed) × (rest : List Placed) × (ps ≡ prefix ++ rest) × Viable (tokens_of prefix) × Shallow (tokens_of prefix) × SyntaxAt prefix rest size place
 ReadAs ps size (Err (TooDeep place)) =
-    (front : List Placed) × (rest : List Placed) × (ps ≡ front ++ rest) × Shallow (tokens_of front) × DeepAt front rest place
+    (prefix : List Placed) × (rest : List Placed) × (ps ≡ prefix ++ rest) × Shallow (tokens_of prefix) × DeepAt prefix rest place
 ReadAs ps size (Err _) = ⊥
 
 -- the same as a function

@@ -7,22 +7,23 @@ use Rattle.carte_formula.specs.Tokens.{Token, cell, colon}
 use Rattle.carte_tree.specs.Code.{tree_of}
 use Rattle.carte_tree.specs.declared.expr.Expr.{Expr}
 use Rattle.carte_formula.specs.Grammar.{Spells}
-use Rattle.carte_formula.specs.Reading.{FormulaFault, BadToken, BadSyntax, TooDeep, TooLong, TooWide, NoMemory, Placed, tokens_of, ReadAs}
+use Rattle.carte_formula.specs.Machine.{wants}
+use Rattle.carte_formula.specs.Reading.{FormulaFault, BadToken, BadSyntax, TooDeep, TooLong, TooWide, NoMemory, Placed, tokens_of, ReadAs, tokens_read}
 use Rattle.carte_formula.specs.Lexer.{idle, lexed}
 
 -- how many cells a range has that begins with this token
-abbrev pub front_size : Token → List Token → ℕ
-front_size (cell a) (colon ∷ cell b ∷ ts) = size_of (area_of a b)
-front_size _ _ = 0
+abbrev pub range_size : Token → List Token → ℕ
+range_size (cell a) (colon ∷ cell b ∷ ts) = size_of (area_of a b)
+range_size _ _ = 0
 
 -- how many cells all ranges have
 abbrev pub width : List Token → ℕ
 width [] = 0
-width (t ∷ ts) = front_size t ts + width ts
+width (t ∷ ts) = range_size t ts + width ts
 
 abbrev pub size_at : List Placed → ℕ
 size_at [] = 0
-size_at (p ∷ ps) = front_size p.token (tokens_of ps)
+size_at (p ∷ ps) = range_size p.token (tokens_of ps)
 
 -- the place of the first cell of the range with which there are more than 65,536 cells
 abbrev pub wide_from : ℕ → List Placed → Option ℕ
@@ -37,7 +38,7 @@ Tokens q bytes ps = lexed q idle 0 bytes ≡ Ok ps
 abbrev pub SpelledBy : Kind → List ℕ → Tree → Type 0
 SpelledBy q bytes e = (ps : List Placed) × Tokens q bytes ps × Spells 4 (tokens_of ps) e
 
--- what a text is read as
+-- what a text is read as; memory is wanted only for one that isn't too long
 abbrev pub Reads : Kind → List ℕ → Result Tree FormulaFault → Type 0
 Reads q bytes (Ok e) = (length bytes ≤ 4096) × (ps : List Placed) × Tokens q bytes ps × ReadAs ps (length bytes) (Ok e) × (wide_from 0 ps ≡ None)
 Reads q bytes (Err (TooLong n)) = (4096 < length bytes) × (n ≡ length bytes)
@@ -45,7 +46,7 @@ Reads q bytes (Err (BadToken place)) = (length bytes ≤ 4096) × (lexed q idle 
 Reads q bytes (Err (BadSyntax place)) = (length bytes ≤ 4096) × (ps : List Placed) × Tokens q bytes ps × ReadAs ps (length bytes) (Err (BadSyntax place))
 Reads q bytes (Err (TooDeep place)) = (length bytes ≤ 4096) × (ps : List Placed) × Tokens q bytes ps × ReadAs ps (length bytes) (Err (TooDeep place))
 Reads q bytes (Err (TooWide place)) = (length bytes ≤ 4096) × (ps : List Placed) × Tokens q bytes ps × (e : Tree) × ReadAs ps (length bytes) (Ok e) × (wide_from 0 ps ≡ Some place)
-Reads q bytes (Err NoMemory) = Unit {0}
+Reads q bytes (Err NoMemory) = length bytes ≤ 4096
 
 abbrev pub as_tree : Result Expr FormulaFault → Result Tree FormulaFault
 as_tree (Ok e) = Ok (tree_of e)
@@ -56,6 +57,14 @@ abbrev pub with_width : Result Tree FormulaFault → Option ℕ → Result Tree 
 with_width (Ok e) None = Ok e
 with_width (Ok e) (Some place) = Err (TooWide place)
 with_width (Err f) w = Err f
+
+-- what a text is read as, as a function of its bytes
+abbrev pub with_tokens : Result (List Placed) ℕ → ℕ → Result Tree FormulaFault
+with_tokens (Err place) size = Err (BadToken place)
+with_tokens (Ok ps) size = with_width (tokens_read (wants []) ps size) (wide_from 0 ps)
+
+abbrev pub reading : Kind → List ℕ → Result Tree FormulaFault
+reading q bytes = if nat_lt 4096 (length bytes) then Err (TooLong (length bytes)) else with_tokens (lexed q idle 0 bytes) (length bytes)
 
 -- not for want of memory
 abbrev pub IsTold : Result Tree FormulaFault → Type 0

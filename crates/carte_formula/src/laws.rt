@@ -1,10 +1,25 @@
 //! What is true of texts and formulas at large. Each law is the contract of a function that does nothing.
-ghost use Rattle.std.specs.Prelude.{◌≡◌, ◌≤◌, ℕ, List, Result, Ok, length};
+ghost use Rattle.std.specs.Prelude.{◌≡◌, ◌≤◌, ℕ, List, [], ◌∷◌, true, Result, Ok, length};
+ghost use Rattle.std.specs.List.{list_all};
 ghost use Rattle.carte_value.specs.declared.kind.Kind.{Kind};
 ghost use Rattle.carte_tree.specs.Tree.{Tree};
 ghost use Rattle.carte_tree.specs.Printed.{printed};
-ghost use Rattle.carte_formula.specs.Reading.{FormulaFault};
-ghost use Rattle.carte_formula.specs.Whole.{Reads, IsTold, SpelledBy};
+ghost use Rattle.carte_formula.specs.Reading.{FormulaFault, Placed};
+ghost use Rattle.carte_formula.specs.Lexer.{is_blank, idle, lexed};
+ghost use Rattle.carte_formula.specs.Longest.{Begins};
+ghost use Rattle.carte_formula.specs.Whole.{Reads, IsTold, SpelledBy, reading};
+
+/// A text's first token stands behind blanks alone and is the longest that fits, and what follows it is lexed anew.
+#[tactic(auto, using(crate::proofs::Longest::first_token))]
+pub fn lexes_longest()
+    ensures { (q : Kind) (at : ℕ) (bytes : List ℕ) (p : Placed) (later : List Placed) → lexed q idle at bytes ≡ Ok (p ∷ later) → Begins q at bytes p later }
+{}
+
+/// A text without tokens is blank.
+#[tactic(auto, using(crate::proofs::Longest::none_blank))]
+pub fn lexes_blanks()
+    ensures { (q : Kind) (at : ℕ) (bytes : List ℕ) → lexed q idle at bytes ≡ Ok [] → list_all is_blank bytes ≡ true }
+{}
 
 /// A text spells one formula at most.
 pub fn spells_one()
@@ -16,6 +31,18 @@ pub fn spells_one()
 #[tactic(auto, using(crate::proofs::Round::one_reading))]
 pub fn reads_one()
     ensures { (q : Kind) (bytes : List ℕ) (r : Result Tree FormulaFault) (s : Result Tree FormulaFault) → Reads q bytes r → Reads q bytes s → IsTold r → IsTold s → r ≡ s }
+{}
+
+/// Each text is read in some way: in that which the function `reading` gives.
+pub fn reads_some()
+    ensures reads { (q : Kind) (bytes : List ℕ) → Reads q bytes (reading q bytes) }
+    ensures told { (q : Kind) (bytes : List ℕ) → IsTold (reading q bytes) }
+{}
+
+/// And it is read in no other way, so that what a text is read as is a function of its bytes.
+#[tactic(auto, using(crate::proofs::Round::only_reading))]
+pub fn reads_reading()
+    ensures { (q : Kind) (bytes : List ℕ) (r : Result Tree FormulaFault) → Reads q bytes r → IsTold r → r ≡ reading q bytes }
 {}
 
 /// What is printed of a formula that a text is read as is read as this formula again, where it has at most 4,096 bytes.

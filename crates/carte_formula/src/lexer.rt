@@ -3,10 +3,14 @@ ghost use Rattle.carte_formula.specs.Lexer.{start_of, idle, lexed};
 ghost use Rattle.carte_formula.specs.Runs.{RunsTo};
 ghost use Rattle.carte_formula.specs.Takes.{TakesTo, PutTo, DequeLexedTo};
 
+mod runs;
+mod starts;
+mod token_kinds;
+
 use crate::FormulaFault;
-use crate::making::token_of;
-use crate::runs::run_end;
-use crate::start::start_of;
+use crate::lexer::runs::run_end;
+use crate::lexer::starts::start_of;
+use crate::lexer::token_kinds::token_of;
 use crate::tokens::{Class, Placed, Start, Token};
 use carte_value::{Kind, NoMemory};
 use std::alloc::Global;
@@ -19,10 +23,7 @@ pub fn tokens_of(alloc: Global, kind: Kind, text: &str) -> Result<VecDeque<Place
     let mut tokens = VecDeque::new(alloc);
     let mut at = 0;
     while at < text.len() {
-        match take(alloc, kind, text, at, &mut tokens) {
-            Ok(end) => at = end,
-            Err(fault) => return Err(fault),
-        }
+        at = take(alloc, kind, text, at, &mut tokens)?;
     }
     Ok(tokens)
 }
@@ -54,10 +55,8 @@ fn put(
 ) -> Result<usize, FormulaFault>
     ensures { PutTo tokens.old.items tokens.new.items place token end result }
 {
-    match tokens.push_back(Placed { place, token }) {
-        Ok(()) => Ok(end),
-        Err(_) => Err(FormulaFault::NoMemory),
-    }
+    tokens.push_back(Placed { place, token })?;
+    Ok(end)
 }
 
 fn take_run(
@@ -76,9 +75,8 @@ fn take_run(
     if let Class::Inside = last {
         return Err(FormulaFault::BadToken(at));
     }
-    match token_of(alloc, last, &text[at..end]) {
-        Ok(Some(token)) => put(tokens, at, token, end),
-        Ok(None) => Err(FormulaFault::BadToken(at)),
-        Err(_) => Err(FormulaFault::NoMemory),
+    match token_of(alloc, last, &text[at..end])? {
+        Some(token) => put(tokens, at, token, end),
+        None => Err(FormulaFault::BadToken(at)),
     }
 }

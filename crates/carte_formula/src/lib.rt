@@ -18,22 +18,13 @@
 //!   have to be said of the parser's states.
 #![tactic(auto)]
 
-mod building;
 mod cell;
-mod chains;
 mod laws;
 mod lexer;
 #[cfg(test)]
 mod limit_tests;
-mod making;
-mod operand;
+mod parser;
 mod reader;
-mod reading;
-mod runs;
-mod stack;
-mod start;
-mod state;
-mod step;
 #[cfg(test)]
 mod tests;
 mod tokens;
@@ -42,5 +33,7 @@ mod width;
 pub use carte_tree::{
     Arg, Args, Chain, Expr, FormulaFault, Func, Level, Op, Rest, is_static, print, refs,
 };
-pub use laws::{reads_one, reads_print, spells_one};
+pub use laws::{
+    lexes_blanks, lexes_longest, reads_one, reads_print, reads_reading, reads_some, spells_one,
+};
 pub use reader::read;

@@ -15,16 +15,16 @@ fn expect(rt: &impl Abort, alloc: Global, text: &str, want: &str) -> Result<(), 
     Ok(())
 }
 
-/// A front written some times, a middle, and a back written some times.
+/// A prefix written some times, a middle, and a back written some times.
 fn around(
     alloc: Global,
-    front: &str,
-    fronts: usize,
+    prefix: &str,
+    prefixes: usize,
     middle: &str,
     back: &str,
     backs: usize,
 ) -> Result<String, Fail> {
-    let before = front.repeat(alloc, fronts)?;
+    let before = prefix.repeat(alloc, prefixes)?;
     let behind = back.repeat(alloc, backs)?;
     Ok(format!(in alloc; "{before}{middle}{behind}")?)
 }
@@ -49,9 +49,9 @@ fn blanks_between_tokens(rt: HostRuntime) -> Result<(), Fail> {
     Ok(())
 }
 
-/// A group, a call and a unary sign each take a level, and there are 64.
+/// A group, a call and a unary sign each take a level, and there are 64; a text may have 4,096 bytes.
 #[test]
-fn levels(rt: HostRuntime) -> Result<(), Fail> {
+fn levels_and_lengths(rt: HostRuntime) -> Result<(), Fail> {
     let table = [
         ("(", 64, "1", ")", 64, "1"),
         ("(", 65, "1", ")", 65, "too deep at 64"),
@@ -77,18 +77,6 @@ fn levels(rt: HostRuntime) -> Result<(), Fail> {
         ("1 1(", 70, "", "", 0, "bad syntax at 2"),
         ("1+-", 70, "1", "", 0, "="),
         ("-1*NOT(0)+", 70, "1", "", 0, "="),
-    ];
-    for (front, fronts, middle, back, backs, want) in table {
-        let text = around(rt.alloc(), front, fronts, middle, back, backs)?;
-        expect(&rt, rt.alloc(), text.as_str(), want)?;
-    }
-    Ok(())
-}
-
-/// A text may have 4,096 bytes.
-#[test]
-fn lengths(rt: HostRuntime) -> Result<(), Fail> {
-    let table = [
         ("1", 1, "", " ", 4095, "1"),
         ("1", 1, "", " ", 4096, "longer than 4096 bytes"),
         ("1+", 2047, "12", "", 0, "="),
@@ -102,8 +90,8 @@ fn lengths(rt: HostRuntime) -> Result<(), Fail> {
         ("é", 2048, "?", "", 0, "longer than 4096 bytes"),
         ("1*", 2047, "", "", 0, "bad syntax at 4094"),
     ];
-    for (front, fronts, middle, back, backs, want) in table {
-        let text = around(rt.alloc(), front, fronts, middle, back, backs)?;
+    for (prefix, prefixes, middle, back, backs, want) in table {
+        let text = around(rt.alloc(), prefix, prefixes, middle, back, backs)?;
         expect(&rt, rt.alloc(), text.as_str(), want)?;
     }
     Ok(())

@@ -1,8 +1,11 @@
 ghost use Rattle.std.specs.Prelude.{◌≡◌, ◌<◌, ◌∷◌, [], length, drop};
-ghost use Rattle.carte_formula.specs.Whole.{front_size, size_at, wide_from};
+ghost use Rattle.carte_formula.specs.Whole.{range_size, size_at, wide_from};
 
 use crate::tokens::{Placed, Token};
 use std::collections::VecDeque;
+
+/// How many cells the ranges of a formula may have together.
+const MOST_CELLS: u64 = 65_536;
 
 /// The place of the first cell of the range with which all ranges have more than 65,536 cells.
 pub fn wide(tokens: &VecDeque<Placed>) -> Option<usize>
@@ -12,7 +15,7 @@ pub fn wide(tokens: &VecDeque<Placed>) -> Option<usize>
     let mut at = 0;
     while let Some(placed) = tokens.get(at) {
         let size = size_at(tokens, at);
-        if size > 65536 - sum {
+        if size > MOST_CELLS - sum {
             return Some(placed.place);
         }
         sum += size;
@@ -39,7 +42,7 @@ fn size_at(tokens: &VecDeque<Placed>, at: usize) -> u64
 }
 
 fn range_size(first: &Token, second: &Token, third: &Token) -> u64
-    ensures { result ≡ front_size first.now (second.now ∷ third.now ∷ []) }
+    ensures { result ≡ range_size first.now (second.now ∷ third.now ∷ []) }
 {
     match first {
         Token::Cell(corner) => match second {

@@ -1,23 +1,25 @@
 //! Operators and functions by their names.
 
-ghost use Rattle.std.specs.Prelude.{◌≡◌, ◌<◌, ◌^◌, true, length, None, IfOk};
+ghost use Rattle.std.specs.Prelude.{◌≡◌, ◌<◌, ◌^◌, true, length, None, IfOk, IfErr};
+ghost use Rattle.carte_tree.specs.declared.expr.Op.TheVariants.{Join};
 ghost use Rattle.carte_tree.specs.Coercions.{first_bad};
 ghost use Rattle.carte_tree.specs.Applied.{applied, called, condition, is_strict, negated, pick};
 
 use crate::arithmetic::{add, divide, multiply, negative, subtract};
 use crate::coercions::first_bad;
+use crate::logic::{and, not, or};
 use crate::numbers::{count, max, min, sum};
 use crate::order::compare;
 use crate::texts::{join, len, line, lines, upper};
-use crate::truths::{and, not, or};
 use carte_tree::{Func, Op};
 use carte_value::{Bad, NoMemory, Value};
 use std::alloc::Global;
 
 /// What an operator makes of the values of its two operands: the first bad one, and else `#VALUE!` where one has the wrong kind.
-/// Of another number of values it makes Empty; no formula has such an operator.
+/// Of another number of values it makes Empty; no formula has such an operator. Memory is wanted for `&` alone.
 pub fn apply(alloc: Global, op: Op, values: &[Value]) -> Result<Value, NoMemory>
-    ensures { IfOk result (λ v. v ≡ applied op values.now) }
+    ensures value { IfOk result (λ v. v ≡ applied op values.now) }
+    ensures memory { IfErr result (λ e. (op ≡ Join) × (first_bad values.now ≡ None)) }
 {
     if let Some(bad) = first_bad(values) {
         return Ok(Value::Bad(bad));
@@ -42,7 +44,7 @@ pub fn negate(values: &[Value]) -> Value
     }
 }
 
-/// The truth of a condition, or what IF and PICK give in place of a branch: a bad condition itself, and `#VALUE!` for a text.
+/// Whether a condition holds, or what IF and PICK give in place of a branch: a bad condition itself, and `#VALUE!` for a text.
 pub fn condition(value: &Value) -> Result<bool, Value>
     ensures { result ≡ condition value.now }
 {

@@ -1,5 +1,5 @@
 ghost use Rattle.std.specs.Prelude.{◌≡◌, length};
-ghost use Rattle.carte_tree.specs.Coercions.{as_number, as_truth, first_bad, truth_value};
+ghost use Rattle.carte_tree.specs.Coercions.{as_number, as_bool, first_bad, bool_value};
 
 use carte_value::{Bad, Value};
 
@@ -15,9 +15,9 @@ pub(crate) fn as_number(value: &Value) -> Option<i64>
     }
 }
 
-/// A value as a truth: 0 and Empty are false, and a text is none.
-pub(crate) fn as_truth(value: &Value) -> Option<bool>
-    ensures { result ≡ as_truth value.now }
+/// A value as a boolean: 0 and Empty are false, and a text is none.
+pub(crate) fn as_bool(value: &Value) -> Option<bool>
+    ensures { result ≡ as_bool value.now }
 {
     match as_number(value) {
         Some(number) => Some(number != 0),
@@ -25,11 +25,11 @@ pub(crate) fn as_truth(value: &Value) -> Option<bool>
     }
 }
 
-/// A truth as a number.
-pub(crate) fn of_truth(truth: bool) -> Value
-    ensures { result ≡ truth_value truth }
+/// A boolean as a number.
+pub(crate) fn of_bool(holds: bool) -> Value
+    ensures { result ≡ bool_value holds }
 {
-    Value::Number(if truth { 1 } else { 0 })
+    Value::Number(if holds { 1 } else { 0 })
 }
 
 /// The first bad value, in order.

@@ -12,10 +12,10 @@ mod arithmetic;
 mod coercions;
 mod found;
 mod lines;
+mod logic;
 mod numbers;
 mod order;
 mod texts;
-mod truths;
 
 pub use applied::{apply, call, condition, negate};
 pub use found::{name_in, names_in};

@@ -1,10 +1,10 @@
 //! Comparisons.
 
 ghost use Rattle.std.specs.Prelude.{◌≡◌};
-ghost use Rattle.carte_tree.specs.Coercions.{two, truth_value};
+ghost use Rattle.carte_tree.specs.Coercions.{two, bool_value};
 ghost use Rattle.carte_tree.specs.Order.{value_cmp, passes};
 
-use crate::coercions::of_truth;
+use crate::coercions::of_bool;
 use carte_tree::Op;
 use carte_value::Value;
 use std::cmp::Ordering;
@@ -43,10 +43,10 @@ fn holds(op: Op, order: Ordering) -> bool
 
 /// `=`, `<>`, `<`, `<=`, `>` and `>=`
 pub(crate) fn compare(op: Op, values: &[Value]) -> Value
-    ensures { result ≡ two (λ v w. truth_value (passes op (value_cmp v w))) values.now }
+    ensures { result ≡ two (λ v w. bool_value (passes op (value_cmp v w))) values.now }
 {
     let [left, right] = values else {
         return Value::Empty;
     };
-    of_truth(holds(op, order(left, right)))
+    of_bool(holds(op, order(left, right)))
 }

@@ -104,7 +104,7 @@ fn shown_names(alloc: Global, found: Result<Names, Value>) -> Result<String, Fai
     Ok(shown)
 }
 
-fn shown_truth(alloc: Global, truth: Result<bool, Value>) -> Result<String, Fail> {
+fn shown_bool(alloc: Global, truth: Result<bool, Value>) -> Result<String, Fail> {
     match truth {
         Ok(truth) => Ok(format!(in alloc; "{truth}")?),
         Err(value) => Ok(value.print(alloc)?),
@@ -113,7 +113,7 @@ fn shown_truth(alloc: Global, truth: Result<bool, Value>) -> Result<String, Fail
 
 fn test_of(alloc: Global, name: &str, value: &Value) -> Result<String, Fail> {
     match name {
-        "condition" => shown_truth(alloc, condition(value)),
+        "condition" => shown_bool(alloc, condition(value)),
         "rule name" => shown_name(alloc, name_in(alloc, Kind::Rules, value)?),
         "cell name" => shown_name(alloc, name_in(alloc, Kind::Sheet, value)?),
         "rule names" => shown_names(alloc, names_in(alloc, Kind::Rules, value)?),

@@ -10,7 +10,7 @@ ghost use Rattle.carte_tree.specs.Texts.{lines, line_of};
 
 use crate::coercions::as_number;
 use crate::lines::{count_lines, line_at};
-use carte_value::{Bad, NoMemory, Text, Value};
+use carte_value::{Bad, NoMemory, TEXT_LIMIT, Text, Value};
 use std::alloc::Global;
 use std::borrow::CowStr;
 use std::fmt::Write;
@@ -20,10 +20,7 @@ fn decimal(alloc: Global, number: i64) -> Result<String, NoMemory>
     ensures digits { IfOk result (λ t. string_bytes t ≡ signed_decimal number) }
     ensures bound { IfOk result (λ t. length (string_bytes t) ≤ 65536) }
 {
-    match format!(in alloc; "{number}") {
-        Ok(digits) => Ok(digits),
-        Err(_) => Err(NoMemory),
-    }
+    Ok(format!(in alloc; "{number}")?)
 }
 
 /// A value as a text: a number by its decimal digits, and Empty without bytes.
@@ -33,10 +30,7 @@ pub(crate) fn text_of<'a>(alloc: Global, value: &'a Value) -> Result<CowStr<'a>,
 {
     match value {
         Value::Empty => Ok(CowStr::Borrowed("")),
-        Value::Number(number) => match decimal(alloc, *number) {
-            Ok(digits) => Ok(CowStr::Owned(digits)),
-            Err(refused) => Err(refused),
-        },
+        Value::Number(number) => Ok(CowStr::Owned(decimal(alloc, *number)?)),
         Value::Text(text) => Ok(CowStr::Borrowed(text.text())),
         Value::Bad(_) => Ok(CowStr::Borrowed("")),
     }
@@ -46,16 +40,12 @@ pub(crate) fn text_of<'a>(alloc: Global, value: &'a Value) -> Result<CowStr<'a>,
 fn append(text: &mut String, value: &Value) -> Result<(), NoMemory>
     ensures { OnOk result (string_bytes text.new ≡ string_bytes text.old ++ text_of value.now) }
 {
-    let appended = match value {
-        Value::Empty => return Ok(()),
-        Value::Number(number) => write!(text, "{number}"),
-        Value::Text(more) => text.push_str(more.text()),
-        Value::Bad(_) => return Ok(()),
-    };
-    match appended {
-        Ok(()) => Ok(()),
-        Err(_) => Err(NoMemory),
+    match value {
+        Value::Number(number) => write!(text, "{number}")?,
+        Value::Text(more) => text.push_str(more.text())?,
+        Value::Empty | Value::Bad(_) => {}
     }
+    Ok(())
 }
 
 /// A text as a value, or `#LEN!` where it is too long for one.
@@ -74,10 +64,8 @@ pub(crate) fn join(alloc: Global, values: &[Value]) -> Result<Value, NoMemory>
 {
     let mut text = String::new(alloc);
     for value in values {
-        if let Err(refused) = append(&mut text, value) {
-            return Err(refused);
-        }
-        if text.len() > 65536 {
+        append(&mut text, value)?;
+        if text.len() > TEXT_LIMIT {
             return Ok(Value::Bad(Bad::Len));
         }
     }
@@ -91,10 +79,8 @@ pub(crate) fn len(alloc: Global, values: &[Value]) -> Result<Value, NoMemory>
     let [value] = values else {
         return Ok(Value::Empty);
     };
-    match text_of(alloc, value) {
-        Ok(text) => Ok(Value::Number(text.as_str().len() as i64)),
-        Err(refused) => Err(refused),
-    }
+    let text = text_of(alloc, value)?;
+    Ok(Value::Number(text.as_str().len() as i64))
 }
 
 /// UPPER: a text with its ASCII letters raised.
@@ -104,14 +90,8 @@ pub(crate) fn upper(alloc: Global, values: &[Value]) -> Result<Value, NoMemory>
     let [value] = values else {
         return Ok(Value::Empty);
     };
-    let text = match text_of(alloc, value) {
-        Ok(text) => text,
-        Err(refused) => return Err(refused),
-    };
-    match text.as_str().to_ascii_uppercase(alloc) {
-        Ok(raised) => made(raised),
-        Err(_) => Err(NoMemory),
-    }
+    let text = text_of(alloc, value)?;
+    made(text.as_str().to_ascii_uppercase(alloc)?)
 }
 
 /// LINES: how many lines a text has.
@@ -121,10 +101,8 @@ pub(crate) fn lines(alloc: Global, values: &[Value]) -> Result<Value, NoMemory>
     let [value] = values else {
         return Ok(Value::Empty);
     };
-    match text_of(alloc, value) {
-        Ok(text) => Ok(Value::Number(count_lines(text.as_str()) as i64)),
-        Err(refused) => Err(refused),
-    }
+    let text = text_of(alloc, value)?;
+    Ok(Value::Number(count_lines(text.as_str()) as i64))
 }
 
 /// LINE: the line of a text at a place that is counted from 1.
@@ -140,15 +118,9 @@ pub(crate) fn line(alloc: Global, values: &[Value]) -> Result<Value, NoMemory>
     if place < 1 {
         return Ok(Value::Bad(Bad::Value));
     }
-    let text = match text_of(alloc, value) {
-        Ok(text) => text,
-        Err(refused) => return Err(refused),
-    };
+    let text = text_of(alloc, value)?;
     match line_at(text.as_str(), (place - 1) as usize) {
-        Some(line) => match String::from_str(alloc, line) {
-            Ok(line) => made(line),
-            Err(_) => Err(NoMemory),
-        },
+        Some(line) => made(String::from_str(alloc, line)?),
         None => Ok(Value::Bad(Bad::Value)),
     }
 }

@@ -123,6 +123,14 @@ module _ {A : Type 0} (At : A → List ℕ → Type 0) where
       (λ d mid rest is. let same : d ≡ c = cc in omega (arith, at.2, short, ap (λ (x : Step A). x.calls) same)))
       (throughout_counted s t _ up steps)
 
+  -- more steps were to be made, and no more calls passed than those before them make
+  pub steps_further : (a : A) (bs cs : List (Step A)) (s t : Story) → StepsThrough At a bs s t → CountsUp (moments t) → AreMade cs
+      → t.now.passed ≤ s.now.passed + calls_in bs → StepsThrough At a (bs ++ cs) s t
+  steps_further a bs cs s t steps up made few =
+      throughout_more s t _ _
+      (λ m at. stands_earlier a bs cs s.now.passed m at.0 (λ c mid rest is. omega (arith, at.2, few, calls_some c mid rest cs made is)))
+      (throughout_counted s t _ up steps)
+
   -- no step, while the file stays at a station
   pub steps_none : (a : A) (s t : Story) → LeavesOnly s t (At a) → StepsThrough At a [] s t
   steps_none a s t = throughout_more s t _ _ (λ m leaves. stands_none a s.now.passed m leaves)
@@ -140,3 +148,21 @@ module _ {A : Type 0} (At : A → List ℕ → Type 0) where
   pub steps_stand : (a : A) (front rest : List (Step A)) (s t : Story) → StepsThrough At a (front ++ rest) s t
       → s.now.passed + calls_in front ≤ t.now.passed → (c : List ℕ) → IsImage t.now c → IsAtOneOf At (last_of a front) rest c
   steps_stand a front rest s t steps enough = throughout_last s t _ steps front rest refl enough
+
+-- one step, of which the stations are seen as others
+module _ {A C : Type 0} (At : A → List ℕ → Type 0) (There : C → List ℕ → Type 0) (a : A) (b : Step A) (c : C) (d : Step C) (same : d.calls ≡ b.calls)
+    (start : (file : List ℕ) → At a file → There c file) (end : (file : List ℕ) → At b.to file → There d.to file) where
+  stands_as : (before : ℕ) (m : Moment) → Stands At a (b ∷ []) before m → Stands There c (d ∷ []) before m
+  stands_as before m stands [] rest is enough = λ image there.
+      subst (λ xs. IsAtOneOf There c xs image) is
+      (elim (stands [] (b ∷ []) refl enough image there) [ inl at ↦ inl (start image at) | inr at ↦ inr (end image at) ])
+  stands_as before m stands (p ∷ prefix) rest is enough =
+      let head : p ≡ d = cc in
+      let none : [] ≡ prefix ++ rest = cc in
+      λ image there. subst (λ (x : Step C). IsAtOneOf There (last_of x.to prefix) rest image) (sym head)
+      (stands_none There d.to 0 m
+      (λ file in_file. end file (stands (b ∷ []) [] refl (omega (arith, enough, same, ap (λ (x : Step C). x.calls) head)) file in_file))
+      prefix rest none (omega arith) image there)
+
+  pub step_as : (s t : Story) → StepsThrough At a (b ∷ []) s t → StepsThrough There c (d ∷ []) s t
+  step_as s t = throughout_more s t _ _ (stands_as s.now.passed)

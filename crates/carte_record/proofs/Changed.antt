@@ -1,5 +1,5 @@
 -- Lists with one item changed.
-use Rattle.std.proofs.Common.{◌≡◌, ℕ, suc, Bool, true, false, cond, List, [], ◌∷◌, ◌++◌, length, Option, Some, None, refl, ap, sym, subst, set, slice_get}
+use Rattle.std.proofs.Common.{◌≡◌, ℕ, suc, Bool, true, false, cond, List, [], ◌∷◌, length, Option, Some, None, refl, ap, subst, set, slice_get}
 use Rattle.std.specs.Prelude.{option_map, find, if◌then◌else◌}
 use Rattle.carte_record.specs.Places.{first_place}
 use Rattle.carte_record.specs.Changes.{change_first}

@@ -3,18 +3,15 @@ use Rattle.std.proofs.Common.{◌≡◌, ℕ, Bool, true, false, ◌&&◌, List,
 use Rattle.std.proofs.lemmas.Bool.{eqb-true}
 use Rattle.std.specs.Prelude.{◌==◌, is_none, option_map, unwrap_or}
 use Rattle.std.specs.Option.{option_or}
-use Rattle.carte_value.specs.declared.digest.Digest.{Digest}
 use Rattle.carte_record.specs.declared.start.Start.{Start}
 use Rattle.carte_record.specs.declared.start.Start.TheVariants.{GoOn, Anew, Cleared}
-use Rattle.carte_record.specs.declared.batch.Batch.{Batch}
 use Rattle.carte_record.specs.declared.way.Way.{Way}
 use Rattle.carte_record.specs.declared.way.Way.TheVariants.{Verifying, Constructive, Deep}
 use Rattle.carte_record.specs.Lookups.{first_value, link_in, entry_in}
-use Rattle.carte_record.specs.Kept.{SomeKept, traces_in, staled}
-use Rattle.carte_record.specs.Folds.{started, carried, apply, batch_traces, is_among}
-use Rattle.carte_record.specs.Empty.{goes_on, brings_no_key, brings_no_trace, is_empty, EmptyChangesNothing}
+use Rattle.carte_record.specs.Kept.{traces_in, staled}
+use Rattle.carte_record.specs.Folds.{started, carried, batch_traces, is_among}
+use Rattle.carte_record.specs.Empty.{goes_on, brings_no_key, brings_no_trace, EmptyChangesNothing}
 use Rattle.carte_record.proofs.Found.{or_none}
-use Rattle.carte_record.proofs.Marks.{none_marked}
 use Rattle.carte_record.proofs.Growing.{kept_same}
 
 both : (b c : Bool) → b && c ≡ true → (b ≡ true) × (c ≡ true)

@@ -1,5 +1,5 @@
 -- What is kept, after a batch is taken in, and where it isn't.
-use Rattle.std.proofs.Common.{◌≡◌, ℕ, Bool, true, List, [], ◌∷◌, ◌++◌, Option, Some, None, refl, ap, sym, ◌∙◌, take, length, cond}
+use Rattle.std.proofs.Common.{◌≡◌, ℕ, true, List, [], ◌∷◌, ◌++◌, Option, Some, None, refl, ap, ◌∙◌, take, length, cond}
 use Rattle.std.proofs.Math.Seq.{take-append_seam}
 use Rattle.std.specs.Prelude.{find, option_map, unwrap_or, is_some}
 use Rattle.std.specs.Option.{option_or}
@@ -12,7 +12,7 @@ use Rattle.carte_record.specs.declared.way.Way.TheVariants.{Verifying, Construct
 use Rattle.carte_record.specs.declared.kept.Kept.{Kept}
 use Rattle.carte_record.specs.declared.batch.Batch.{Batch}
 use Rattle.carte_record.specs.declared.lengths.Lengths.{Lengths}
-use Rattle.carte_record.specs.Lookups.{first_link, link_in, first_entry, entry_in, first_value, digest_in, find_last, is_link_of, is_entry_of}
+use Rattle.carte_record.specs.Lookups.{first_link, link_in, first_entry, entry_in, first_value, digest_in, find_last, is_link_of}
 use Rattle.carte_record.specs.Steps.{Begins, replaced_by}
 use Rattle.carte_record.specs.Kept.{SomeKept, kept_view, kept_traces, newest, traces_in, staled}
 use Rattle.carte_record.specs.Folds.{is_among, batch_traces, carried}

@@ -5,6 +5,7 @@ pub mod AllPlaces
 pub mod Found
 pub mod Steps
 pub mod Changed
+pub mod Bodies
 pub mod Marks
 pub mod Growing
 pub mod Empties

@@ -1,5 +1,5 @@
 -- What is found is of its key.
-use Rattle.std.proofs.Common.{◌≡◌, ℕ, Bool, true, false, cond, List, [], ◌∷◌, Option, Some, None, refl, ap, sym, ◌∙◌, map, subst, inl, inr}
+use Rattle.std.proofs.Common.{◌≡◌, ℕ, Bool, true, false, cond, List, [], ◌∷◌, Some, None, refl, sym, ◌∙◌, map, subst, inl, inr}
 use Rattle.std.specs.Prelude.{find, ◌&&◌, if◌then◌else◌}
 use Rattle.std.specs.Option.{option_or}
 use Rattle.carte_value.specs.declared.digest.Digest.{Digest}
@@ -11,8 +11,8 @@ use Rattle.carte_value.specs.Spelling.{digest_of}
 use Rattle.carte_record.specs.declared.entry.Entry.{Entry}
 use Rattle.carte_record.specs.declared.trace.Trace.{Trace}
 use Rattle.carte_record.specs.declared.kept.Kept.{Kept}
-use Rattle.carte_record.specs.Lookups.{digest_eq, links_eq, trace_eq, find_last, first_value, is_value_of, is_entry_of}
-use Rattle.carte_record.specs.Kept.{SomeKept, kept_view}
+use Rattle.carte_record.specs.Lookups.{digest_eq, links_eq, trace_eq, find_last, is_value_of, is_entry_of}
+use Rattle.carte_record.specs.Kept.{kept_view}
 use Rattle.carte_record.proofs.Names.{name_eq_is, name_eq_self}
 use Rattle.carte_record.proofs.Found.{or_none}
 

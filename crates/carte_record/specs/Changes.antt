@@ -1,5 +1,5 @@
 -- Lists with one item changed, or without the last.
-use Rattle.std.specs.Prelude.{ℕ, ◌-◌, Bool, List, [], ◌∷◌, length, take, if◌then◌else◌}
+use Rattle.std.specs.Prelude.{◌-◌, Bool, List, [], ◌∷◌, length, take, if◌then◌else◌}
 
 -- the first item that passes is changed
 abbrev pub change_first : {A : Type 0} → (A → Bool) → (A → A) → List A → List A

@@ -5,5 +5,7 @@ pub mod Steps
 pub mod KeyPlaces
 pub mod Kept
 pub mod Folds
+pub mod Bodies
+pub mod BodyLaws
 pub mod Empty
 pub mod Growth

@@ -16,6 +16,7 @@
 
 mod apply;
 mod batch;
+mod codec;
 mod entries;
 mod entry;
 mod kept;
@@ -33,6 +34,7 @@ mod traces;
 mod way;
 
 pub use batch::Batch;
+pub use codec::one_body;
 pub use entries::Entries;
 pub use entry::Entry;
 pub use kept::Kept;

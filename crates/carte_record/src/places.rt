@@ -29,10 +29,10 @@ impl Places {
     {
         match self {
             Places::One(first) => {
-                let mut places = Vec::new(alloc);
-                places.push(*first)?;
-                places.push(at)?;
-                *self = Places::Many(places);
+                let mut both = Vec::new(alloc);
+                both.push(*first)?;
+                both.push(at)?;
+                *self = Places::Many(both);
                 Ok(())
             }
             Places::Many(places) => {

@@ -16,21 +16,21 @@ fn names(alloc: Global, text: &str) -> Result<Names, Fail> {
     Ok(names)
 }
 
-fn entry(alloc: Global, key: &str, result: i64, needs: &str) -> Result<Entry, Fail> {
+fn entry(alloc: Global, key: &str, number: i64, needs: &str) -> Result<Entry, Fail> {
     Ok(Entry {
         key: name(alloc, key)?,
-        result: Value::Number(result).digest(),
+        result: Value::Number(number).digest(),
         needs: names(alloc, needs)?,
         stale: false,
         shallow: false,
     })
 }
 
-fn trace(alloc: Global, key: &str, result: i64) -> Result<Trace, Fail> {
+fn trace(alloc: Global, key: &str, number: i64) -> Result<Trace, Fail> {
     Ok(Trace {
         key: name(alloc, key)?,
         links: Links::new(alloc),
-        result: Value::Number(result).digest(),
+        result: Value::Number(number).digest(),
     })
 }
 
@@ -39,6 +39,12 @@ fn link(alloc: Global, text: &str, number: i64) -> Result<Link, Fail> {
         name: name(alloc, text)?,
         digest: Value::Number(number).digest(),
     })
+}
+
+/// Puts a value with its digest.
+fn put(store: &mut Store, value: Value) -> Result<(), NoMemory> {
+    let digest = value.digest();
+    store.push_with(value, digest)
 }
 
 fn crosses<T: Send + Sync>(item: T) -> T {
@@ -61,7 +67,7 @@ fn lists_find_the_first(rt: HostRuntime) -> Result<(), Fail> {
     assert!(&rt; seen.find(&name(alloc, "c")?).is_none() && seen.get(3).is_none());
     let mut store = Store::new(alloc);
     store.push(Value::Empty)?;
-    store.push_with(Value::Number(7), Value::Number(7).digest())?;
+    put(&mut store, Value::Number(7))?;
     let store = crosses(store.copy(alloc)?);
     assert!(&rt; store.find(&Value::Empty.digest()).is_some());
     assert!(&rt; store.find(&Value::Number(8).digest()).is_none());
@@ -80,83 +86,5 @@ fn traces_have_their_places(rt: HostRuntime) -> Result<(), Fail> {
     assert_eq!(&rt; traces.places(&name(alloc, "a")?), [0, 2, 3].as_slice());
     assert_eq!(&rt; traces.places(&name(alloc, "b")?), [1].as_slice());
     assert!(&rt; traces.places(&name(alloc, "c")?).is_empty() && traces.get(4).is_none());
-    Ok(())
-}
-
-/// A batch that brings the key `a`, seen inputs and a chain.
-fn batch(alloc: Global, result: i64) -> Result<Batch, Fail> {
-    let mut batch = Batch::new(alloc);
-    batch.values.push(Value::Number(result))?;
-    batch.seen.push(link(alloc, "i", result)?)?;
-    batch.stale.push(name(alloc, "a")?)?;
-    batch.stale.push(name(alloc, "b")?)?;
-    batch.entries.push(entry(alloc, "a", result, "i")?)?;
-    batch.verifying.push(trace(alloc, "a", result)?)?;
-    batch.chain = Some(names(alloc, "a")?);
-    Ok(batch)
-}
-
-/// The result of the entry of a key, where it isn't stale.
-fn fresh(alloc: Global, kept: &Kept, key: &str) -> Result<Option<Digest>, Fail> {
-    match kept.entries.find(&name(alloc, key)?) {
-        Some(entry) => Ok(if entry.stale {
-            None
-        } else {
-            Some(entry.result)
-        }),
-        None => Err(Fail::new("no entry")),
-    }
-}
-
-#[test]
-fn batches_are_taken_in(rt: HostRuntime) -> Result<(), Fail> {
-    let alloc = rt.alloc();
-    let mut kept = Kept::empty(alloc);
-    let mut first = batch(alloc, 1)?;
-    first.start = Start::Anew(Value::Empty.digest());
-    first.entries.push(entry(alloc, "b", 5, "a")?)?;
-    kept.apply(&first)?;
-    kept.absorb(batch(alloc, 2)?)?;
-    assert_eq!(&rt; kept.rules, Some(Value::Empty.digest()));
-    assert_eq!(&rt; kept.entries.len(), 2);
-    assert_eq!(&rt; fresh(alloc, &kept, "a")?, Some(Value::Number(2).digest()));
-    assert_eq!(&rt; fresh(alloc, &kept, "b")?, None);
-    assert_eq!(&rt;
-        kept.traces(Way::Verifying).places(&name(alloc, "a")?),
-        [0, 1].as_slice()
-    );
-    assert_eq!(&rt;
-        kept.seen.find(&name(alloc, "i")?).copied(),
-        Some(Value::Number(2).digest())
-    );
-    assert!(&rt; kept.values.len() == 2 && kept.chain.len() == 1);
-    Ok(())
-}
-
-#[test]
-fn marks_and_copies(rt: HostRuntime) -> Result<(), Fail> {
-    let alloc = rt.alloc();
-    let mut kept = Kept::empty(alloc);
-    kept.absorb(batch(alloc, 1)?)?;
-    let mut begun = crosses(kept.copy(alloc)?);
-    begun.mark(&names(alloc, "a z")?);
-    assert_eq!(&rt; fresh(alloc, &begun, "a")?, None);
-    assert_eq!(&rt; fresh(alloc, &kept, "a")?, Some(Value::Number(1).digest()));
-    Ok(())
-}
-
-#[test]
-fn a_clearing_batch_leaves_nothing(rt: HostRuntime) -> Result<(), Fail> {
-    let alloc = rt.alloc();
-    let mut kept = Kept::empty(alloc);
-    kept.absorb(batch(alloc, 1)?)?;
-    let mut clearing = Batch::new(alloc);
-    assert!(&rt; clearing.is_empty() && !batch(alloc, 1)?.is_empty());
-    clearing.start = Start::Cleared;
-    assert!(&rt; !clearing.copy(alloc)?.is_empty());
-    kept.apply(&clearing)?;
-    assert!(&rt; kept.entries.is_empty() && kept.seen.is_empty() && kept.values.is_empty());
-    assert!(&rt; kept.traces(Way::Verifying).is_empty() && kept.chain.is_empty());
-    assert_eq!(&rt; kept.rules, None);
     Ok(())
 }

@@ -27,21 +27,21 @@ untold bytes short none = rw (not_below (length bytes) 16777216 short) (ap table
       | false ↦ λ is. refl
     ] refl
 
-as_read : (bytes : List ℕ) (r : Result CodeBook BookFault) → Answers (BookOf bytes) r → IsRead bytes r
-as_read bytes (Ok b) h = h
-as_read bytes (Err (Limit w n)) h = h tt
-as_read bytes (Err NotToml) h = h tt
-as_read bytes (Err (BadTable k)) h = h tt
-as_read bytes (Err (BadName k)) h = h tt
-as_read bytes (Err (BadValue k)) h = h tt
-as_read bytes (Err (Formula k fault)) h = h tt
-as_read bytes (Err (Twice k)) h = h tt
-as_read bytes (Err (NotUtf8 k)) h = h tt
-as_read bytes (Err NoMemory) h = tt
+as_read : (bytes : List ℕ) (r : Result CodeBook BookFault) → length bytes ≤ 16777216 → Answers (BookOf bytes) r → IsRead bytes r
+as_read bytes (Ok b) short h = h
+as_read bytes (Err (Limit w n)) short h = h tt
+as_read bytes (Err NotToml) short h = h tt
+as_read bytes (Err (BadTable k)) short h = h tt
+as_read bytes (Err (BadName k)) short h = h tt
+as_read bytes (Err (BadValue k)) short h = h tt
+as_read bytes (Err (Formula k fault)) short h = h tt
+as_read bytes (Err (Twice k)) short h = h tt
+as_read bytes (Err (NotUtf8 k)) short h = h tt
+as_read bytes (Err NoMemory) short h = short
 
 -- what is answered of the document is answered of the bytes
 pub read_so : (bytes : List ℕ) (ms : Members) (r : Result CodeBook BookFault) → length bytes ≤ 16777216 → IsUtf8 bytes → parse_document bytes ≡ Some ms → Answers (Then (tables_into ms no_tables) InTables) r → IsRead bytes r
-read_so bytes ms r short text is h = as_read bytes r (subst (λ (t : Result Tables BookFault). Answers (Then t InTables) r) (sym (told bytes ms short text is)) h)
+read_so bytes ms r short text is h = as_read bytes r short (subst (λ (t : Result Tables BookFault). Answers (Then t InTables) r) (sym (told bytes ms short text is)) h)
 
 pub no_toml : (bytes : List ℕ) → length bytes ≤ 16777216 → (IsUtf8 bytes → parse_document bytes ≡ None) → IsRead bytes (Err NotToml)
 no_toml bytes short none = subst (λ (t : Result Tables BookFault). Then t InTables (Err NotToml)) (sym (untold bytes short none)) refl

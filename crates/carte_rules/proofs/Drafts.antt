@@ -10,7 +10,7 @@ use Rattle.std.proofs.lemmas.List.{nil_from_length}
 use Rattle.carte_value.specs.Names.{name_cmp}
 use Rattle.carte_book.specs.Book.{Item}
 use Rattle.carte_rules.specs.Reading.{Content}
-use Rattle.carte_rules.specs.Drafts.{items_of, Holds}
+use Rattle.carte_rules.specs.Drafts.{items_of, Holds, IsFree}
 use Rattle.carte_rules.specs.declared.draft.Draft.{Draft}
 
 -- how many keys there are with one more
@@ -30,6 +30,14 @@ no_other s q none = rw (nil_from_length s.keys none) refl
 or_false : (a b : Bool) → b ≡ false → a ≡ (a || b)
 or_false true b e = refl
 or_false false b e = sym e
+
+left_false : (a b c : Bool) → c ≡ (a || b) → c ≡ false → a ≡ false
+left_false true b c e h = sym e ∙ h
+left_false false b c e h = refl
+
+-- where nothing stands in the content, nothing does in the book
+pub free_there : (d : Draft) (k : List ℕ) → IsFree d k → is_some (get (items_of d) k) ≡ false
+free_there d k (m, h, none) = left_false (is_some (get (items_of d) k)) (contains name_cmp d.beyond k) (is_some (get m k)) (h.names k) (ap is_some none)
 
 -- nothing is held at first
 pub holds_none : (d : Draft) → items_of d ≡ empty → btree_set_len d.beyond ≡ 0 → Holds d empty

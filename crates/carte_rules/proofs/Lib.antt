@@ -5,3 +5,4 @@ pub mod Keys
 pub mod Turns
 pub mod Fresh
 pub mod Causes
+pub mod Some

@@ -1,5 +1,5 @@
 -- What a draft holds.
-use Rattle.std.specs.Prelude.{ℕ, ◌≡◌, ◌<◌, ◌≤◌, ◌||◌, List, length, is_some}
+use Rattle.std.specs.Prelude.{ℕ, ◌≡◌, ◌<◌, ◌≤◌, ◌||◌, List, length, None, is_some}
 use Rattle.std.specs.FinMap.{get, entries}
 use Rattle.std.specs.BTreeSet.{contains, btree_set_len}
 use Rattle.carte_value.specs.Names.{name_cmp}
@@ -17,3 +17,11 @@ pub record Holds (d : Draft) (m : Content) : Type 0 where
   pub all : btree_set_len d.beyond ≡ 0 → items_of d ≡ m
   pub full : 0 < btree_set_len d.beyond → 65536 ≤ length (entries (items_of d))
   pub more : 0 < btree_set_len d.beyond → 65536 < length (entries m)
+
+-- it has some content
+abbrev pub HoldsSome : Draft → Type 0
+HoldsSome d = (m : Content) × Holds d m
+
+-- and nothing stands at the name
+abbrev pub IsFree : Draft → List ℕ → Type 0
+IsFree d k = (m : Content) × Holds d m × (get m k ≡ None)

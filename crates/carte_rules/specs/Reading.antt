@@ -1,5 +1,5 @@
 -- Which bytes are a rule file, and which book it is. Members stand in byte order of their keys.
-use Rattle.std.specs.Prelude.{ℕ, ◌≡◌, nat_le, nat_lt, List, length, Option, Some, None, is_some, Result, Ok, Err, if◌then◌else◌}
+use Rattle.std.specs.Prelude.{ℕ, ◌≡◌, ◌≤◌, nat_le, nat_lt, List, length, Option, Some, None, is_some, Result, Ok, Err, if◌then◌else◌}
 use Rattle.std.specs.FinMap.{FinMap, get, insert, empty, entries}
 use Rattle.toml.specs.Data.{Data, string, integer, Members, no_members, member, as_str}
 use Rattle.carte_value.specs.declared.kind.Kind.TheVariants.{Rules}
@@ -8,7 +8,7 @@ use Rattle.carte_value.specs.declared.value.Value.TheVariants.{Number, Text}
 use Rattle.carte_value.specs.Names.{name_cmp, is_rule_name}
 use Rattle.carte_tree.specs.Tree.{Tree}
 use Rattle.carte_tree.specs.declared.fault.FormulaFault.{FormulaFault}
-use Rattle.carte_formula.specs.Whole.{Reads, IsTold}
+use Rattle.carte_formula.specs.Whole.{Reads, IsTold, reading}
 use Rattle.carte_book.specs.Book.{Item, input, rule, Book, book_view}
 use Rattle.carte_book.specs.declared.book.Book.{Book as CodeBook}
 use Rattle.carte_book.specs.declared.fault.Which.TheVariants.{Keys}
@@ -83,8 +83,19 @@ InTables t o = Then (inputs_into t.inputs empty) (WithRules t.rules) o
 abbrev pub BookOf : List ℕ → Result Book BookFault → Type 0
 BookOf bytes o = Then (tables_of bytes) InTables o
 
--- what a reader answers: that, but that memory may run out
+-- the same as functions
+abbrev pub formula_in : List ℕ → List ℕ → Result Tree BookFault
+formula_in k text = at_rule k (reading Rules text)
+
+abbrev pub rules_in : Members → Content → Result Content BookFault
+rules_in no_members m = Ok m
+rules_in (member k d ms) m = text_at k d m >>= formula_in k >>= (λ e. rules_in ms (insert m k (rule e)))
+
+abbrev pub book_in : List ℕ → Result Book BookFault
+book_in bytes = tables_of bytes >>= (λ t. inputs_into t.inputs empty >>= (λ m. rules_in t.rules m >>= book_of))
+
+-- what a reader answers: that, but that memory may run out for bytes that aren't too many
 abbrev pub IsRead : List ℕ → Result CodeBook BookFault → Type 0
 IsRead bytes (Ok b) = BookOf bytes (Ok (book_view b))
-IsRead bytes (Err NoMemory) = Unit {0}
+IsRead bytes (Err NoMemory) = length bytes ≤ 16777216
 IsRead bytes (Err fault) = BookOf bytes (Err fault)

@@ -5,7 +5,7 @@ ghost use Rattle.carte_value.specs.Names.{is_rule_name};
 ghost use Rattle.carte_tree.specs.Code.{tree_of};
 ghost use Rattle.carte_tree.specs.Formula.{IsExpr, HasNames};
 ghost use Rattle.carte_book.specs.Book.{Item, input, rule, book_view};
-ghost use Rattle.carte_rules.specs.Drafts.{Holds, items_of};
+ghost use Rattle.carte_rules.specs.Drafts.{Holds, IsFree, items_of};
 ghost use Rattle.carte_rules.specs.Reading.{Content, book_of};
 ghost use Rattle.carte_rules.specs.Steps.{Gives};
 
@@ -39,8 +39,10 @@ impl Draft {
     }
 
     /// Puts an input at a name at which nothing stands.
+    #[tactic(auto, using(crate::proofs::Drafts::free_there))]
     pub(crate) fn add_input(&mut self, name: Name, value: Value) -> Result<(), NoMemory>
-        requires { IsTrue (is_rule_name name) }
+        requires name { IsTrue (is_rule_name name) }
+        requires free { IsFree self.old name }
         ensures { (m : Content) → Holds self.old m → get m name ≡ None → OnOk result (Holds self.new (insert m name (input value))) }
     {
         if self.is_full() {
@@ -49,13 +51,16 @@ impl Draft {
         match self.book.add_input(name, value) {
             Ok(()) => Ok(()),
             Err(AddFault::Limit) => unreachable!(),
-            Err(AddFault::Twice | AddFault::NoMemory) => Err(NoMemory),
+            Err(AddFault::Twice) => unreachable!(),
+            Err(AddFault::NoMemory) => Err(NoMemory),
         }
     }
 
     /// Puts a rule at a name at which nothing stands.
+    #[tactic(auto, using(crate::proofs::Drafts::free_there))]
     pub(crate) fn add_rule(&mut self, name: Name, expr: Expr) -> Result<(), NoMemory>
         requires name { IsTrue (is_rule_name name) }
+        requires free { IsFree self.old name }
         requires formula { IsExpr (tree_of expr) }
         requires names { HasNames Rules (tree_of expr) }
         ensures { (m : Content) → Holds self.old m → get m name ≡ None → OnOk result (Holds self.new (insert m name (rule (tree_of expr)))) }
@@ -66,7 +71,8 @@ impl Draft {
         match self.book.add_rule(name, expr) {
             Ok(()) => Ok(()),
             Err(AddFault::Limit) => unreachable!(),
-            Err(AddFault::Twice | AddFault::NoMemory) => Err(NoMemory),
+            Err(AddFault::Twice) => unreachable!(),
+            Err(AddFault::NoMemory) => Err(NoMemory),
         }
     }
 

@@ -26,9 +26,7 @@ pub(crate) fn find_tables(alloc: Global, document: Table) -> Result<Found, BookF
         rules: BTreeMap::new(alloc),
     };
     for (key, value) in document {
-        if let Err(fault) = put_table(alloc, &mut found, key.as_str(), value) {
-            return Err(fault);
-        }
+        put_table(alloc, &mut found, key.as_str(), value)?;
     }
     Ok(found)
 }

@@ -1,7 +1,7 @@
 ghost use Rattle.std.specs.Prelude.{◌≡◌, None, IfOk};
 ghost use Rattle.std.specs.FinMap.{empty, get};
 ghost use Rattle.toml.specs.View.{view, table_view};
-ghost use Rattle.carte_rules.specs.Drafts.{Holds};
+ghost use Rattle.carte_rules.specs.Drafts.{Holds, IsFree};
 ghost use Rattle.carte_rules.specs.Reading.{Content, input_into, inputs_into, value_of};
 ghost use Rattle.carte_rules.specs.Steps.{Leaves};
 
@@ -14,12 +14,11 @@ use toml::Table;
 
 /// Puts all inputs into a draft without keys.
 pub(crate) fn read_inputs(alloc: Global, table: Table, draft: &mut Draft) -> Result<(), BookFault>
-    ensures { Holds draft.old empty → Leaves (inputs_into (table_view table) empty) draft.new result }
+    requires { Holds draft.old empty }
+    ensures { Leaves (inputs_into (table_view table) empty) draft.new result }
 {
     for (key, value) in table {
-        if let Err(fault) = read_input(alloc, key.as_str(), value, draft) {
-            return Err(fault);
-        }
+        read_input(alloc, key.as_str(), value, draft)?;
     }
     Ok(())
 }
@@ -30,6 +29,7 @@ fn read_input(
     value: toml::Value,
     draft: &mut Draft,
 ) -> Result<(), BookFault>
+    requires { IsFree draft.old key.now }
     ensures { (m : Content) → Holds draft.old m → get m key.now ≡ None → Leaves (input_into key.now (view value) m) draft.new result }
 {
     match name_of(alloc, key) {

@@ -2,13 +2,19 @@
 ghost use Rattle.std.specs.Prelude.{◌≡◌, ℕ, List, Result};
 ghost use Rattle.carte_book.specs.Book.{Book};
 ghost use Rattle.carte_book.specs.declared.fault.BookFault.{BookFault};
-ghost use Rattle.carte_rules.specs.Reading.{BookOf};
+ghost use Rattle.carte_rules.specs.Reading.{BookOf, book_in};
 ghost use Rattle.carte_rules.specs.Steps.{IsOfBytes};
 
 /// Bytes are one book at most, or have one fault.
 #[tactic(auto, using(crate::proofs::Unique::one_book))]
 pub fn book_is_unique()
     ensures { (bytes : List ℕ) (r s : Result Book BookFault) → BookOf bytes r → BookOf bytes s → r ≡ s }
+{}
+
+/// Each list of bytes is a book or has a fault: what the function `book_in` gives.
+#[tactic(auto, using(crate::proofs::Some::book_some))]
+pub fn book_some()
+    ensures { (bytes : List ℕ) → BookOf bytes (book_in bytes) }
 {}
 
 /// The want of memory is never what bytes are, nor that in reading a formula.

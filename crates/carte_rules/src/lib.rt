@@ -24,5 +24,5 @@ mod rules;
 #[cfg(test)]
 mod tests;
 
-pub use laws::{book_is_unique, fault_is_of_bytes};
+pub use laws::{book_is_unique, book_some, fault_is_of_bytes};
 pub use read::read_rules;

@@ -21,12 +21,12 @@ const MOST_BYTES: usize = 16_777_216;
 /// The fault is the first of these: `Limit` of bytes; `NotToml`; `BadTable` of the first other top key in byte order,
 /// or that is no table; for each input in byte order `BadName`, then `BadValue` of what is neither an integer nor a
 /// text of at most 65,536 bytes; for each rule in byte order `BadName`, `Twice` where it is an input, `BadValue` of
-/// what is no text, `Formula`; `Limit` of keys.
+/// what is no text, `Formula`; `Limit` of keys. Memory is wanted only where there aren't too many bytes.
 pub fn read_rules(alloc: Global, bytes: &[u8]) -> Result<Book, BookFault>
     ensures { IsRead bytes.now result }
 {
     if bytes.len() > MOST_BYTES {
-        return Err(BookFault::Limit(Which::Bytes, 16_777_216));
+        return Err(BookFault::Limit(Which::Bytes, MOST_BYTES as u64));
     }
     match toml::table_from_slice(alloc, bytes) {
         Ok(document) => read_document(alloc, document),
@@ -43,10 +43,7 @@ pub fn read_rules(alloc: Global, bytes: &[u8]) -> Result<Book, BookFault>
 fn read_document(alloc: Global, document: Table) -> Result<Book, BookFault>
     ensures { Answers (Then (tables_into (table_view document) no_tables) InTables) result }
 {
-    match find_tables(alloc, document) {
-        Ok(found) => read_tables(alloc, found),
-        Err(fault) => Err(fault),
-    }
+    read_tables(alloc, find_tables(alloc, document)?)
 }
 
 fn read_tables(alloc: Global, found: Found) -> Result<Book, BookFault>
@@ -54,11 +51,7 @@ fn read_tables(alloc: Global, found: Found) -> Result<Book, BookFault>
 {
     let Found { inputs, rules } = found;
     let mut draft = Draft::new(alloc);
-    if let Err(fault) = read_inputs(alloc, inputs, &mut draft) {
-        return Err(fault);
-    }
-    match read_formulas(alloc, rules, &mut draft) {
-        Ok(()) => draft.finish(),
-        Err(fault) => Err(fault),
-    }
+    read_inputs(alloc, inputs, &mut draft)?;
+    read_formulas(alloc, rules, &mut draft)?;
+    draft.finish()
 }

@@ -90,7 +90,7 @@ fn a_book_is_read(rt: HostRuntime) -> Result<(), Fail> {
     Ok(())
 }
 
-/// Each fault, and which of two is told.
+/// Each fault, and which of two is told; the places of formulas' faults are counted by hand.
 #[test]
 fn faults_by_their_names(rt: HostRuntime) -> Result<(), Fail> {
     let alloc = rt.alloc();
@@ -117,19 +117,6 @@ fn faults_by_their_names(rt: HostRuntime) -> Result<(), Fail> {
         ("[inputs]\na = true\nB = 1", "bad name", 0, "B"),
         ("[inputs]\nA = true", "bad name", 0, "A"),
         ("[inputs]\na = true\n[rules]\nA = 'a'", "bad value", 0, "a"),
-    ];
-    for (text, word, number, key) in cases {
-        let right = tells(alloc, text.as_bytes(), word, number, key);
-        assert!(rt; right, "{text}");
-    }
-    Ok(())
-}
-
-/// The same of rules; the places of formulas' faults are counted by hand.
-#[test]
-fn faults_of_rules(rt: HostRuntime) -> Result<(), Fail> {
-    let alloc = rt.alloc();
-    let cases = [
         ("[rules]\n1a = 'a'", "bad name", 0, "1a"),
         ("[rules]\na = 1", "bad value", 0, "a"),
         ("[rules]\na = '1 +'", "bad syntax", 3, "a"),

@@ -1,5 +1,6 @@
 -- A task on its way: names that are looked up, and instructions that are passed over.
 use Rattle.std.proofs.Common.{◌≡◌, ℕ, ◌+◌, ◌<◌, Bool, true, false, List, [], ◌∷◌, ◌++◌, Option, Result, Ok, Err, refl, ap, sym, ◌∙◌, subst, zero, suc, length, get_or, drop, add-one, append_assoc}
+use Rattle.std.specs.Result.{IsErr, IsErrAnd}
 use Rattle.std.proofs.Math.Seq.{drop-cons, drop-nil}
 use Rattle.carte_value.specs.declared.kind.Kind.{Kind}
 use Rattle.carte_value.specs.declared.value.Value.{Value}
@@ -14,7 +15,7 @@ use Rattle.carte_task.specs.declared.code.Next.TheVariants.{Behind}
 use Rattle.carte_effect.specs.Effects.{more, SameStops}
 use Rattle.carte_task.specs.Answered.{IsAnswer, Answered, Along, Halted}
 use Rattle.carte_task.specs.Code.{pushed, exec, top}
-use Rattle.carte_task.specs.Turns.{goes}
+use Rattle.carte_task.specs.Applying.{goes}
 use Rattle.carte_value.proofs.Once.{went_on, answers_on}
 use Rattle.carte_task.specs.declared.progress.Progress.{Progress}
 use Rattle.carte_task.specs.State.{answers_in, pending, waits, rest_in, Looked, Proceeds, Stepped}
@@ -97,3 +98,9 @@ looking_stops {S = S} kind code t u own other log0 log1 log p0 p q h same stops 
 pub stepped_end : (kind : Kind) (code : List Instr) (p q : Progress) (b : Bool) → b ≡ false → Stepped kind code p q b → rest_in kind code q ≡ done (top q.values.items)
 stepped_end kind code p q true never stepped = absurd (cc)
 stepped_end kind code p q false is stepped = stepped
+
+-- it halts for want of memory
+pub starves : {A B S : Type 0} (t : Truth) (own : List ℕ → S → Type 0) (r : Asks A) (P : B → Type 0) (result : Result B (Halt S)) → IsErr result → IsErrAnd result (λ h. h ≡ NoMemory) → Halted t own r P result
+starves t own r P (Ok b) err is = cc
+starves t own r P (Err (Stop s)) err is = cc
+starves t own r P (Err NoMemory) err is = tt

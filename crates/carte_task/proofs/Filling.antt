@@ -15,7 +15,6 @@ use Rattle.carte_effect.specs.Lists.{ValuesOf}
 use Rattle.carte_value.specs.declared.kind.Kind.{Kind}
 use Rattle.carte_task.specs.declared.code.Instr.{Instr}
 use Rattle.carte_task.specs.declared.progress.Progress.{Progress}
-use Rattle.carte_effect.specs.declared.refs_only.Never.{Never}
 use Rattle.carte_task.specs.declared.static_task.StaticTask.{StaticTask}
 use Rattle.carte_task.specs.Code.{top}
 use Rattle.carte_task.specs.State.{answers_in, rest_in, Proceeds}
@@ -124,12 +123,12 @@ static_end t s vs o of ends = record {
   links = ends.links;
 }
 
-nothing_known : (b : Answers) → AnswersOf (λ k. None) b → b ≡ []
+pub nothing_known : (b : Answers) → AnswersOf (λ k. None) b → b ≡ []
 nothing_known [] of = refl
 nothing_known ((k, v) ∷ b) (is, of) = cc
 
 -- a drive that is answered nothing more
-pub over_done : (kind : Kind) (code : List Instr) (own : List ℕ → Never → Type 0) (log0 log : Option Answers) (p q : Progress) (u : Unit {0}) → Proceeds kind code (λ k. None) own log0 log p q (Ok u) → (answers_in q ≡ answers_in p) × (rest_in kind code p ≡ done (top q.values.items))
+pub over_done : {S : Type 0} (kind : Kind) (code : List Instr) (own : List ℕ → S → Type 0) (log0 log : Option Answers) (p q : Progress) (u : Unit {0}) → Proceeds kind code (λ k. None) own log0 log p q (Ok u) → (answers_in q ≡ answers_in p) × (rest_in kind code p ≡ done (top q.values.items))
 over_done kind code own log0 log p q u (along, end) =
     let none : along.further ≡ [] = nothing_known along.further along.led.known in (
       along.answers ∙ ap (λ b. answers_in p ++ b) none ∙ append-nil (answers_in p),

@@ -12,3 +12,4 @@ pub mod Once
 pub mod Filling
 pub mod Readings
 mod Giving
+mod Silent

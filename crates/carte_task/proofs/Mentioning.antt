@@ -1,19 +1,23 @@
 -- The names in a formula's instructions are those in the formula.
-use Rattle.std.proofs.Common.{◌≡◌, ℕ, true, List, [], ◌∷◌, ◌++◌, refl, ap, sym, ◌∙◌, append_assoc, append-nil}
+use Rattle.std.proofs.Common.{◌≡◌, ℕ, true, List, [], ◌∷◌, ◌++◌, refl, ap, sym, ◌∙◌, subst, append_assoc, append-nil}
 use Rattle.carte_value.specs.declared.kind.Kind.{Kind}
 use Rattle.carte_value.specs.Areas.{cells_of}
 use Rattle.carte_tree.specs.Tree.{Tree, number, text, ref, neg, chain, call, Steps, no_step, step, Args, no_arg, arg, Arg, one, cells}
 use Rattle.carte_tree.specs.declared.expr.Func.TheVariants as f
-use Rattle.carte_tree.specs.Formula.{is_static_tree, mentions, steps_mentions, args_mentions, arg_mentions}
+use Rattle.carte_tree.specs.Formula.{is_static_tree, refs_of, mentions, steps_mentions, args_mentions, arg_mentions}
 use Rattle.carte_task.specs.declared.code.Instr.{Instr}
 use Rattle.carte_task.specs.declared.code.Instr.TheVariants as i
 use Rattle.carte_task.specs.declared.task.Task.{Task}
 use Rattle.carte_task.specs.declared.static_task.StaticTask.{StaticTask}
-use Rattle.carte_value.specs.Asks.{firsts}
+use Rattle.carte_value.specs.Asks.{firsts, asked}
+use Rattle.carte_value.specs.Once.{once}
+use Rattle.carte_tree.specs.InTurn.{KnowsAll}
+use Rattle.carte_tree.specs.Meaning.{asks}
+use Rattle.carte_tree.specs.Laws.{StaticRuns}
 use Rattle.carte_task.specs.Statics.{HasParts, IsStaticTaskOf}
 use Rattle.carte_task.specs.Code.{exec}
 use Rattle.carte_task.specs.Coding.{count, choice, code_of, code_of_steps, code_of_args, code_of_arg}
-use Rattle.carte_task.specs.Mentions.{mentioned_by, mentions_in}
+use Rattle.carte_task.specs.Mentions.{mentioned_by, mentions_in, AsksOnly}
 use Rattle.carte_task.specs.Tasks.{IsTaskOf}
 use Rattle.carte_task.proofs.Coding.{coded}
 
@@ -71,3 +75,13 @@ static_made kind k e t s fixed parts of = record {
   computes = ap (λ q. exec q 0 s.code.items []) parts.kind ∙ ap (λ cs. exec t.kind 0 cs []) parts.code ∙ of.computes;
   refs = s.mentioned ∙ ap (λ cs. firsts (mentions_in cs)) parts.code ∙ ap firsts of.mentioned;
 }
+
+-- a static formula's code asks only for what it mentions
+pub made_only : (kind : Kind) (e : Tree) (code : List Instr) → StaticRuns → code ≡ code_of e → is_static_tree e ≡ true → AsksOnly (firsts (mentions_in code)) (exec kind 0 code [])
+made_only kind e code law is fixed t u a knows =
+    let same : exec kind 0 code [] ≡ asks kind e = ap (λ cs. exec kind 0 cs []) is ∙ coded kind e in
+    let names : firsts (mentions_in code) ≡ refs_of e = ap firsts (ap mentions_in is ∙ mentions_coded e) in
+    ap (λ m. asked u (once a m)) same ∙ law.quiet kind t u a e fixed (subst (KnowsAll a t) names knows)
+
+pub kept_only : (kind : Kind) (code copy : List Instr) (refs : List (List ℕ)) → copy ≡ code → refs ≡ firsts (mentions_in copy) → AsksOnly (firsts (mentions_in code)) (exec kind 0 code []) → AsksOnly refs (exec kind 0 copy [])
+kept_only kind code copy refs same are only = rw (are, same) only

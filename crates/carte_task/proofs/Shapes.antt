@@ -1,11 +1,14 @@
 -- Calls and their instructions.
-use Rattle.std.proofs.Common.{◌≡◌, ℕ, zero, suc, ◌+◌, ◌<◌, ◌≤◌, Bool, true, false, ◌&&◌, nat_eq, Result, Ok, Err, List, [], ◌∷◌, ◌++◌, length, map, take, get_or, refl, ap, sym, ◌∙◌, append_assoc, append-nil, subst, rules, arith}
+use Rattle.std.proofs.Common.{◌≡◌, ℕ, zero, suc, ◌+◌, ◌<◌, ◌≤◌, Bool, true, false, ◌&&◌, nat_eq, Result, Ok, Err, List, [], ◌∷◌, ◌++◌, length, map, take, drop, get_or, add-one, refl, ap, sym, ◌∙◌, append_assoc, append-nil, subst, rules, arith}
 use Rattle.std.specs.Prelude.{OnOk, if◌then◌else◌}
+use Rattle.std.proofs.Math.Seq.{drop-cons}
 use Rattle.std.proofs.Math.Dec.{eqb-suc-zero, eqb-zero-suc, eqb-suc-suc}
 use Rattle.std.proofs.lemmas.List.{take_more, map-append, take-append-drop}
 use Rattle.std.proofs.Math.ListN.{drop_of_length-le}
 use Rattle.std.specs.List.{list_all}
 use Rattle.carte_tree.specs.Tree.{Tree, call, Args, no_arg, arg, Arg, one, cells, Term, steps_of, args_of}
+use Rattle.carte_tree.specs.Formula.{AreSteps, AreArgs, IsArg, AreCallArgs, IsCallArg}
+use Rattle.carte_tree.specs.declared.expr.Level.{Level}
 use Rattle.carte_tree.specs.Code.{arg_tree, args_tree, rest_steps, tree_of, term_of, pairs_of}
 use Rattle.carte_tree.specs.declared.expr.Expr.{Expr}
 use Rattle.carte_tree.specs.declared.expr.Op.{Op}
@@ -16,10 +19,10 @@ use Rattle.carte_tree.specs.declared.expr.Func.{Func}
 use Rattle.carte_tree.specs.declared.expr.Func.TheVariants as f
 use Rattle.carte_task.specs.declared.code.Instr.{Instr}
 use Rattle.carte_task.specs.declared.code.Instr.TheVariants as i
-use Rattle.carte_task.specs.declared.postfix.Form.{Form}
-use Rattle.carte_task.specs.declared.postfix.Form.TheVariants.{Choice, Indirect, Gather, Plain}
+use Rattle.carte_task.specs.declared.compile.Form.{Form}
+use Rattle.carte_task.specs.declared.compile.Form.TheVariants.{Choice, Indirect, Gather, Plain}
 use Rattle.carte_task.specs.Coding.{count, count_arg, choice, code_of, code_of_steps, code_of_args, code_of_arg}
-use Rattle.carte_task.specs.Forms.{form_of, are_ones, is_one}
+use Rattle.carte_task.specs.Forms.{form_of, are_ones, is_one, HaveLevel}
 
 -- arguments and operands, item by item
 pub args_view : (xs : CodeArgs) → args_tree xs ≡ args_of (map arg_tree xs.items.items)
@@ -135,3 +138,62 @@ count_more xs at x n m within is before after =
 
 pub count_all : (xs : List CodeArg) (at n : ℕ) → length xs ≤ at → n ≡ count (args_of (map arg_tree (take at xs))) → n ≡ count (args_of (map arg_tree xs))
 count_all xs at n all is = is ∙ ap (λ ys. count (args_of (map arg_tree ys))) (take_all xs at all)
+
+-- each argument of a call is one
+arg_at : (func : _) (xs : List CodeArg) (at : ℕ) (d : CodeArg) → AreArgs func (args_of (map arg_tree xs)) → at < length xs → IsArg func (arg_tree (get_or xs at d))
+arg_at func [] at d are within = let never : ⊥ = omega (arith, within) in absurd never
+arg_at func (x ∷ xs) zero d (here, rest) within = here
+arg_at func (x ∷ xs) (suc at) d (here, rest) within = let inside : at < length xs = omega arith in arg_at func xs at d rest inside
+
+pub call_arg : (xs : CodeArgs) (at : ℕ) (x : CodeArg) → AreCallArgs (args_tree xs) → at < length xs.items.items → x ≡ get_or xs.items.items at x → IsCallArg (arg_tree x)
+call_arg xs at x (func, are) within is = (func, subst (λ y. IsArg func (arg_tree y)) (sym is) (arg_at func xs.items.items at x (subst (AreArgs func) (args_view xs) are) within))
+
+-- formulas alone are as many as the form says
+ones_length : (n : ℕ) (xs : List CodeArg) → are_ones n (args_of (map arg_tree xs)) ≡ true → length xs ≡ n
+ones_length zero [] is = refl
+ones_length (suc n) [] is = cc
+ones_length zero (x ∷ xs) is = cc
+ones_length (suc n) (x ∷ xs) is =
+    elim (arg_tree x) as (λ y. are_ones (suc n) (arg y (args_of (map arg_tree xs))) ≡ true → length (x ∷ xs) ≡ suc n) [
+      | one e ↦ λ rest. ap suc (ones_length n xs rest)
+      | cells a ↦ λ never. cc
+    ] is
+
+pub are_as_many : (n : ℕ) (xs : CodeArgs) → are_ones n (args_tree xs) ≡ true → length xs.items.items ≡ n
+are_as_many n xs is = ones_length n xs.items.items (ap (are_ones n) (sym (args_view xs)) ∙ is)
+
+-- which forms they are
+pub choice_ones : (func : Func) (xs : Args) → Choice ≡ form_of func xs → are_ones 3 xs ≡ true
+choice_ones f.If xs is = elim (are_ones 3 xs) as (λ b. Choice ≡ (if b then Choice else Plain) → b ≡ true) [
+  | true ↦ λ here. refl
+  | false ↦ λ never. cc
+] is
+choice_ones f.Indirect xs is = absurd (no_choice (are_ones 1 xs) Indirect (λ e. cc) is)
+choice_ones f.Gather xs is = absurd (no_choice (are_ones 1 xs) Gather (λ e. cc) is)
+choice_ones func xs is = cc
+
+one_of : (xs : List CodeArg) (e : Tree) (x : CodeArg) → args_of (map arg_tree xs) ≡ arg (one e) no_arg → x ≡ get_or xs 0 x → arg_tree x ≡ one e
+one_of [] e x is first = cc
+one_of (u ∷ xs) e x is first = let p : arg_tree u ≡ one e = cc in ap arg_tree first ∙ p
+
+-- what was written for one argument and an instruction behind it, where it is a formula
+pub then_written : {A E : Type 0} (result : Result A E) (xs : CodeArgs) (x : CodeArg) (last : Instr) (old mid new : List Instr) → x ≡ get_or xs.items.items 0 x → mid ≡ old ++ code_of_arg (arg_tree x) → OnOk result (new ≡ mid ++ last ∷ []) → OnOk result ((e : Tree) → args_tree xs ≡ arg (one e) no_arg → new ≡ old ++ (code_of e ++ last ∷ []))
+then_written result xs x last old mid new first before = on_ok result (new ≡ mid ++ last ∷ []) ((e : Tree) → args_tree xs ≡ arg (one e) no_arg → new ≡ old ++ (code_of e ++ last ∷ [])) (λ written e shape.
+    let t : arg_tree x ≡ one e = one_of xs.items.items e x (sym (args_view xs) ∙ shape) first in
+    written ∙ ap (λ cs. cs ++ last ∷ []) (before ∙ ap (λ y. old ++ code_of_arg y) t) ∙ append_assoc old (code_of e) (last ∷ []))
+
+-- behind one argument, and behind one step
+pub args_left : (xs : List CodeArg) (at : ℕ) (d : CodeArg) → at < length xs → AreCallArgs (args_of (map arg_tree (drop at xs))) → AreCallArgs (args_of (map arg_tree (drop (at + 1) xs)))
+args_left xs at d within (func, are) =
+    let split : drop at xs ≡ get_or xs at d ∷ drop (at + 1) xs = drop-cons xs at d within ∙ ap (λ n. get_or xs at d ∷ drop n xs) (sym (add-one at)) in
+    (func, (subst (λ ys. AreArgs func (args_of (map arg_tree ys))) split are).1)
+
+pub steps_left : (xs : List (Op × Expr)) (at : ℕ) (d : Op × Expr) → at < length xs → HaveLevel (steps_of (map term_of (pairs_of (drop at xs)))) → HaveLevel (steps_of (map term_of (pairs_of (drop (at + 1) xs))))
+steps_left xs at d within (l, are) =
+    let split : drop at xs ≡ get_or xs at d ∷ drop (at + 1) xs = drop-cons xs at d within ∙ ap (λ n. get_or xs at d ∷ drop n xs) (sym (add-one at)) in
+    (l, (subst (λ ys. AreSteps l (steps_of (map term_of (pairs_of ys)))) split are).2)
+
+pub arg_here : (xs : List CodeArg) (at : ℕ) (x : CodeArg) → AreCallArgs (args_of (map arg_tree (drop at xs))) → at < length xs → x ≡ get_or xs at x → IsCallArg (arg_tree x)
+arg_here xs at x (func, are) within is =
+    let split : drop at xs ≡ x ∷ drop (suc at) xs = drop-cons xs at x within ∙ ap (λ y. y ∷ drop (suc at) xs) (sym is) in
+    (func, (subst (λ ys. AreArgs func (args_of (map arg_tree ys))) split are).0)

@@ -64,35 +64,35 @@ link_names ((k, v) ∷ a) = ap (λ ks. k ∷ ks) (link_names a)
 
 -- over the truth and the answers of before, it runs as what is left over the truth, and looks up what was answered and then what is left
 runs_on : (t : Truth) (log0 log : Option Answers) (p q : State) → GoesOn t log0 log p q → IsUnderWay p → (run (and_answers p.answers t) p.whole ≡ run t q.rest) × (looks_up (and_answers p.answers t) p ≡ names_of q.answers ++ asked (and_answers p.answers t) q.rest)
-runs_on t log0 log p q on sound =
+runs_on t log0 log p q on under_way =
     let further = on.along.further in
-    let way : Went (once [] p.whole) (p.answers ++ further) q.rest = went_on (once [] p.whole) p.rest q.rest p.answers further sound on.along.led.went in
+    let way : Went (once [] p.whole) (p.answers ++ further) q.rest = went_on (once [] p.whole) p.rest q.rest p.answers further under_way on.along.led.went in
     let same : and_answers (p.answers ++ further) t ≡ and_answers p.answers t = knows_anyhow t p.answers further on.along.led.known in
     let known : AnswersOf (and_answers p.answers t) (p.answers ++ further) = subst (λ u. AnswersOf u (p.answers ++ further)) same (answers_known t p.whole q.rest [] (p.answers ++ further) way) in (
       ap (λ u. run u p.whole) (sym same) ∙ machine_runs t p.whole q.rest (p.answers ++ further) way,
       sym (fetches (and_answers p.answers t) p.whole) ∙ machine_fetches (and_answers p.answers t) p.whole q.rest (p.answers ++ further) way known ∙ ap (λ a. names_of a ++ asked (and_answers p.answers t) q.rest) (sym on.along.answers),
     )
 
--- the machine stays sound
-pub sound_on : (t : Truth) (log0 log : Option Answers) (p q : State) → GoesOn t log0 log p q → IsUnderWay p → IsUnderWay q
-sound_on t log0 log p q on sound =
-    let way : Went (once [] p.whole) (p.answers ++ on.along.further) q.rest = went_on (once [] p.whole) p.rest q.rest p.answers on.along.further sound on.along.led.went in
+-- the machine stays under way
+pub under_way_on : (t : Truth) (log0 log : Option Answers) (p q : State) → GoesOn t log0 log p q → IsUnderWay p → IsUnderWay q
+under_way_on t log0 log p q on under_way =
+    let way : Went (once [] p.whole) (p.answers ++ on.along.further) q.rest = went_on (once [] p.whole) p.rest q.rest p.answers on.along.further under_way on.along.led.went in
     let P : Answers → Type 0 = λ a. Went (once [] p.whole) a q.rest in
     let Q : Asks Value → Type 0 = λ m. Went (once [] m) q.answers q.rest in
     subst Q (sym on.whole) (subst P (sym on.along.answers) way)
 
 pub drove_steps : {S : Type 0} (t : Truth) (own : List ℕ → S → Type 0) (log0 log : Option Answers) (p q : State) (result : Result Outcome (Halt S)) → Drove t own log0 log p q result → IsUnderWay p → Steps t own p q result
-drove_steps t own log0 log p q (Ok o) (on, end, ended) sound =
-    let both = runs_on t log0 log p q on sound in
+drove_steps t own log0 log p q (Ok o) (on, end, ended) under_way =
+    let both = runs_on t log0 log p q on under_way in
     let names : names_of q.answers ≡ looks_up (and_answers p.answers t) p = sym (both.1 ∙ ap (λ m. names_of q.answers ++ asked (and_answers p.answers t) m) end.value ∙ append-nil (names_of q.answers)) in
     (both.0 ∙ ap (run t) end.value, names, ap (map (λ (l : Link). l.name)) end.links ∙ link_names q.answers ∙ names)
-drove_steps t own log0 log p q (Err (Stop s)) (on, stops, ended) sound =
-    let both = runs_on t log0 log p q on sound in
+drove_steps t own log0 log p q (Err (Stop s)) (on, stops, ended) under_way =
+    let both = runs_on t log0 log p q on under_way in
     let stuck : run t q.rest ≡ Err stops.name = ap (run t) stops.is ∙ ap (λ o. answered o stops.name (λ v. run t (stops.go v))) stops.none in
     let all : Answers = p.answers ++ on.along.further in
-    let way : Went (once [] p.whole) all q.rest = went_on (once [] p.whole) p.rest q.rest p.answers on.along.further sound on.along.led.went in
+    let way : Went (once [] p.whole) all q.rest = went_on (once [] p.whole) p.rest q.rest p.answers on.along.further under_way on.along.led.went in
     let unknown : answer_in all stops.name ≡ None = asks_new p.whole [] all stops.name stops.go (subst (λ r. Went (once [] p.whole) all r) stops.is way) in
     let none : and_answers p.answers t stops.name ≡ None = ap (λ u. u stops.name) (sym (knows_anyhow t p.answers on.along.further on.along.led.known)) ∙ ap (λ o. or_else o (t stops.name)) unknown ∙ stops.none in
     let last : asked (and_answers p.answers t) q.rest ≡ stops.name ∷ [] = ap (asked (and_answers p.answers t)) stops.is ∙ ap (λ o. stops.name ∷ asked_on o (λ v. asked (and_answers p.answers t) (stops.go v))) none in
     (stops.name, both.0 ∙ stuck, stops.own_stop, ap (λ ks. names_of q.answers ++ ks) (sym last) ∙ sym both.1)
-drove_steps t own log0 log p q (Err NoMemory) (on, halted, ended) sound = (asked (and_answers p.answers t) q.rest, sym (runs_on t log0 log p q on sound).1)
+drove_steps t own log0 log p q (Err NoMemory) (on, halted, ended) under_way = (asked (and_answers p.answers t) q.rest, sym (runs_on t log0 log p q on under_way).1)

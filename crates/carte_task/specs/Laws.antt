@@ -16,7 +16,7 @@ IsUnderWay p = Went (once [] p.whole) p.answers p.rest
 abbrev pub looks_up : Truth → State → List (List ℕ)
 looks_up t p = firsts (asked t p.whole)
 
--- of a sound machine, over the truth and the answers of before: the value; or the stuck name, with the answers that there are; or some of them
+-- of a machine under way, over the truth and the answers of before: the value; or the stuck name, with the answers that there are; or some of them
 abbrev pub Steps : {S : Type 0} → Truth → (List ℕ → S → Type 0) → State → State → Result Outcome (Halt S) → Type 0
 Steps t own p q (Ok o) = (run (and_answers p.answers t) p.whole ≡ Ok o.value) × (names_of q.answers ≡ looks_up (and_answers p.answers t) p) × (map (λ l. l.name) o.links ≡ looks_up (and_answers p.answers t) p)
 Steps t own p q (Err (Stop s)) = (k : List ℕ) × (run (and_answers p.answers t) p.whole ≡ Err k) × own k s × (names_of q.answers ++ k ∷ [] ≡ looks_up (and_answers p.answers t) p)

@@ -1,7 +1,7 @@
 pub mod Code
 pub mod Coding
 pub mod Forms
-pub mod Turns
+pub mod Applying
 pub mod Answered
 pub mod State
 pub mod Mentions

@@ -10,7 +10,7 @@ use Rattle.carte_task.specs.declared.code.Instr.{Instr}
 use Rattle.carte_task.specs.declared.progress.Progress.{Progress}
 use Rattle.carte_task.specs.Code.{pushed, exec, top}
 use Rattle.carte_task.specs.Answered.{Along, Halted}
-use Rattle.carte_task.specs.Turns.{goes}
+use Rattle.carte_task.specs.Applying.{goes}
 
 abbrev pub answers_in : Progress → Answers
 answers_in p = p.answers.entries

@@ -1,7 +1,8 @@
 ghost use Rattle.std.specs.Prelude.{◌≡◌, IfOk};
 
+use crate::range::Range;
 use carte_tree::{Func, Op};
-use carte_value::{Area, Name, NoMemory, Value};
+use carte_value::{Name, NoMemory, Value};
 use std::alloc::Global;
 
 /// One step of a formula that is written in postfix order. Values wait on a stack.
@@ -12,7 +13,7 @@ pub(crate) enum Instr {
     /// Looks a name up.
     Look(Name),
     /// Looks the names of a range up, row by row.
-    Cells(Area),
+    Cells(Range),
     /// `-` before an operand.
     Negate,
     /// An operator on the two newest values.
@@ -50,15 +51,9 @@ impl Instr {
         ensures { IfOk result (λ instr. instr ≡ self.now) }
     {
         match self {
-            Instr::Push(value) => match value.copy(alloc) {
-                Ok(value) => Ok(Instr::Push(value)),
-                Err(refused) => Err(refused),
-            },
-            Instr::Look(name) => match name.copy(alloc) {
-                Ok(name) => Ok(Instr::Look(name)),
-                Err(refused) => Err(refused),
-            },
-            Instr::Cells(area) => Ok(Instr::Cells(*area)),
+            Instr::Push(value) => Ok(Instr::Push(value.copy(alloc)?)),
+            Instr::Look(name) => Ok(Instr::Look(name.copy(alloc)?)),
+            Instr::Cells(range) => Ok(Instr::Cells(range.copy())),
             Instr::Negate => Ok(Instr::Negate),
             Instr::Apply(op) => Ok(Instr::Apply(*op)),
             Instr::Call(func, count) => Ok(Instr::Call(*func, *count)),

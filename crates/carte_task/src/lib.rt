@@ -5,7 +5,7 @@
 //! `FetchList` for all of its references at once, so over `RefsOnly` it tells them without any value. A `Check` compares the digests of an
 //! earlier run in place of running, a `Job` is either, and `Runs` counts what was started and what ended.
 //!
-//! The form chosen: a formula is flat code in postfix order with jumps for IF, and values wait on a stack (`postfix`, `code`, `turns`). No
+//! The form chosen: a formula is flat code in postfix order with jumps for IF, and values wait on a stack (`compile`, `code`, `execute`). No
 //! instruction fetches. It says which names are to be looked up and how it goes on then, and one place looks names up (`progress`), so
 //! that "each name once" and "a stop changes nothing" are proved once. A stopped machine is a place in the code, a stack and the answers so far,
 //! and goes on at the fetch that stopped it, for the cost of what is left.
@@ -23,34 +23,24 @@
 //! - Telling from the code whether a task is static: a jump doesn't tell what it passes over, so a task keeps what `is_static` says of its formula.
 #![tactic(auto)]
 
-mod areas;
 mod check;
-#[cfg(test)]
-mod check_tests;
 mod code;
-#[cfg(test)]
-mod effect_tests;
+mod compile;
+mod execute;
 #[cfg(test)]
 mod formula_rows;
-#[cfg(test)]
-mod formula_tests;
 mod machine;
 mod machine_job;
 mod mentioned;
-mod postfix;
 mod progress;
-#[cfg(test)]
-mod read_tests;
+mod range;
 #[cfg(test)]
 mod shown;
 mod static_run;
 mod static_task;
 mod task;
 #[cfg(test)]
-mod task_tests;
-#[cfg(test)]
-mod told;
-mod turns;
+mod tests;
 
 pub use carte_effect::{
     Answers, Each, Effect, Ended, FetchList, Halt, Job, Look, Made, Never, RefsOnly, Reuse, Runs,

@@ -18,23 +18,20 @@ pub struct Machine {
 impl Machine {
     ghost use Rattle.carte_task.specs.Machines.{state_of, started, Drove, OnlyEnds, EndsWith};
     ghost use Rattle.carte_task.specs.Laws.{IsUnderWay, Steps};
-    ghost use Rattle.carte_task.specs.Laws.{IsUnderWay, Steps};
     ghost use Rattle.carte_task.specs.Tasks.{key_of, asks_of};
 
     /// A machine at the start of a task, which is counted.
     pub fn start(alloc: Global, task: Task, runs: &mut Runs) -> Result<Machine, NoMemory>
         ensures machine { IfOk result (λ m. state_of m ≡ started (key_of task) (asks_of task)) }
-        ensures sound { IfOk result (λ m. IsUnderWay (state_of m)) }
+        ensures under_way { IfOk result (λ m. IsUnderWay (state_of m)) }
         ensures runs { runs.new ≡ (if is_ok result then with_start runs.old (key_of task) else runs.old) }
     {
-        match runs.start(alloc, &task.key) {
-            Ok(()) => Ok(Machine {
-                task,
-                progress: Progress::new(alloc),
-                ended: false,
-            }),
-            Err(refused) => Err(refused),
-        }
+        runs.start(alloc, &task.key)?;
+        Ok(Machine {
+            task,
+            progress: Progress::new(alloc),
+            ended: false,
+        })
     }
 
     pub(crate) fn task_key(&self) -> &Name
@@ -51,6 +48,7 @@ impl Machine {
     }
 
     /// Goes on to the end, which is counted, or to a name without an answer. After a halt it stands before the fetch that halted, and keeps what was answered.
+    /// Each name is answered at most once. How often a fetch that finds no memory is tried isn't promised.
     pub fn drive<E: Effect>(
         &mut self,
         alloc: Global,
@@ -63,7 +61,7 @@ impl Machine {
         ensures runs { runs.new ≡ (if is_ok result then with_end runs.old (state_of self.old).key else runs.old) }
 
         // What that is for the formula of a machine that was started and driven.
-        ensures sound { IsUnderWay (state_of self.old) → IsUnderWay (state_of self.new) }
+        ensures under_way { IsUnderWay (state_of self.old) → IsUnderWay (state_of self.new) }
         ensures steps { IsUnderWay (state_of self.old) → Steps (E.truth effect.old) (E.stops effect.old) (state_of self.old) (state_of self.new) result }
     {
         self.go_on(alloc, effect, runs)
@@ -87,10 +85,7 @@ impl Machine {
             Ok(()) => {}
             Err(halt) => return Err(halt),
         }
-        match self.end(alloc, runs) {
-            Ok(ended) => Ok(ended),
-            Err(_) => Err(Halt::NoMemory),
-        }
+        Ok(self.end(alloc, runs)?)
     }
 
     // The end, once nothing is left to be done.

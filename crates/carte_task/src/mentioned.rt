@@ -5,7 +5,6 @@ ghost use Rattle.carte_value.specs.Asks.{firsts};
 ghost use Rattle.carte_tree.specs.Firsts.{seen_also, seen_all};
 ghost use Rattle.carte_task.specs.Mentions.{mentioned_by, mentions_in};
 
-use crate::areas;
 use crate::code::Instr;
 use carte_value::{Name, Names, NoMemory};
 use indexmap::IndexSet;
@@ -27,10 +26,7 @@ fn see(alloc: Global, instr: &Instr, seen: &mut IndexSet<Name>) -> Result<(), No
 {
     match instr {
         Instr::Look(name) => also(alloc, name, seen),
-        Instr::Cells(area) => match areas::cells(alloc, *area) {
-            Ok(names) => all(alloc, &names, seen),
-            Err(refused) => Err(refused),
-        },
+        Instr::Cells(range) => all(alloc, &range.names(alloc)?, seen),
         _ => Ok(()),
     }
 }
@@ -60,7 +56,7 @@ fn listed(alloc: Global, seen: &IndexSet<Name>) -> Result<Names, NoMemory>
     let mut names = Names::new(alloc);
     for at in 0..seen.len() {
         let Some(name) = seen.get_index(at) else {
-            return Err(NoMemory);
+            unreachable!()
         };
         names.push(name.copy(alloc)?)?;
     }

@@ -8,7 +8,7 @@ ghost use Rattle.carte_effect.specs.Effects.{SameStops, paired};
 ghost use Rattle.carte_task.specs.Answered.{Answered};
 
 use crate::code::{Instr, Next};
-use crate::{Effect, Halt, turns};
+use crate::{Effect, Halt, execute};
 use carte_value::{Kind, Link, Links, Name, Names, NoMemory, Value, Values};
 use indexmap::IndexMap;
 use std::alloc::Global;
@@ -36,14 +36,9 @@ fn answer<E: Effect>(
     ensures answered { Answered (E.truth effect.old) (E.stops effect.old) (E.log effect.old) (E.log effect.new) answers.old.entries answers.new.entries name.now result }
 {
     if let Some(value) = answers.get(name) {
-        return match value.copy(alloc) {
-            Ok(value) => Ok(value),
-            Err(_) => Err(Halt::NoMemory),
-        };
+        return Ok(value.copy(alloc)?);
     }
-    let Ok(own) = name.copy(alloc) else {
-        return Err(Halt::NoMemory);
-    };
+    let own = name.copy(alloc)?;
     if let Err(_refused) = answers.reserve(1) {
         return Err(Halt::NoMemory);
     }
@@ -57,7 +52,7 @@ fn answer<E: Effect>(
             Ok(value) => Ok(value),
             Err(_) => Err(Halt::NoMemory),
         },
-        Err(_refused) => Err(Halt::NoMemory),
+        Err(_refused) => unreachable!(),
     }
 }
 
@@ -105,7 +100,7 @@ impl Progress {
     pub(crate) fn top(&self, alloc: Global) -> Result<Value, NoMemory>
         ensures { IfOk result (λ v. v ≡ top self.now.values.items) }
     {
-        turns::top(alloc, &self.values)
+        execute::top(alloc, &self.values)
     }
 
     /// The names that were asked, in order, with the digests of their values.
@@ -115,7 +110,7 @@ impl Progress {
         let mut links = Links::new(alloc);
         for at in 0..self.answers.len() {
             let Some((name, value)) = self.answers.get_index(at) else {
-                return Err(NoMemory);
+                unreachable!()
             };
             let name = name.copy(alloc)?;
             links.push(Link {
@@ -162,13 +157,11 @@ impl Progress {
                 self.next = Next::Behind(0);
                 Ok(())
             }
-            Next::Joined(count) => match turns::join(alloc, &mut self.values, count) {
-                Ok(()) => {
-                    self.next = Next::Behind(0);
-                    Ok(())
-                }
-                Err(refused) => Err(refused),
-            },
+            Next::Joined(count) => {
+                execute::join(alloc, &mut self.values, count)?;
+                self.next = Next::Behind(0);
+                Ok(())
+            }
         }
     }
 
@@ -183,10 +176,7 @@ impl Progress {
         if self.at >= code.len() {
             return Ok(false);
         }
-        let pending = match turns::turn(alloc, kind, &code[self.at], &mut self.values) {
-            Ok(pending) => pending,
-            Err(refused) => return Err(refused),
-        };
+        let pending = execute::apply(alloc, kind, &code[self.at], &mut self.values)?;
         self.at += 1;
         self.names = pending.names;
         self.looked = 0;
@@ -206,19 +196,14 @@ impl Progress {
         ensures stops { SameStops (E.stops effect.old) (E.stops effect.new) }
         ensures proceeds { Proceeds kind code.now (E.truth effect.old) (E.stops effect.old) (E.log effect.old) (E.log effect.new) self.old self.new result }
     {
-        'turns: loop {
+        'steps: loop {
             match self.look_up(alloc, effect) {
                 Ok(()) => {}
                 Err(halt) => return Err(halt),
             }
-            match self.settle(alloc, code.len()) {
-                Ok(()) => {}
-                Err(_) => return Err(Halt::NoMemory),
-            }
-            match self.step(alloc, kind, code) {
-                Ok(true) => {}
-                Ok(false) => return Ok(()),
-                Err(_) => return Err(Halt::NoMemory),
+            self.settle(alloc, code.len())?;
+            if !self.step(alloc, kind, code)? {
+                return Ok(());
             }
         }
     }

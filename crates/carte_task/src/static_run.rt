@@ -1,13 +1,13 @@
 //! A static task is a machine whose answers are there before it starts, so there is no second way in which formulas are evaluated.
 
-ghost use Rattle.std.specs.Prelude.{◌≡◌, ℕ, List, None, IfOk, is_ok, if◌then◌else◌};
+ghost use Rattle.std.specs.Prelude.{◌≡◌, ℕ, List, length, None, IfOk, is_ok, if◌then◌else◌};
 ghost use Rattle.carte_value.specs.declared.kind.Kind.{Kind as SomeKind};
 ghost use Rattle.carte_tree.specs.Tree.{Tree};
 ghost use Rattle.carte_effect.specs.Effects.{SameStops};
 ghost use Rattle.carte_task.specs.Statics.{StaticRan, Reads, EndsOver, IsOver, IsStaticTaskOf, static_refs, static_key, with_run};
 
 use crate::progress::Progress;
-use crate::{Answers, Effect, Ended, FetchList, Halt, Never, Runs, StaticTask};
+use crate::{Answers, Effect, Ended, FetchList, Halt, Runs, StaticTask};
 use carte_tree::static_needs;
 use carte_value::{Name, Names, NoMemory, Value, Values};
 use std::alloc::Global;
@@ -52,15 +52,13 @@ impl StaticTask {
         };
         match answers {
             Answers::Withheld => Ok(None),
-            Answers::Values(values) => match self.end(alloc, values, runs) {
-                Ok(ended) => Ok(Some(ended)),
-                Err(_) => Err(Halt::NoMemory),
-            },
+            Answers::Values(values) => Ok(Some(self.end(alloc, values, runs)?)),
         }
     }
 
     // The end over values of its references, which is counted with its start.
     fn end(&self, alloc: Global, values: Values, runs: &mut Runs) -> Result<Ended, NoMemory>
+        requires { length values ≡ length (static_refs self.now) }
         ensures ended { IfOk result (EndsOver self.now values) }
         ensures runs { runs.new ≡ (if is_ok result then with_run runs.old (static_key self.now) else runs.old) }
     {
@@ -74,12 +72,14 @@ impl StaticTask {
 
     // What a machine makes of these values, without asking.
     fn over(&self, alloc: Global, values: Values) -> Result<Progress, NoMemory>
+        requires { length values ≡ length (static_refs self.now) }
         ensures { IfOk result (IsOver self.now values) }
     {
         let mut progress = Progress::filled(alloc, &self.refs, values)?;
         match progress.drive(alloc, self.kind, self.code.as_slice(), &mut Nothing {}) {
             Ok(()) => Ok(progress),
-            Err(_) => Err(NoMemory),
+            Err(Halt::Stop(_)) => unreachable!(),
+            Err(Halt::NoMemory) => Err(NoMemory),
         }
     }
 }
@@ -94,12 +94,12 @@ fn count(alloc: Global, key: &Name, runs: &mut Runs) -> Result<(), NoMemory>
     runs.append(both)
 }
 
-/// Answers nothing: all that is asked for was answered before.
+/// Has no values. All that is asked for was answered before.
 #[derive(Drop)]
 struct Nothing {}
 
 impl Effect for Nothing {
-    type Stop = Never;
+    type Stop = ();
 
     ghost truth = { λ s k. None };
 
@@ -107,7 +107,7 @@ impl Effect for Nothing {
 
     ghost log = { λ s. None };
 
-    fn fetch(&mut self, _alloc: Global, _name: &Name) -> Result<Value, Halt<Never>> {
-        Err(Halt::NoMemory)
+    fn fetch(&mut self, _alloc: Global, _name: &Name) -> Result<Value, Halt<()>> {
+        Err(Halt::Stop(()))
     }
 }

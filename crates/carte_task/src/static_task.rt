@@ -1,6 +1,7 @@
-ghost use Rattle.std.specs.Prelude.{◌≡◌};
+ghost use Rattle.std.specs.Prelude.{◌≡◌, []};
 ghost use Rattle.carte_value.specs.Asks.{firsts};
-ghost use Rattle.carte_task.specs.Mentions.{mentions_in};
+ghost use Rattle.carte_task.specs.Code.{exec};
+ghost use Rattle.carte_task.specs.Mentions.{mentions_in, AsksOnly};
 
 use crate::code::Instr;
 use carte_value::{Kind, Name, Names};
@@ -13,4 +14,5 @@ pub struct StaticTask {
     pub(crate) code: Vec<Instr>,
     pub(crate) refs: Names,
     ghost mentioned: { refs ≡ firsts (mentions_in code.items) },
+    ghost only: { AsksOnly refs (exec kind 0 code.items []) },
 }

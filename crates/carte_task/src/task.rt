@@ -1,12 +1,16 @@
-ghost use Rattle.std.specs.Prelude.{◌≡◌, ℕ, List, IfOk};
+ghost use Rattle.std.specs.Prelude.{◌≡◌, ℕ, List, [], true, IfOk, OnErr};
 ghost use Rattle.carte_value.specs.declared.kind.Kind.{Kind as SomeKind};
 ghost use Rattle.carte_tree.specs.Tree.{Tree};
 ghost use Rattle.carte_tree.specs.Code.{tree_of};
+ghost use Rattle.carte_tree.specs.Formula.{IsExpr};
+ghost use Rattle.carte_value.specs.Asks.{firsts};
+ghost use Rattle.carte_task.specs.Code.{exec};
+ghost use Rattle.carte_task.specs.Mentions.{mentions_in, AsksOnly};
 
 use crate::code::{Instr, copy_of};
 use crate::mentioned::names_in;
-use crate::{StaticTask, postfix};
-use carte_tree::{Expr, is_static};
+use crate::{StaticTask, compile};
+use carte_tree::{Expr, is_static, static_runs};
 use carte_value::{Kind, Name, NoMemory};
 use std::alloc::Global;
 
@@ -18,19 +22,22 @@ pub struct Task {
     pub(crate) code: Vec<Instr>,
     // Whether the formula is static. The code has lost it: a jump doesn't tell what it passes over.
     pub(crate) fixed: bool,
+    ghost only: { fixed ≡ true → AsksOnly (firsts (mentions_in code.items)) (exec kind 0 code.items []) },
 }
 
 impl Task {
-    ghost use Rattle.carte_task.specs.Tasks.{IsTaskOf};
+    ghost use Rattle.carte_task.specs.Tasks.{IsTaskOf, is_fixed};
     ghost use Rattle.carte_task.specs.Statics.{IsStaticOf, HasParts};
 
-    /// The task of a key's formula in a book of that kind. A range whose corners don't lie in the sheet, as no reader gives one, finds no memory.
+    /// The task of a key's formula in a book of that kind.
     pub fn of(alloc: Global, kind: Kind, key: &Name, expr: &Expr) -> Result<Task, NoMemory>
+        requires { IsExpr (tree_of expr.now) }
         ensures { IfOk result (IsTaskOf kind key.now (tree_of expr.now)) }
     {
+        static_runs();
         let key = key.copy(alloc)?;
         let mut code = Vec::new(alloc);
-        postfix::write(alloc, expr, &mut code)?;
+        compile::write(alloc, expr, &mut code)?;
         Ok(Task {
             key,
             kind,
@@ -41,19 +48,18 @@ impl Task {
 
     /// The same as a task that reads its references whatever their values are; none where the formula isn't static.
     pub fn as_static(&self, alloc: Global) -> Result<Option<StaticTask>, NoMemory>
-        ensures { (kind : SomeKind) (k : List ℕ) (e : Tree) → IsTaskOf kind k e self.now → IfOk result (IsStaticOf kind k e) }
+        ensures refused { OnErr result (is_fixed self.now ≡ true) }
+        ensures made { (kind : SomeKind) (k : List ℕ) (e : Tree) → IsTaskOf kind k e self.now → IfOk result (IsStaticOf kind k e) }
     {
         if !self.fixed {
             return Ok(None);
         }
-        match self.parts(alloc) {
-            Ok(task) => Ok(Some(task)),
-            Err(refused) => Err(refused),
-        }
+        Ok(Some(self.parts(alloc)?))
     }
 
     // The key, the kind and the code, with the names in the code.
     fn parts(&self, alloc: Global) -> Result<StaticTask, NoMemory>
+        requires { is_fixed self.now ≡ true }
         ensures { IfOk result (HasParts self.now) }
     {
         let key = self.key.copy(alloc)?;

@@ -17,8 +17,8 @@ above n h = grind (arith, nat_tests)
 too_long : (bytes : List ℕ) → 16777216 < length bytes → BookOf bytes (Err (Limit Bytes 16777216))
 too_long bytes h = rw (above (length bytes) h) refl
 
-pub unloaded : (s : OverSource) (end : ReadEnd) → (s.tells → end ≡ TooLong → 16777216 < length s.left) → (end ≡ Failed → Rose s.faults s.faults') → Loads s (Err (unread_of end))
-unloaded s TooLong long failed = λ tells. too_long s.left (long tells refl)
+pub unloaded : (s : OverSource) (end : ReadEnd) → (s.tells → end ≡ TooLong → 16777216 < length s.old.left) → (end ≡ Failed → Rose s.old.faults s.new.faults) → Loads s (Err (unread_of end))
+unloaded s TooLong long failed = λ tells. too_long s.old.left (long tells refl)
 unloaded s Failed long failed = failed refl
 unloaded s ReadNoMemory long failed = tt
 

@@ -44,7 +44,7 @@ answered b ts ts' done runs k (Usage f) same built prints = absurd prints
 answered b ts ts' done runs k (BuildRefused r) same built prints = absurd prints
 answered b ts ts' done runs k ReadFault same built prints = absurd prints
 
-pub built : (book : CodeBook) (ts : List (List ℕ)) (s : OverSource) (k : OverSink) (status : Status) → (s.tells → BookOf s.left (Ok (book_view book))) → Answers (book_view book) ts k status → Built ts s k status
+pub built : (book : CodeBook) (ts : List (List ℕ)) (s : OverSource) (k : OverSink) (status : Status) → (s.tells → BookOf s.old.left (Ok (book_view book))) → Answers (book_view book) ts k status → Built ts s k status
 built book ts s k Done is answers = λ tells. (book_view book, is tells, answers)
 built book ts s k (BuildRefused r) is answers = (λ tells. (book_view book, is tells, answers.0), answers.1)
 built book ts s k WriteFault is answers = (λ tells. (book_view book, is tells, answers.0), answers.1)

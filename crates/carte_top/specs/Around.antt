@@ -1,24 +1,19 @@
 -- What a run has round it, before and after.
 use Rattle.std.specs.Prelude.{ℕ, ◌≡◌, ◌≤◌, ◌⊎◌, List, ◌++◌, length, take}
 use Rattle.carte_io.specs.Causes.{Rose}
+use Rattle.carte_io.specs.Streams.{SinkState, SourceState}
 
--- a source over a call: whether its type tells its bytes, what was left and is left, and its counts of failures
+-- a source over a call: whether its type tells its bytes, and what it was and is
 pub record OverSource : Type 1 where
   pub tells : Type 0
-  pub left : List ℕ
-  pub left' : List ℕ
-  pub faults : ℕ
-  pub faults' : ℕ
+  pub old : SourceState
+  pub new : SourceState
 
--- a sink over a call: the same, with what it took and how much of that it handed on
+-- a sink over a call
 pub record OverSink : Type 1 where
   pub tells : Type 0
-  pub taken : List ℕ
-  pub taken' : List ℕ
-  pub handed : ℕ
-  pub handed' : ℕ
-  pub faults : ℕ
-  pub faults' : ℕ
+  pub old : SinkState
+  pub new : SinkState
 
 -- all that a run has round it
 pub record Around : Type 1 where
@@ -28,19 +23,19 @@ pub record Around : Type 1 where
   pub err : OverSink
 
 abbrev pub IsUnread : OverSource → Type 0
-IsUnread s = (s.left' ≡ s.left) × (s.faults' ≡ s.faults)
+IsUnread s = (s.new.left ≡ s.old.left) × (s.new.faults ≡ s.old.faults)
 
 abbrev pub IsUntouched : OverSink → Type 0
-IsUntouched k = (k.taken' ≡ k.taken) × (k.handed' ≡ k.handed) × (k.faults' ≡ k.faults)
+IsUntouched k = (k.new.taken ≡ k.old.taken) × (k.new.handed ≡ k.old.handed) × (k.new.faults ≡ k.old.faults)
 
 -- it took just these bytes, and handed on all
 abbrev pub TakesAll : OverSink → List ℕ → Type 0
-TakesAll k bytes = (k.taken' ≡ k.taken ++ bytes) × (k.handed' ≡ length k.taken')
+TakesAll k bytes = (k.new.taken ≡ k.old.taken ++ bytes) × (k.new.handed ≡ length k.new.taken)
 
 -- it took some first ones of these bytes
 abbrev pub TakesFront : OverSink → List ℕ → Type 0
-TakesFront k bytes = (n : ℕ) × (n ≤ length bytes) × (k.taken' ≡ k.taken ++ take n bytes)
+TakesFront k bytes = (n : ℕ) × (n ≤ length bytes) × (k.new.taken ≡ k.old.taken ++ take n bytes)
 
 -- it took the line and handed it on; or a front of it, and failed
 abbrev pub Says : OverSink → List ℕ → Type 0
-Says k bytes = (k.tells → TakesAll k bytes) ⊎ (Rose k.faults k.faults' × (k.tells → TakesFront k bytes))
+Says k bytes = (k.tells → TakesAll k bytes) ⊎ (Rose k.old.faults k.new.faults × (k.tells → TakesFront k bytes))

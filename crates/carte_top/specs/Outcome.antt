@@ -22,7 +22,7 @@ Commands words P = (targets : List (List ℕ)) × (targets_of words ≡ Ok targe
 
 -- where the source tells its bytes, they are such a book
 abbrev pub Holds : OverSource → (Book → Type 0) → Type 0
-Holds s P = s.tells → (b : Book) × BookOf s.left (Ok b) × P b
+Holds s P = s.tells → (b : Book) × BookOf s.old.left (Ok b) × P b
 
 -- no dynamic rule is referred to, the targets have clean values, and the sink was given the reply
 abbrev pub Replies : (OverSink → List ℕ → Type 0) → OverSink → List (List ℕ) → Book → Type 0
@@ -31,7 +31,7 @@ Replies Takes k targets b = NoDynamicPath b targets × AllClean b targets × (ra
 -- where the source tells its bytes, they are no book, and this is why
 abbrev pub Refuses : OverSource → BookFault → Type 0
 Refuses s BookNoMemory = ⊥
-Refuses s fault = s.tells → BookOf s.left (Err fault)
+Refuses s fault = s.tells → BookOf s.old.left (Err fault)
 
 -- what a build of these targets has done
 abbrev pub Built : List (List ℕ) → OverSource → OverSink → Status → Type 0
@@ -39,8 +39,8 @@ Built targets s k Done = Holds s (Replies TakesAll k targets)
 Built targets s k (BookRefused fault) = Refuses s fault × IsUntouched k
 Built targets s k (Usage fault) = ⊥
 Built targets s k (BuildRefused reason) = Holds s (λ b. IsOrderReason b targets reason) × IsUntouched k
-Built targets s k ReadFault = Rose s.faults s.faults' × IsUntouched k
-Built targets s k WriteFault = Holds s (Replies TakesFront k targets) × Rose k.faults k.faults'
+Built targets s k ReadFault = Rose s.old.faults s.new.faults × IsUntouched k
+Built targets s k WriteFault = Holds s (Replies TakesFront k targets) × Rose k.old.faults k.new.faults
 Built targets s k NoMemory = IsUntouched k
 
 -- first the words are read: what holds but for the error line
@@ -57,11 +57,11 @@ Ended k status = Says k (error_line status)
 
 -- which status is due. The source tells its bytes, and they are such a book
 abbrev pub IsBook : OverSource → (Book → Type 0) → Type 0
-IsBook s P = s.tells × (b : Book) × BookOf s.left (Ok b) × P b
+IsBook s P = s.tells × (b : Book) × BookOf s.old.left (Ok b) × P b
 
 abbrev pub IsDue : List (List ℕ) → OverSource → Status → Type 0
 IsDue words s Done = Commands words (λ targets. IsBook s (λ b. NoDynamicPath b targets × AllClean b targets))
-IsDue words s (BookRefused fault) = Commands words (λ targets. s.tells × BookOf s.left (Err fault))
+IsDue words s (BookRefused fault) = Commands words (λ targets. s.tells × BookOf s.old.left (Err fault))
 IsDue words s (Usage fault) = targets_of words ≡ Err fault
 IsDue words s (BuildRefused reason) = Commands words (λ targets. IsBook s (λ b. IsOrderReason b targets reason))
 IsDue words s status = ⊥

@@ -32,16 +32,16 @@ Parses bytes (Err status) = ⊥
 
 -- a source that is read as a book
 abbrev pub Loads : OverSource → Result CodeBook Status → Type 0
-Loads s (Ok b) = s.tells → BookOf s.left (Ok (book_view b))
+Loads s (Ok b) = s.tells → BookOf s.old.left (Ok (book_view b))
 Loads s (Err (BookRefused fault)) = Refuses s fault
-Loads s (Err ReadFault) = Rose s.faults s.faults'
+Loads s (Err ReadFault) = Rose s.old.faults s.new.faults
 Loads s (Err NoMemory) = Unit {0}
 Loads s (Err status) = ⊥
 
 -- bytes that are given to a sink
 abbrev pub Prints : List ℕ → OverSink → Status → Type 0
 Prints bytes k Done = k.tells → TakesAll k bytes
-Prints bytes k WriteFault = (k.tells → TakesFront k bytes) × Rose k.faults k.faults'
+Prints bytes k WriteFault = (k.tells → TakesFront k bytes) × Rose k.old.faults k.new.faults
 Prints bytes k NoMemory = IsUntouched k
 Prints bytes k status = ⊥
 
@@ -49,7 +49,7 @@ Prints bytes k status = ⊥
 abbrev pub Answers : Book → List (List ℕ) → OverSink → Status → Type 0
 Answers b targets k Done = Replies TakesAll k targets b
 Answers b targets k (BuildRefused reason) = IsOrderReason b targets reason × IsUntouched k
-Answers b targets k WriteFault = Replies TakesFront k targets b × Rose k.faults k.faults'
+Answers b targets k WriteFault = Replies TakesFront k targets b × Rose k.old.faults k.new.faults
 Answers b targets k NoMemory = IsUntouched k
 Answers b targets k status = ⊥
 

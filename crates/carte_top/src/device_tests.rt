@@ -18,9 +18,7 @@ impl Source for Drip {
 
     ghost tells = { ⊥ };
 
-    ghost left = { λ _. [] };
-
-    ghost faults = { λ drip. drip.source.faults };
+    ghost state = { λ drip. record { left = []; faults = drip.source.faults } };
 
     fn read(&mut self, into: &mut [u8]) -> Result<usize, Failed> {
         if into.is_empty() {
@@ -41,9 +39,7 @@ impl Source for Hashes {
 
     ghost tells = { ⊥ };
 
-    ghost left = { λ _. [] };
-
-    ghost faults = { λ _. 0 };
+    ghost state = { λ _. record { left = []; faults = 0 } };
 
     fn read(&mut self, into: &mut [u8]) -> Result<usize, Failed> {
         let count = self.left.min(into.len());

@@ -3,7 +3,7 @@ ghost use Rattle.std.specs.BTreeMap.{get};
 ghost use Rattle.carte_value.specs.Names.{name_cmp};
 ghost use Rattle.carte_value.specs.Truths.{NoneTwice};
 ghost use Rattle.carte_tree.specs.Code.{tree_of};
-ghost use Rattle.carte_tree.specs.Formula.{refs_of, is_static_tree};
+ghost use Rattle.carte_tree.specs.Formula.{IsExpr, refs_of, is_static_tree};
 ghost use Rattle.carte_tree.specs.Meaning.{eval};
 ghost use Rattle.carte_tree.specs.InTurn.{HasAll};
 ghost use Rattle.carte_task.specs.Statics.{with_run, IsStaticTaskOf};
@@ -14,8 +14,8 @@ ghost use Rattle.carte_top.specs.Evaluated.{IsRunnable, Gives, Advances, IsEvalu
 
 use crate::known::Known;
 use carte_book::{Book, Looked};
-use carte_tree::{Expr, static_ends};
 use carte_task::{Each, Halt, Runs, Snapshot, StaticTask, Task};
+use carte_tree::{Expr, static_ends};
 use carte_value::{Kind, Name, NoMemory, Value};
 use std::alloc::Global;
 use std::collections::BTreeMap;
@@ -90,6 +90,7 @@ fn run_formula(
     name: &Name,
     formula: &Expr,
 ) -> Result<Value, NoMemory>
+    requires expr { IsExpr (tree_of formula.now) }
     requires is_static { is_static_tree (tree_of formula.now) ≡ true }
     requires has_all { HasAll (part (book_view known.now.book.now) known.now.done.now) (refs_of (tree_of formula.now)) }
     ensures value { IfOk result (λ v. eval known.now.book.now.kind (part (book_view known.now.book.now) known.now.done.now) (tree_of formula.now) ≡ Ok v) }
@@ -115,7 +116,8 @@ fn static_task(
     name: &Name,
     formula: &Expr,
 ) -> Result<StaticTask, NoMemory>
-    requires { is_static_tree (tree_of formula.now) ≡ true }
+    requires expr { IsExpr (tree_of formula.now) }
+    requires is_static { is_static_tree (tree_of formula.now) ≡ true }
     ensures { IfOk result (IsStaticTaskOf kind name.now (tree_of formula.now)) }
 {
     match Task::of(alloc, kind, name, formula) {

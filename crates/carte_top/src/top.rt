@@ -33,31 +33,9 @@ pub fn carte<B: Source, O: Sink, E: Sink>(
     ensures { IsOutcome
         (record {
           words = words.now;
-          book = record {
-            tells = B.tells;
-            left = B.left book.old;
-            left' = B.left book.new;
-            faults = B.faults book.old;
-            faults' = B.faults book.new;
-          };
-          out = record {
-            tells = O.tells;
-            taken = O.taken out.old;
-            taken' = O.taken out.new;
-            handed = O.handed out.old;
-            handed' = O.handed out.new;
-            faults = O.faults out.old;
-            faults' = O.faults out.new;
-          };
-          err = record {
-            tells = E.tells;
-            taken = E.taken err.old;
-            taken' = E.taken err.new;
-            handed = E.handed err.old;
-            handed' = E.handed err.new;
-            faults = E.faults err.old;
-            faults' = E.faults err.new;
-          };
+          book = record { tells = B.tells; old = B.state book.old; new = B.state book.new };
+          out = record { tells = O.tells; old = O.state out.old; new = O.state out.new };
+          err = record { tells = E.tells; old = E.state err.old; new = E.state err.new };
         })
         result }
 {
@@ -67,22 +45,8 @@ pub fn carte<B: Source, O: Sink, E: Sink>(
 
 fn run<B: Source, O: Sink>(alloc: Global, words: &[Word], book: &mut B, out: &mut O) -> Status
     ensures { Ran words.now
-        (record {
-          tells = B.tells;
-          left = B.left book.old;
-          left' = B.left book.new;
-          faults = B.faults book.old;
-          faults' = B.faults book.new;
-        })
-        (record {
-          tells = O.tells;
-          taken = O.taken out.old;
-          taken' = O.taken out.new;
-          handed = O.handed out.old;
-          handed' = O.handed out.new;
-          faults = O.faults out.old;
-          faults' = O.faults out.new;
-        })
+        (record { tells = B.tells; old = B.state book.old; new = B.state book.new })
+        (record { tells = O.tells; old = O.state out.old; new = O.state out.new })
         result }
 {
     match read_targets(alloc, words) {
@@ -107,22 +71,8 @@ fn run_build<B: Source, O: Sink>(
     out: &mut O,
 ) -> Status
     ensures { Built targets.now
-        (record {
-          tells = B.tells;
-          left = B.left book.old;
-          left' = B.left book.new;
-          faults = B.faults book.old;
-          faults' = B.faults book.new;
-        })
-        (record {
-          tells = O.tells;
-          taken = O.taken out.old;
-          taken' = O.taken out.new;
-          handed = O.handed out.old;
-          handed' = O.handed out.new;
-          faults = O.faults out.old;
-          faults' = O.faults out.new;
-        })
+        (record { tells = B.tells; old = B.state book.old; new = B.state book.new })
+        (record { tells = O.tells; old = O.state out.old; new = O.state out.new })
         result }
 {
     match load(alloc, book) {
@@ -133,13 +83,7 @@ fn run_build<B: Source, O: Sink>(
 
 fn load<B: Source>(alloc: Global, source: &mut B) -> Result<Book, Status>
     ensures { Loads
-        (record {
-          tells = B.tells;
-          left = B.left source.old;
-          left' = B.left source.new;
-          faults = B.faults source.old;
-          faults' = B.faults source.new;
-        })
+        (record { tells = B.tells; old = B.state source.old; new = B.state source.new })
         result }
 {
     match read_whole(alloc, source, MOST_BYTES) {
@@ -178,15 +122,7 @@ fn unparsed(fault: BookFault) -> Status
 
 fn answer<O: Sink>(alloc: Global, book: &Book, targets: &Names, out: &mut O) -> Status
     ensures { Answers (book_view book.now) targets.now
-        (record {
-          tells = O.tells;
-          taken = O.taken out.old;
-          taken' = O.taken out.new;
-          handed = O.handed out.old;
-          handed' = O.handed out.new;
-          faults = O.faults out.old;
-          faults' = O.faults out.new;
-        })
+        (record { tells = O.tells; old = O.state out.old; new = O.state out.new })
         result }
 {
     match build(alloc, book, targets) {
@@ -212,15 +148,7 @@ fn print<O: Sink>(
     out: &mut O,
 ) -> Status
     ensures { Prints (answer_text (book_view book.now) evaluated.now.done evaluated.now.runs targets.now)
-        (record {
-          tells = O.tells;
-          taken = O.taken out.old;
-          taken' = O.taken out.new;
-          handed = O.handed out.old;
-          handed' = O.handed out.new;
-          faults = O.faults out.old;
-          faults' = O.faults out.new;
-        })
+        (record { tells = O.tells; old = O.state out.old; new = O.state out.new })
         result }
 {
     match reply(alloc, book, evaluated, targets) {
@@ -231,15 +159,7 @@ fn print<O: Sink>(
 
 fn write_whole<O: Sink>(out: &mut O, bytes: &[u8]) -> Status
     ensures { Prints bytes.now
-        (record {
-          tells = O.tells;
-          taken = O.taken out.old;
-          taken' = O.taken out.new;
-          handed = O.handed out.old;
-          handed' = O.handed out.new;
-          faults = O.faults out.old;
-          faults' = O.faults out.new;
-        })
+        (record { tells = O.tells; old = O.state out.old; new = O.state out.new })
         result }
 {
     match write_all(out, bytes) {
@@ -255,15 +175,7 @@ fn write_whole<O: Sink>(out: &mut O, bytes: &[u8]) -> Status
 fn report<E: Sink>(alloc: Global, err: &mut E, status: Status) -> Status
     ensures reports { Reports status result }
     ensures ended { Ended
-        (record {
-          tells = E.tells;
-          taken = E.taken err.old;
-          taken' = E.taken err.new;
-          handed = E.handed err.old;
-          handed' = E.handed err.new;
-          faults = E.faults err.old;
-          faults' = E.faults err.new;
-        })
+        (record { tells = E.tells; old = E.state err.old; new = E.state err.new })
         result }
 {
     if !spoken(&status) {
@@ -283,15 +195,7 @@ fn report<E: Sink>(alloc: Global, err: &mut E, status: Status) -> Status
 pub fn out_of_memory<E: Sink>(err: &mut E) -> Status
     ensures status { result ≡ NoMemory }
     ensures ended { Ended
-        (record {
-          tells = E.tells;
-          taken = E.taken err.old;
-          taken' = E.taken err.new;
-          handed = E.handed err.old;
-          handed' = E.handed err.new;
-          faults = E.faults err.old;
-          faults' = E.faults err.new;
-        })
+        (record { tells = E.tells; old = E.state err.old; new = E.state err.new })
         result }
 {
     say(err, memory_line().as_bytes());
@@ -310,15 +214,7 @@ fn spoken(status: &Status) -> bool
 
 fn say<E: Sink>(err: &mut E, bytes: &[u8])
     ensures { Says
-        (record {
-          tells = E.tells;
-          taken = E.taken err.old;
-          taken' = E.taken err.new;
-          handed = E.handed err.old;
-          handed' = E.handed err.new;
-          faults = E.faults err.old;
-          faults' = E.faults err.new;
-        })
+        (record { tells = E.tells; old = E.state err.old; new = E.state err.new })
         bytes.now }
 {
     match write_all(err, bytes) {

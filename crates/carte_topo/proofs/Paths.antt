@@ -9,7 +9,7 @@ use Rattle.carte_book.specs.Dynamic.{LeadsToDynamic, refs}
 use Rattle.carte_book.proofs.Clean.{IsHeld, no_clean}
 use Rattle.carte_topo.specs.declared.walk.Frame.{Frame}
 use Rattle.carte_topo.specs.Walk.{Path, names, unwound}
-use Rattle.carte_topo.specs.Between.{StopsAt, Chain, EndsWith}
+use Rattle.carte_topo.specs.Between.{StopsAt, StopsInTurn, EndsWith}
 
 unwound_last : (p : Path) (f : Frame) (ks : List (List ℕ)) → unwound (names (p ++ f ∷ [])) ks ≡ f.name ∷ unwound (names p) ks
 unwound_last [] f ks = refl
@@ -20,7 +20,7 @@ pub unwound_more : (ns ns' : List (List ℕ)) (p p' : Path) (f : Frame) (ks all 
 unwound_more ns ns' p p' f ks all grown shrunk so =
     rw grown (append_assoc ns (f.name ∷ []) (unwound (names p') ks) ∙ ap (λ us. ns ++ us) (sym (unwound_last p' f ks)) ∙ ap (λ q. ns ++ unwound (names q) ks) (sym shrunk) ∙ so)
 
-held_in : (b : Book) (k : List ℕ) (js : List (List ℕ)) → Chain b k js → (q : List ℕ) → Among js q → (j : List ℕ) × StopsAt b q j × (Among js j ⊎ (j ≡ k))
+held_in : (b : Book) (k : List ℕ) (js : List (List ℕ)) → StopsInTurn b k js → (q : List ℕ) → Among js q → (j : List ℕ) × StopsAt b q j × (Among js j ⊎ (j ≡ k))
 held_in b k [] chain q among = absurd among
 held_in b k (j ∷ js) chain q among = elim among [
   | inl same ↦ (k, (rw same chain.0), inr refl)
@@ -38,7 +38,7 @@ held_in b k (j ∷ js) chain q among = elim among [
     )
 
 -- no name of a chain that ends in nothing, or goes round, has a clean value
-pub none_clean : (b : Book) (k : List ℕ) (js : List (List ℕ)) → Chain b k js → (content b k ≡ None) ⊎ Among js k → (q : List ℕ) → Among js q ⊎ (q ≡ k) → clean b q ≡ None
+pub none_clean : (b : Book) (k : List ℕ) (js : List (List ℕ)) → StopsInTurn b k js → (content b k ≡ None) ⊎ Among js k → (q : List ℕ) → Among js q ⊎ (q ≡ k) → clean b q ≡ None
 none_clean b k js chain ends = no_clean b (λ q. Among js q ⊎ (q ≡ k)) held
   where
     on_path : (q : List ℕ) → Among js q → IsHeld b (λ q. Among js q ⊎ (q ≡ k)) q
@@ -56,7 +56,7 @@ none_clean b k js chain ends = no_clean b (λ q. Among js q ⊎ (q ≡ k)) held
 stuck : (b : Book) (j k : List ℕ) → clean b k ≡ None → StopsAt b j k → StuckAt b j k
 stuck b j k none s = (s.formula, s.is_rule, stop_kept s.known (clean b) (asks b.kind s.formula) k s.below none s.stops)
 
-pub round_unwound : (b : Book) (k : List ℕ) (js ks : List (List ℕ)) → ((q : List ℕ) → Among js q ⊎ (q ≡ k) → clean b q ≡ None) → NoneTwice js → Chain b k js → GoesRound b js (k ∷ ks) → GoesRound b [] (unwound js (k ∷ ks))
+pub round_unwound : (b : Book) (k : List ℕ) (js ks : List (List ℕ)) → ((q : List ℕ) → Among js q ⊎ (q ≡ k) → clean b q ≡ None) → NoneTwice js → StopsInTurn b k js → GoesRound b js (k ∷ ks) → GoesRound b [] (unwound js (k ∷ ks))
 round_unwound b k [] ks none once chain goes = goes
 round_unwound b k (j ∷ js) ks none once chain goes =
     round_unwound b j js (k ∷ ks) (λ q h. elim h [
@@ -64,7 +64,7 @@ round_unwound b k (j ∷ js) ks none once chain goes =
       | inr is ↦ none q (inl (inl is))
     ]) once.1 chain.1 (once.0, stuck b j k (none k (inr refl)) chain.0, goes)
 
-pub astray_unwound : (b : Book) (k : List ℕ) (js ks : List (List ℕ)) → ((q : List ℕ) → Among js q ⊎ (q ≡ k) → clean b q ≡ None) → NoneTwice js → Chain b k js → GoesAstray b js (k ∷ ks) → GoesAstray b [] (unwound js (k ∷ ks))
+pub astray_unwound : (b : Book) (k : List ℕ) (js ks : List (List ℕ)) → ((q : List ℕ) → Among js q ⊎ (q ≡ k) → clean b q ≡ None) → NoneTwice js → StopsInTurn b k js → GoesAstray b js (k ∷ ks) → GoesAstray b [] (unwound js (k ∷ ks))
 astray_unwound b k [] ks none once chain goes = goes
 astray_unwound b k (j ∷ js) ks none once chain goes =
     astray_unwound b j js (k ∷ ks) (λ q h. elim h [
@@ -73,7 +73,7 @@ astray_unwound b k (j ∷ js) ks none once chain goes =
     ]) once.1 chain.1 (once.0, stuck b j k (none k (inr refl)) chain.0, goes)
 
 -- a chain leads to a dynamic rule where its newest name does
-pub leads_unwound : (b : Book) (k : List ℕ) (js ks : List (List ℕ)) → Chain b k js → LeadsToDynamic b (k ∷ ks) → LeadsToDynamic b (unwound js (k ∷ ks))
+pub leads_unwound : (b : Book) (k : List ℕ) (js ks : List (List ℕ)) → StopsInTurn b k js → LeadsToDynamic b (k ∷ ks) → LeadsToDynamic b (unwound js (k ∷ ks))
 leads_unwound b k [] ks chain leads = leads
 leads_unwound b k (j ∷ js) ks chain leads =
     leads_unwound b j js (k ∷ ks) chain.1 ((chain.0.formula, chain.0.is_rule, chain.0.is_static), refers, leads)

@@ -15,7 +15,7 @@ use Rattle.carte_book.specs.Needs.{IsRule}
 use Rattle.carte_book.specs.Reason.{IsClean}
 use Rattle.carte_book.proofs.Clean.{clean_input, tied_name}
 use Rattle.carte_topo.specs.Orders.{IsReady}
-use Rattle.carte_topo.specs.Walk.{Fresh, Done, Takes, has, ready_at, is_ready, part}
+use Rattle.carte_topo.specs.Walk.{Unvisited, Done, Takes, has, ready_at, is_ready, part}
 
 -- what holds of each name, and follows from it
 pub each_map : (P Q : List ℕ → Type 0) (ks : List (List ℕ)) → ((k : List ℕ) → P k → Q k) → Each P ks → Each Q ks
@@ -166,18 +166,18 @@ same_or_not k q = elim (eq_by_cmp name_cmp k q) as (λ b. eq_by_cmp name_cmp k q
   | false ↦ λ e. inr (λ same. let tied : eq_by_cmp name_cmp k k ≡ true = tied_itself k in let other : eq_by_cmp name_cmp k k ≡ false = rw same at e in cc)
 ] refl
 
-pub taken_here : (fresh fresh' : Fresh) (k : List ℕ) → Takes fresh fresh' k → contains name_cmp fresh' k ≡ false
-taken_here fresh fresh' k takes = takes k ∙ ap (λ b. cond b false (contains name_cmp fresh k)) (tied_itself k)
+pub taken_here : (unvisited unvisited' : Unvisited) (k : List ℕ) → Takes unvisited unvisited' k → contains name_cmp unvisited' k ≡ false
+taken_here unvisited unvisited' k takes = takes k ∙ ap (λ b. cond b false (contains name_cmp unvisited k)) (tied_itself k)
 
-pub taken_elsewhere : (fresh fresh' : Fresh) (k q : List ℕ) → Takes fresh fresh' k → ¬ (q ≡ k) → contains name_cmp fresh' q ≡ contains name_cmp fresh q
-taken_elsewhere fresh fresh' k q takes apart = takes q ∙ elim (eq_by_cmp name_cmp k q) as (λ b. eq_by_cmp name_cmp k q ≡ b → cond b false (contains name_cmp fresh q) ≡ contains name_cmp fresh q) [
+pub taken_elsewhere : (unvisited unvisited' : Unvisited) (k q : List ℕ) → Takes unvisited unvisited' k → ¬ (q ≡ k) → contains name_cmp unvisited' q ≡ contains name_cmp unvisited q
+taken_elsewhere unvisited unvisited' k q takes apart = takes q ∙ elim (eq_by_cmp name_cmp k q) as (λ b. eq_by_cmp name_cmp k q ≡ b → cond b false (contains name_cmp unvisited q) ≡ contains name_cmp unvisited q) [
   | true ↦ λ tied. absurd (apart (sym (tied_name k q tied)))
   | false ↦ λ e. refl
 ] refl
 
--- what is fresh still was fresh before, and is another name
-pub still_fresh : (fresh fresh' : Fresh) (k q : List ℕ) → Takes fresh fresh' k → contains name_cmp fresh' q ≡ true → (¬ (q ≡ k)) × (contains name_cmp fresh q ≡ true)
-still_fresh fresh fresh' k q takes holds = elim (same_or_not k q) [
-  | inl same ↦ absurd (let here : contains name_cmp fresh' k ≡ false = taken_here fresh fresh' k takes in let there : contains name_cmp fresh' k ≡ true = rw same at holds in cc)
-  | inr other ↦ (other, sym (taken_elsewhere fresh fresh' k q takes other) ∙ holds)
+-- what is unvisited still was unvisited before, and is another name
+pub still_unvisited : (unvisited unvisited' : Unvisited) (k q : List ℕ) → Takes unvisited unvisited' k → contains name_cmp unvisited' q ≡ true → (¬ (q ≡ k)) × (contains name_cmp unvisited q ≡ true)
+still_unvisited unvisited unvisited' k q takes holds = elim (same_or_not k q) [
+  | inl same ↦ absurd (let here : contains name_cmp unvisited' k ≡ false = taken_here unvisited unvisited' k takes in let there : contains name_cmp unvisited' k ≡ true = rw same at holds in cc)
+  | inr other ↦ (other, sym (taken_elsewhere unvisited unvisited' k q takes other) ∙ holds)
 ]

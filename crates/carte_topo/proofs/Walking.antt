@@ -12,11 +12,11 @@ use Rattle.carte_book.specs.Reason.{IsClean}
 use Rattle.carte_book.proofs.Clean.{clean_rule}
 use Rattle.carte_topo.specs.declared.walk.Frame.{Frame}
 use Rattle.carte_topo.specs.Orders.{IsReady, IsNext, InOrder}
-use Rattle.carte_topo.specs.Walk.{Fresh, Path, Done, names, is_ready, part, Entered, Stands, Finishes, Waits}
-use Rattle.carte_topo.specs.Between.{Finished, StopsAt, Chain, Linked, AllStand, EndsWith, IsWalk}
+use Rattle.carte_topo.specs.Walk.{Unvisited, Path, Done, names, is_ready, part, Entered, Stands, Finishes, Waits}
+use Rattle.carte_topo.specs.Between.{Finished, StopsAt, StopsInTurn, Linked, AllStand, EndsWith, IsWalk}
 use Rattle.carte_tree.proofs.StaticRuns.{static_ends}
 use Rattle.carte_topo.proofs.Stopping.{stops_there}
-use Rattle.carte_topo.proofs.Ready.{each_map, each_none, among_end, end_among, once_end, put_end, ready_is, ready_kept, is_ready_kept, ready_clean, part_clean, part_open, part_has, same_or_not, taken_elsewhere, still_fresh}
+use Rattle.carte_topo.proofs.Ready.{each_map, each_none, among_end, end_among, once_end, put_end, ready_is, ready_kept, is_ready_kept, ready_clean, part_clean, part_open, part_has, same_or_not, taken_elsewhere, still_unvisited}
 
 pub in_order_end : (b : Book) (before ks : List (List ℕ)) (k : List ℕ) → InOrder b before ks → IsNext b (before ++ ks) k → InOrder b before (ks ++ k ∷ [])
 in_order_end b before [] k in_order next = ((rw append-nil at next), tt)
@@ -45,12 +45,12 @@ all_stand_kept b done done' [] more stand = tt
 all_stand_kept b done done' (f ∷ fs) more stand = (stands_kept b done done' f more stand.0, all_stand_kept b done done' fs more stand.1)
 
 module _ (b : Book) (ts : List (List ℕ)) (goal : List ℕ) where
-  pub done_clean : (fresh : Fresh) (path : Path) (done : Done) → IsWalk b ts goal fresh path done → (q : List ℕ) → Among done q → IsClean b q
-  done_clean fresh path done w q among = (w.finished q among).has_value
+  pub done_clean : (unvisited : Unvisited) (path : Path) (done : Done) → IsWalk b ts goal unvisited path done → (q : List ℕ) → Among done q → IsClean b q
+  done_clean unvisited path done w q among = (w.finished q among).has_value
 
   -- a rule that waits for a name stops there over what is ready
-  pub waits_stops : (fresh : Fresh) (path : Path) (done : Done) (f : Frame) (at : ℕ) (k : List ℕ) → IsWalk b ts goal fresh path done → Waits b done f at k → StopsAt b f.name k
-  waits_stops fresh path done f at k w s = record {
+  pub waits_stops : (unvisited : Unvisited) (path : Path) (done : Done) (f : Frame) (at : ℕ) (k : List ℕ) → IsWalk b ts goal unvisited path done → Waits b done f at k → StopsAt b f.name k
+  waits_stops unvisited path done f at k w s = record {
     formula = s.formula;
     is_rule = s.is_rule;
     is_static = s.is_static;
@@ -66,23 +66,23 @@ module _ (b : Book) (ts : List (List ℕ)) (goal : List ℕ) where
       found (j ∷ js) (suc at) here = inr (found js at here)
 
       has_before : HasAll (part b done) (take at f.refs)
-      has_before = each_map (λ q. is_ready b done q ≡ true) (λ q. (v : Value) × (part b done q ≡ Some v)) (take at f.refs) (λ q. part_has b done q (done_clean fresh path done w)) s.opens.before
+      has_before = each_map (λ q. is_ready b done q ≡ true) (λ q. (v : Value) × (part b done q ≡ Some v)) (take at f.refs) (λ q. part_has b done q (done_clean unvisited path done w)) s.opens.before
 
-  pub entered : (fresh fresh' : Fresh) (path path' : Path) (done : Done) (k : List ℕ) → IsWalk b ts goal fresh path done → Entered b fresh fresh' path path' k → Chain b k (names path) → Reaches b ts k → EndsWith goal (k ∷ names path) → IsWalk b ts goal fresh' path' done
-  entered fresh fresh' path path' done k w e chain reached ends = subst (λ (p : Path). IsWalk b ts goal fresh' p done) (sym e.on_path) (record {
+  pub entered : (unvisited unvisited' : Unvisited) (path path' : Path) (done : Done) (k : List ℕ) → IsWalk b ts goal unvisited path done → Entered b unvisited unvisited' path path' k → StopsInTurn b k (names path) → Reaches b ts k → EndsWith goal (k ∷ names path) → IsWalk b ts goal unvisited' path' done
+  entered unvisited unvisited' path path' done k w e chain reached ends = subst (λ (p : Path). IsWalk b ts goal unvisited' p done) (sym e.on_path) (record {
     in_order = w.in_order;
     once = w.once;
     finished = w.finished;
-    fresh_rule = λ q h. w.fresh_rule q (still_fresh fresh fresh' k q e.takes h).1;
-    fresh_apart = λ q h among. elim among [
-      | inl same ↦ (still_fresh fresh fresh' k q e.takes h).0 same
-      | inr later ↦ w.fresh_apart q (still_fresh fresh fresh' k q e.takes h).1 later
+    unvisited_rule = λ q h. w.unvisited_rule q (still_unvisited unvisited unvisited' k q e.takes h).1;
+    unvisited_apart = λ q h among. elim among [
+      | inl same ↦ (still_unvisited unvisited unvisited' k q e.takes h).0 same
+      | inr later ↦ w.unvisited_apart q (still_unvisited unvisited unvisited' k q e.takes h).1 later
     ];
-    fresh_open = λ q h. w.fresh_open q (still_fresh fresh fresh' k q e.takes h).1;
+    unvisited_open = λ q h. w.unvisited_open q (still_unvisited unvisited unvisited' k q e.takes h).1;
     whole = λ q is_rule. elim (w.whole q is_rule) [
-      | inl is_fresh ↦ elim (same_or_not k q) [
+      | inl is_unvisited ↦ elim (same_or_not k q) [
         | inl same ↦ inr (inl (inl same))
-        | inr other ↦ inl (taken_elsewhere fresh fresh' k q e.takes other ∙ is_fresh)
+        | inr other ↦ inl (taken_elsewhere unvisited unvisited' k q e.takes other ∙ is_unvisited)
       ]
       | inr other ↦ elim other [
         | inl among ↦ inr (inl (inr among))
@@ -91,9 +91,9 @@ module _ (b : Book) (ts : List (List ℕ)) (goal : List ℕ) where
     ];
     stand = (record { formula = e.formula; is_rule = e.is_rule; is_static = e.is_static; of_formula = refl; within = omega arith; before = each_none (λ q. is_ready b done q ≡ true) (refs_of e.formula) }, w.stand);
     linked = chain;
-    path_once = (w.fresh_apart k e.was_fresh, w.path_once);
+    path_once = (w.unvisited_apart k e.was_unvisited, w.path_once);
     path_open = λ q among. elim among [
-      | inl same ↦ λ there. w.fresh_open k e.was_fresh (rw same at there)
+      | inl same ↦ λ there. w.unvisited_open k e.was_unvisited (rw same at there)
       | inr later ↦ w.path_open q later
     ];
     path_reached = λ q among. elim among [
@@ -104,14 +104,14 @@ module _ (b : Book) (ts : List (List ℕ)) (goal : List ℕ) where
   })
 
   -- the newest frame moves on to the reference for which it waits
-  pub moved_on : (fresh : Fresh) (rest : Path) (done : Done) (f : Frame) (at : ℕ) (k : List ℕ) → IsWalk b ts goal fresh (f ∷ rest) done → Waits b done f at k → IsWalk b ts goal fresh (record { name = f.name; refs = f.refs; at = at } ∷ rest) done
-  moved_on fresh rest done f at k w s = record {
+  pub moved_on : (unvisited : Unvisited) (rest : Path) (done : Done) (f : Frame) (at : ℕ) (k : List ℕ) → IsWalk b ts goal unvisited (f ∷ rest) done → Waits b done f at k → IsWalk b ts goal unvisited (record { name = f.name; refs = f.refs; at = at } ∷ rest) done
+  moved_on unvisited rest done f at k w s = record {
     in_order = w.in_order;
     once = w.once;
     finished = w.finished;
-    fresh_rule = w.fresh_rule;
-    fresh_apart = w.fresh_apart;
-    fresh_open = w.fresh_open;
+    unvisited_rule = w.unvisited_rule;
+    unvisited_apart = w.unvisited_apart;
+    unvisited_open = w.unvisited_open;
     whole = w.whole;
     stand = (record { formula = s.formula; is_rule = s.is_rule; is_static = s.is_static; of_formula = s.of_formula; within = s.opens.within; before = s.opens.before }, w.stand.1);
     linked = w.linked;
@@ -129,25 +129,25 @@ module _ (b : Book) (ts : List (List ℕ)) (goal : List ℕ) where
   rest_ends j [] ends = tt
   rest_ends j (k ∷ ks) ends = ends
 
-  pub done_end : (fresh : Fresh) (rest : Path) (done done' : Done) (f : Frame) → IsWalk b ts goal fresh (f ∷ rest) done → Finishes b done done' f → done' ≡ done ++ f.name ∷ []
-  done_end fresh rest done done' f w fin = put_end done done' f.name (w.path_open f.name (inl refl)) fin.puts
+  pub done_end : (unvisited : Unvisited) (rest : Path) (done done' : Done) (f : Frame) → IsWalk b ts goal unvisited (f ∷ rest) done → Finishes b done done' f → done' ≡ done ++ f.name ∷ []
+  done_end unvisited rest done done' f w fin = put_end done done' f.name (w.path_open f.name (inl refl)) fin.puts
 
-  pub finishing : (fresh : Fresh) (rest : Path) (done : Done) (f : Frame) → IsWalk b ts goal fresh (f ∷ rest) done → IsNext b done f.name → IsWalk b ts goal fresh rest (done ++ f.name ∷ [])
-  finishing fresh rest done f w next = record {
+  pub finishing : (unvisited : Unvisited) (rest : Path) (done : Done) (f : Frame) → IsWalk b ts goal unvisited (f ∷ rest) done → IsNext b done f.name → IsWalk b ts goal unvisited rest (done ++ f.name ∷ [])
+  finishing unvisited rest done f w next = record {
     in_order = in_order_end b [] done f.name w.in_order next;
     once = once_end done f.name w.once (w.path_open f.name (inl refl));
     finished = λ k among. elim (among_end done f.name k among) [
       | inl before ↦ kept k (w.finished k before)
       | inr same ↦ subst (λ (q : List ℕ). Finished b ts (done ++ f.name ∷ []) q) (sym same) the_new
     ];
-    fresh_rule = w.fresh_rule;
-    fresh_apart = λ k h among. w.fresh_apart k h (inr among);
-    fresh_open = λ k h among. elim (among_end done f.name k among) [
-      | inl before ↦ w.fresh_open k h before
-      | inr same ↦ w.fresh_apart k h (inl same)
+    unvisited_rule = w.unvisited_rule;
+    unvisited_apart = λ k h among. w.unvisited_apart k h (inr among);
+    unvisited_open = λ k h among. elim (among_end done f.name k among) [
+      | inl before ↦ w.unvisited_open k h before
+      | inr same ↦ w.unvisited_apart k h (inl same)
     ];
     whole = λ k is_rule. elim (w.whole k is_rule) [
-      | inl is_fresh ↦ inl is_fresh
+      | inl is_unvisited ↦ inl is_unvisited
       | inr other ↦ elim other [
         | inl among ↦ elim among [
           | inl same ↦ inr (inr (end_among done f.name k (inr same)))
@@ -174,7 +174,7 @@ module _ (b : Book) (ts : List (List ℕ)) (goal : List ℕ) where
       kept k o = record { next = next_kept b done (done ++ f.name ∷ []) k more o.next; has_value = o.has_value; reached = o.reached }
 
       has_refs : HasAll (clean b) (refs_of next.formula)
-      has_refs = each_map (IsReady b done) (IsClean b) (refs_of next.formula) (λ q. ready_clean b done q (done_clean fresh (f ∷ rest) done w)) next.ready
+      has_refs = each_map (IsReady b done) (IsClean b) (refs_of next.formula) (λ q. ready_clean b done q (done_clean unvisited (f ∷ rest) done w)) next.ready
 
       ends : (v : Value) × (eval b.kind (clean b) next.formula ≡ Ok v)
       ends = static_ends b.kind (clean b) next.formula next.is_static has_refs

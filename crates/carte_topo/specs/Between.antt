@@ -16,7 +16,7 @@ use Rattle.carte_book.specs.declared.reason.Reason.TheVariants.{Cycle, Missing, 
 use Rattle.carte_topo.specs.declared.walk.Stop.{Stop}
 use Rattle.carte_topo.specs.declared.walk.Stop.TheVariants.{Refused, NoMemory, Dynamic as MetDynamic}
 use Rattle.carte_topo.specs.Orders.{IsReady, IsNext, InOrder, IsOrder}
-use Rattle.carte_topo.specs.Walk.{Fresh, Path, Done, names, Stands}
+use Rattle.carte_topo.specs.Walk.{Unvisited, Path, Done, names, Stands}
 
 -- a rule that is done: its references are ready, it has a clean value, and the targets reach it
 pub record Finished (b : Book) (targets : List (List ℕ)) (done : Done) (k : List ℕ) : Type 0 where
@@ -35,14 +35,14 @@ pub record StopsAt (b : Book) (j k : List ℕ) : Type 0 where
   pub stops : eval b.kind known formula ≡ Err k
 
 -- each name stops at the next newer one, and the newest at k
-abbrev pub Chain : Book → List ℕ → List (List ℕ) → Type 0
-Chain b k [] = Unit {0}
-Chain b k (j ∷ js) = StopsAt b j k × Chain b j js
+abbrev pub StopsInTurn : Book → List ℕ → List (List ℕ) → Type 0
+StopsInTurn b k [] = Unit {0}
+StopsInTurn b k (j ∷ js) = StopsAt b j k × StopsInTurn b j js
 
 -- all but the newest stop at the next newer one
 abbrev pub Linked : Book → List (List ℕ) → Type 0
 Linked b [] = Unit {0}
-Linked b (k ∷ ks) = Chain b k ks
+Linked b (k ∷ ks) = StopsInTurn b k ks
 
 abbrev pub AllStand : Book → Done → Path → Type 0
 AllStand b done [] = Unit {0}
@@ -54,14 +54,14 @@ EndsWith goal [] = Unit {0}
 EndsWith goal (k ∷ []) = k ≡ goal
 EndsWith goal (j ∷ k ∷ ks) = EndsWith goal (k ∷ ks)
 
-pub record IsWalk (b : Book) (targets : List (List ℕ)) (goal : List ℕ) (fresh : Fresh) (path : Path) (done : Done) : Type 0 where
+pub record IsWalk (b : Book) (targets : List (List ℕ)) (goal : List ℕ) (unvisited : Unvisited) (path : Path) (done : Done) : Type 0 where
   pub in_order : InOrder b [] done
   pub once : NoneTwice done
   pub finished : (k : List ℕ) → Among done k → Finished b targets done k
-  pub fresh_rule : (k : List ℕ) → contains name_cmp fresh k ≡ true → IsRule b k
-  pub fresh_apart : (k : List ℕ) → contains name_cmp fresh k ≡ true → ¬ (Among (names path) k)
-  pub fresh_open : (k : List ℕ) → contains name_cmp fresh k ≡ true → ¬ (Among done k)
-  pub whole : (k : List ℕ) → IsRule b k → (contains name_cmp fresh k ≡ true) ⊎ (Among (names path) k ⊎ Among done k)
+  pub unvisited_rule : (k : List ℕ) → contains name_cmp unvisited k ≡ true → IsRule b k
+  pub unvisited_apart : (k : List ℕ) → contains name_cmp unvisited k ≡ true → ¬ (Among (names path) k)
+  pub unvisited_open : (k : List ℕ) → contains name_cmp unvisited k ≡ true → ¬ (Among done k)
+  pub whole : (k : List ℕ) → IsRule b k → (contains name_cmp unvisited k ≡ true) ⊎ (Among (names path) k ⊎ Among done k)
   pub stand : AllStand b done path
   pub linked : Linked b (names path)
   pub path_once : NoneTwice (names path)
@@ -79,21 +79,21 @@ abbrev pub MeetsDynamic : Book → List (List ℕ) → Type 0
 MeetsDynamic b targets = (path : List (List ℕ)) × IsDynamicPath b targets path
 
 -- between two targets: nothing is on the path
-pub record IsBetween (b : Book) (targets : List (List ℕ)) (fresh : Fresh) (path : Path) (done : Done) : Type 0 where
+pub record IsBetween (b : Book) (targets : List (List ℕ)) (unvisited : Unvisited) (path : Path) (done : Done) : Type 0 where
   pub empty : path ≡ []
-  pub walk : (goal : List ℕ) → IsWalk b targets goal fresh [] done
+  pub walk : (goal : List ℕ) → IsWalk b targets goal unvisited [] done
 
 -- a target was reached
-pub record Reached (b : Book) (targets : List (List ℕ)) (goal : List ℕ) (fresh' : Fresh) (path' : Path) (done done' : Done) : Type 0 where
-  pub between : IsBetween b targets fresh' path' done'
+pub record Reached (b : Book) (targets : List (List ℕ)) (goal : List ℕ) (unvisited' : Unvisited) (path' : Path) (done done' : Done) : Type 0 where
+  pub between : IsBetween b targets unvisited' path' done'
   pub more : (k : List ℕ) → Among done k → Among done' k
   pub known : IsReady b done' goal
 
-abbrev pub Reaching : Book → List (List ℕ) → List ℕ → Fresh → Path → Done → Done → Result (Unit {0}) Stop → Type 0
-Reaching b targets goal fresh' path' done done' (Ok u) = Reached b targets goal fresh' path' done done'
-Reaching b targets goal fresh' path' done done' (Err NoMemory) = Unit {0}
-Reaching b targets goal fresh' path' done done' (Err MetDynamic) = MeetsDynamic b targets
-Reaching b targets goal fresh' path' done done' (Err (Refused reason)) = IsPathFrom b goal reason
+abbrev pub Reaching : Book → List (List ℕ) → List ℕ → Unvisited → Path → Done → Done → Result (Unit {0}) Stop → Type 0
+Reaching b targets goal unvisited' path' done done' (Ok u) = Reached b targets goal unvisited' path' done done'
+Reaching b targets goal unvisited' path' done done' (Err NoMemory) = Unit {0}
+Reaching b targets goal unvisited' path' done done' (Err MetDynamic) = MeetsDynamic b targets
+Reaching b targets goal unvisited' path' done done' (Err (Refused reason)) = IsPathFrom b goal reason
 
 -- why a walk ended early
 abbrev pub IsStop : Book → List (List ℕ) → Stop → Type 0

@@ -1,3 +1,4 @@
 pub mod Orders
 pub mod Walk
 pub mod Between
+pub mod Search

@@ -18,8 +18,8 @@ use Rattle.carte_topo.specs.declared.walk.Frame.{Frame}
 use Rattle.carte_topo.specs.declared.walk.Stop.{Stop}
 use Rattle.carte_topo.specs.declared.walk.Stop.TheVariants.{Refused, NoMemory, Dynamic as MetDynamic}
 
-abbrev pub Fresh : Type 0
-Fresh = BTreeSet (List ℕ)
+abbrev pub Unvisited : Type 0
+Unvisited = BTreeSet (List ℕ)
 
 -- the newest first
 abbrev pub Path : Type 0
@@ -62,30 +62,30 @@ abbrev pub unwound : List (List ℕ) → List (List ℕ) → List (List ℕ)
 unwound [] ks = ks
 unwound (j ∷ js) ks = unwound js (j ∷ ks)
 
-abbrev pub Takes : Fresh → Fresh → List ℕ → Type 0
+abbrev pub Takes : Unvisited → Unvisited → List ℕ → Type 0
 Takes old new k = (q : List ℕ) → contains name_cmp new q ≡ (if eq_by_cmp name_cmp k q then false else contains name_cmp old q)
 
 -- a static rule that wasn't met before is put on the path
-pub record Entered (b : Book) (fresh fresh' : Fresh) (path path' : Path) (k : List ℕ) : Type 0 where
+pub record Entered (b : Book) (unvisited unvisited' : Unvisited) (path path' : Path) (k : List ℕ) : Type 0 where
   pub formula : Tree
   pub is_rule : content b k ≡ Some (rule formula)
   pub is_static : is_static_tree formula ≡ true
-  pub was_fresh : contains name_cmp fresh k ≡ true
-  pub takes : Takes fresh fresh' k
-  pub fewer : length fresh'.keys + 1 ≡ length fresh.keys
+  pub was_unvisited : contains name_cmp unvisited k ≡ true
+  pub takes : Takes unvisited unvisited' k
+  pub fewer : length unvisited'.keys + 1 ≡ length unvisited.keys
   pub on_path : path' ≡ record { name = k; refs = refs_of formula; at = 0 } ∷ path
 
--- a name with nothing, or a rule that is neither fresh nor done, ends the walk
-abbrev pub Closes : Book → Fresh → List (List ℕ) → List ℕ → Reason → Type 0
-Closes b fresh js k (Missing path) = (content b k ≡ None) × (path ≡ unwound js (k ∷ []))
-Closes b fresh js k (Cycle path) = IsRule b k × (contains name_cmp fresh k ≡ false) × (path ≡ unwound js (k ∷ []))
-Closes b fresh js k (Dynamic path) = ⊥
+-- a name with nothing, or a rule that is neither unvisited nor done, ends the walk
+abbrev pub Closes : Book → Unvisited → List (List ℕ) → List ℕ → Reason → Type 0
+Closes b unvisited js k (Missing path) = (content b k ≡ None) × (path ≡ unwound js (k ∷ []))
+Closes b unvisited js k (Cycle path) = IsRule b k × (contains name_cmp unvisited k ≡ false) × (path ≡ unwound js (k ∷ []))
+Closes b unvisited js k (Dynamic path) = ⊥
 
-abbrev pub Enters : Book → Fresh → Fresh → Path → Path → List ℕ → Result (Unit {0}) Stop → Type 0
-Enters b fresh fresh' path path' k (Ok u) = Entered b fresh fresh' path path' k
-Enters b fresh fresh' path path' k (Err NoMemory) = Unit {0}
-Enters b fresh fresh' path path' k (Err MetDynamic) = IsDynamicRule b k
-Enters b fresh fresh' path path' k (Err (Refused reason)) = Closes b fresh (names path) k reason
+abbrev pub Enters : Book → Unvisited → Unvisited → Path → Path → List ℕ → Result (Unit {0}) Stop → Type 0
+Enters b unvisited unvisited' path path' k (Ok u) = Entered b unvisited unvisited' path path' k
+Enters b unvisited unvisited' path path' k (Err NoMemory) = Unit {0}
+Enters b unvisited unvisited' path path' k (Err MetDynamic) = IsDynamicRule b k
+Enters b unvisited unvisited' path path' k (Err (Refused reason)) = Closes b unvisited (names path) k reason
 
 -- a frame's static rule, whose references before its place are ready
 pub record Stands (b : Book) (done : Done) (f : Frame) : Type 0 where
@@ -114,16 +114,16 @@ pub record Waits (b : Book) (done : Done) (f : Frame) (at : ℕ) (k : List ℕ) 
   pub here : slice_get f.refs at ≡ Some k
 
 -- either it is done, or the rule for which it waits is entered
-abbrev pub Turned : Book → Fresh → Fresh → Path → Path → Done → Done → Frame → Type 0
-Turned b fresh fresh' rest path' done done' f =
-    (Finishes b done done' f × (path' ≡ rest) × (fresh' ≡ fresh))
-    ⊎ ((at : ℕ) × (k : List ℕ) × Waits b done f at k × Entered b fresh fresh' (record { name = f.name; refs = f.refs; at = at } ∷ rest) path' k × (done' ≡ done))
+abbrev pub Turned : Book → Unvisited → Unvisited → Path → Path → Done → Done → Frame → Type 0
+Turned b unvisited unvisited' rest path' done done' f =
+    (Finishes b done done' f × (path' ≡ rest) × (unvisited' ≡ unvisited))
+    ⊎ ((at : ℕ) × (k : List ℕ) × Waits b done f at k × Entered b unvisited unvisited' (record { name = f.name; refs = f.refs; at = at } ∷ rest) path' k × (done' ≡ done))
 
-abbrev pub Turns : Book → Fresh → Fresh → Path → Path → Done → Done → Frame → Result (Unit {0}) Stop → Type 0
-Turns b fresh fresh' rest path' done done' f (Ok u) = Turned b fresh fresh' rest path' done done' f
-Turns b fresh fresh' rest path' done done' f (Err NoMemory) = Unit {0}
-Turns b fresh fresh' rest path' done done' f (Err MetDynamic) = (at : ℕ) × (k : List ℕ) × Waits b done f at k × IsDynamicRule b k
-Turns b fresh fresh' rest path' done done' f (Err (Refused reason)) = (at : ℕ) × (k : List ℕ) × Waits b done f at k × Closes b fresh (f.name ∷ names rest) k reason
+abbrev pub Turns : Book → Unvisited → Unvisited → Path → Path → Done → Done → Frame → Result (Unit {0}) Stop → Type 0
+Turns b unvisited unvisited' rest path' done done' f (Ok u) = Turned b unvisited unvisited' rest path' done done' f
+Turns b unvisited unvisited' rest path' done done' f (Err NoMemory) = Unit {0}
+Turns b unvisited unvisited' rest path' done done' f (Err MetDynamic) = (at : ℕ) × (k : List ℕ) × Waits b done f at k × IsDynamicRule b k
+Turns b unvisited unvisited' rest path' done done' f (Err (Refused reason)) = (at : ℕ) × (k : List ℕ) × Waits b done f at k × Closes b unvisited (f.name ∷ names rest) k reason
 
 -- a stop for a reason has one that is so, and a stop at a dynamic rule comes only where this holds
 abbrev pub Refuses : Stop → Type 0 → (Reason → Type 0) → Type 0

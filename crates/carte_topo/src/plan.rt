@@ -2,10 +2,11 @@ ghost use Rattle.std.specs.Prelude.{◌≡◌, IfOk};
 ghost use Rattle.carte_book.specs.Book.{book_view};
 ghost use Rattle.carte_topo.specs.Orders.{Orders};
 ghost use Rattle.carte_topo.specs.Between.{Walks, IsStop};
+ghost use Rattle.carte_topo.specs.declared.plan.PlanFault.TheVariants.{NoMemory};
 
+use crate::dynamic_paths::dynamic_path;
 use crate::walk::{Stop, Walk};
 use carte_book::{Book, Reason};
-use carte_dynamic::dynamic_path;
 use carte_value::{Name, Names, NoMemory};
 use indexmap::IndexSet;
 use std::alloc::Global;
@@ -21,16 +22,21 @@ pub enum PlanFault {
     NoMemory,
 }
 
+impl From<carte_value::NoMemory> for PlanFault {
+    ghost from_gives = { λ _ e. e ≡ NoMemory };
+
+    fn from(_: carte_value::NoMemory) -> PlanFault {
+        PlanFault::NoMemory
+    }
+}
+
 /// The rules that the targets reach, each behind those that it refers to, or why there is no such order: for a rule
 /// whose references can't be told, or else for the first target without a clean value.
 pub fn order(alloc: Global, book: &Book, targets: &Names) -> Result<Names, PlanFault>
     ensures { Orders (book_view book.now) targets.now result }
 {
     match walk(alloc, book, targets.as_slice()) {
-        Ok(done) => match listed(alloc, done.as_slice()) {
-            Ok(names) => Ok(names),
-            Err(_) => Err(PlanFault::NoMemory),
-        },
+        Ok(done) => Ok(listed(alloc, done.as_slice())?),
         Err(stop) => Err(fault(alloc, book, targets.as_slice(), stop)),
     }
 }
@@ -58,19 +64,13 @@ fn fault(alloc: Global, book: &Book, targets: &[Name], stop: Stop) -> PlanFault
 fn walk(alloc: Global, book: &Book, targets: &[Name]) -> Result<IndexSet<Name>, Stop>
     ensures { Walks (book_view book.now) targets.now result }
 {
-    let fresh = match book.rule_names(alloc) {
-        Ok(names) => names,
-        Err(_) => return Err(Stop::NoMemory),
-    };
     let mut walk = Walk {
-        fresh,
+        unvisited: book.rule_names(alloc)?,
         path: VecDeque::new(alloc),
         done: IndexSet::new(alloc),
     };
     for at in 0..targets.len() {
-        if let Err(stop) = walk.reach(alloc, book, targets, at) {
-            return Err(stop);
-        }
+        walk.reach(alloc, book, targets, at)?;
     }
     Ok(walk.done)
 }
@@ -80,13 +80,7 @@ fn listed(alloc: Global, done: &[Name]) -> Result<Names, NoMemory>
 {
     let mut names = Names::new(alloc);
     for name in done {
-        let name = match name.copy(alloc) {
-            Ok(name) => name,
-            Err(refused) => return Err(refused),
-        };
-        if let Err(refused) = names.push(name) {
-            return Err(refused);
-        }
+        names.push(name.copy(alloc)?)?;
     }
     Ok(names)
 }

@@ -7,7 +7,6 @@ use carte_book::{Book, Reason};
 use carte_formula::read;
 use carte_value::{Kind, Name, Names, Value};
 use std::alloc::Global;
-use std::process::Abort;
 use std::rt::HostRuntime;
 use std::test::Fail;
 
@@ -35,25 +34,22 @@ fn add_input(alloc: Global, book: &mut Book, at: &str) -> Result<(), Fail> {
     Ok(())
 }
 
-/// A book with these inputs, and with rules written as `name: formula`.
-fn book_of(alloc: Global, kind: Kind, inputs: &[&str], rules: &[&str]) -> Result<Book, Fail> {
-    let mut book = Book::new(alloc, kind);
-    for input in inputs {
-        add_input(alloc, &mut book, input)?;
-    }
-    for rule in rules {
-        let Some((at, text)) = rule.split_once(": ") else {
-            return Err("no rule".into());
-        };
+/// A rule file whose inputs are `x` and `y`, with rules written as `name: formula`.
+fn book_of(alloc: Global, rules: &str) -> Result<Book, Fail> {
+    let mut book = Book::new(alloc, Kind::Rules);
+    add_input(alloc, &mut book, "x")?;
+    add_input(alloc, &mut book, "y")?;
+    for rule in rules.split("; ") {
+        let (at, text) = rule.split_once(": ").ok_or("no rule")?;
         add_rule(alloc, &mut book, at, text)?;
     }
     Ok(book)
 }
 
-fn names_of(alloc: Global, book: &Book, texts: &[&str]) -> Result<Names, Fail> {
+fn names_of(alloc: Global, texts: &str) -> Result<Names, Fail> {
     let mut names = Names::new(alloc);
-    for text in texts {
-        names.push(name(alloc, book, text)?)?;
+    for text in texts.split_whitespace() {
+        names.push(Name::rule(alloc, text)?)?;
     }
     Ok(names)
 }
@@ -68,116 +64,100 @@ fn listed(alloc: Global, word: &str, names: &Names) -> Result<String, Fail> {
     Ok(text)
 }
 
-fn told(alloc: Global, reason: &Reason) -> Result<String, Fail> {
-    match reason {
-        Reason::Cycle(path) => listed(alloc, "cycle", path),
-        Reason::Missing(path) => listed(alloc, "missing", path),
-        Reason::Dynamic(path) => listed(alloc, "dynamic", path),
-    }
-}
-
-fn ordered(alloc: Global, book: &Book, targets: &[&str]) -> Result<String, Fail> {
-    let targets = names_of(alloc, book, targets)?;
-    match order(alloc, book, &targets) {
+fn ordered(alloc: Global, book: &Book, targets: &Names) -> Result<String, Fail> {
+    match order(alloc, book, targets) {
         Ok(names) => listed(alloc, "order", &names),
-        Err(PlanFault::Refused(reason)) => told(alloc, &reason),
-        Err(PlanFault::NoMemory) => Ok(String::from_str(alloc, "no memory")?),
+        Err(PlanFault::Refused(Reason::Cycle(path))) => listed(alloc, "cycle", &path),
+        Err(PlanFault::Refused(Reason::Missing(path))) => listed(alloc, "missing", &path),
+        Err(PlanFault::Refused(Reason::Dynamic(path))) => listed(alloc, "dynamic", &path),
+        Err(PlanFault::NoMemory) => Err("no memory".into()),
     }
 }
 
-/// Of rule files whose inputs are `x` and `y`.
-fn orders(rt: &impl Abort, alloc: Global, cases: &[(&[&str], &[&str], &str)]) -> Result<(), Fail> {
-    for (rules, targets, wanted) in cases {
-        let book = book_of(alloc, Kind::Rules, &["x", "y"], rules)?;
-        let text = ordered(alloc, &book, targets)?;
-        assert_eq!(rt; text.as_str(), *wanted);
+const DIAMOND: &str = "base: x + y; left: base + x; right: y + base; top: left + right";
+
+const STUCK: &str =
+    "good: x; one: two; two: good + three; three: one; self: x + self; lost: good + far; far: nowhere; both: self + one";
+
+const DYNAMIC: &str =
+    "pick: INDIRECT(x); way: pick; gone: nowhere + way; round: round + pick; later: y + way; stuck: stuck";
+
+/// Worked out by hand: depth first with references in their order, the reason of the first stuck target, and before it
+/// the shortest path to a dynamic rule, of equally short ones the first in byte order.
+#[test]
+fn orders_and_reasons(rt: HostRuntime) -> Result<(), Fail> {
+    let alloc = rt.alloc();
+    let rows = [
+        (DIAMOND, "top", "order base left right top"),
+        (DIAMOND, "right", "order base right"),
+        (DIAMOND, "right top", "order base right left top"),
+        (DIAMOND, "base base x", "order base"),
+        (DIAMOND, "x y", "order"),
+        (DIAMOND, "", "order"),
+        ("a: x; b: INDIRECT(x); stuck: stuck", "a", "order a"),
+        (STUCK, "one", "cycle one two three one"),
+        (STUCK, "self", "cycle self self"),
+        (STUCK, "both", "cycle both self self"),
+        (STUCK, "lost", "missing lost far nowhere"),
+        (STUCK, "nowhere", "missing nowhere"),
+        (STUCK, "good far one", "missing far nowhere"),
+        (STUCK, "x two far", "cycle two three one two"),
+        (DYNAMIC, "pick", "dynamic pick"),
+        (DYNAMIC, "gone", "dynamic gone way pick"),
+        (DYNAMIC, "round", "dynamic round pick"),
+        (DYNAMIC, "nowhere later", "dynamic later way pick"),
+        (DYNAMIC, "stuck later gone", "dynamic gone way pick"),
+    ];
+    for (rules, targets, want) in rows {
+        let book = book_of(alloc, rules)?;
+        let text = ordered(alloc, &book, &names_of(alloc, targets)?)?;
+        assert_eq!(rt; text.as_str(), want, "{targets} in {rules}");
     }
     Ok(())
 }
 
-const DIAMOND: &[&str] = &[
-    "base: x + y",
-    "left: base + 1",
-    "right: y + base",
-    "top: left * right",
-];
-
-/// Each worked out by hand, depth first with references in their order.
+/// Worked out by hand from the order of paths: the shortest, and of these the first name by name.
 #[test]
-fn rules_stand_behind_their_references(rt: HostRuntime) -> Result<(), Fail> {
-    orders(
-        &rt,
-        rt.alloc(),
-        &[
-            (DIAMOND, &["top"], "order base left right top"),
-            (DIAMOND, &["right"], "order base right"),
-            (DIAMOND, &["right", "top"], "order base right left top"),
-            (DIAMOND, &["base", "base", "x"], "order base"),
-            (DIAMOND, &["x", "y"], "order"),
-            (DIAMOND, &[], "order"),
-            (&["a: x", "t: IF(a, 1, 2)"], &["t"], "order a t"),
-            (&["a: x", "b: INDIRECT(x)"], &["a"], "order a"),
-            (&["a: x", "stuck: stuck"], &["a"], "order a"),
-        ],
-    )
-}
-
-#[test]
-fn paths_lead_from_the_first_stuck_target(rt: HostRuntime) -> Result<(), Fail> {
-    const STUCK: &[&str] = &[
-        "good: x",
-        "one: two",
-        "two: good + three",
-        "three: one",
-        "self: x + self",
-        "lost: good + far + self",
-        "far: nowhere",
-        "both: self + one",
-    ];
-    orders(
-        &rt,
-        rt.alloc(),
-        &[
-            (STUCK, &["one"], "cycle one two three one"),
-            (STUCK, &["self"], "cycle self self"),
-            (STUCK, &["both"], "cycle both self self"),
-            (STUCK, &["lost"], "missing lost far nowhere"),
-            (STUCK, &["nowhere"], "missing nowhere"),
-            (STUCK, &["good", "far", "one"], "missing far nowhere"),
-            (STUCK, &["x", "two", "far"], "cycle two three one two"),
-        ],
-    )
-}
-
-/// The shortest path, and of equally short ones the first in byte order.
-#[test]
-fn dynamic_rules_come_before_other_reasons(rt: HostRuntime) -> Result<(), Fail> {
-    const DYNAMIC: &[&str] = &[
-        "pick: IF(x, y, 1)",
-        "way: pick",
-        "gone: nowhere + way",
-        "round: round + way + pick",
-        "later: y + way",
-    ];
-    orders(
-        &rt,
-        rt.alloc(),
-        &[
-            (DYNAMIC, &["pick"], "dynamic pick"),
-            (DYNAMIC, &["gone"], "dynamic gone way pick"),
-            (DYNAMIC, &["round"], "dynamic round pick"),
-            (DYNAMIC, &["nowhere", "later"], "dynamic later way pick"),
-            (DYNAMIC, &["later", "gone"], "dynamic gone way pick"),
-        ],
-    )
-}
-
-#[test]
-fn cells_stand_behind_their_ranges(rt: HostRuntime) -> Result<(), Fail> {
+fn first_dynamic_paths(rt: HostRuntime) -> Result<(), Fail> {
     let alloc = rt.alloc();
-    let rules = ["C1: SUM(A1:B2)", "B1: B2 + A1", "B2: A2"];
-    let book = book_of(alloc, Kind::Sheet, &["A1"], &rules)?;
-    let text = ordered(alloc, &book, &["C1", "D9"])?;
-    assert_eq!(&rt; text.as_str(), "order B2 B1 C1");
+    let rows = [
+        ("t: INDIRECT(x)", "t", "path t"),
+        ("t: b + a; a: INDIRECT(x); b: INDIRECT(x)", "t", "path t a"),
+        (
+            "t: b2 + b10; b2: INDIRECT(x); b10: INDIRECT(x)",
+            "t",
+            "path t b10",
+        ),
+        (
+            "t: a + b; a: z; b: c; c: INDIRECT(x); z: INDIRECT(x)",
+            "t",
+            "path t a z",
+        ),
+        (
+            "t: b + a; a: c; c: d; d: INDIRECT(x); b: z; z: INDIRECT(x)",
+            "t",
+            "path t b z",
+        ),
+        ("s: a; a: b; b: INDIRECT(x); t: b", "s t", "path t b"),
+        ("s: t; t: INDIRECT(x)", "s t", "path t"),
+        ("s: INDIRECT(x); t: INDIRECT(x)", "t s t", "path s"),
+        (
+            "t: u; u: t + v; v: u + w; w: INDIRECT(t)",
+            "t",
+            "path t u v w",
+        ),
+        ("t: a + x; a: y; d: INDIRECT(t)", "t", "none"),
+        ("t: u; u: t", "t u", "none"),
+        ("d: INDIRECT(x)", "x", "none"),
+        ("d: INDIRECT(x)", "", "none"),
+    ];
+    for (rules, targets, want) in rows {
+        let book = book_of(alloc, rules)?;
+        let text = match dynamic_path(alloc, &book, names_of(alloc, targets)?.as_slice())? {
+            Some(path) => listed(alloc, "path", &path)?,
+            None => String::from_str(alloc, "none")?,
+        };
+        assert_eq!(rt; text.as_str(), want, "{targets} in {rules}");
+    }
     Ok(())
 }

@@ -6,6 +6,7 @@ ghost use Rattle.carte_book.specs.Book.{rule, book_view, content};
 ghost use Rattle.carte_book.specs.declared.reason.Reason.TheVariants.{Cycle, Missing};
 ghost use Rattle.carte_topo.specs.Walk.{is_ready, AllReady, OpensAt, names, unwound, Refuses, Enters, Turns, Stands};
 ghost use Rattle.carte_topo.specs.Between.{IsBetween, Reaching};
+ghost use Rattle.carte_topo.specs.declared.walk.Stop.TheVariants.{NoMemory as StopNoMemory};
 
 use carte_book::{Book, Looked, Reason};
 use carte_tree::{is_static, refs};
@@ -30,10 +31,18 @@ pub(crate) enum Stop {
     NoMemory,
 }
 
-/// The walk that orders the rules: each rule is first fresh, then on the path, then done.
+impl From<NoMemory> for Stop {
+    ghost from_gives = { λ _ e. e ≡ StopNoMemory };
+
+    fn from(_: NoMemory) -> Stop {
+        Stop::NoMemory
+    }
+}
+
+/// The walk that orders the rules: each rule is first unvisited, then on the path, then done.
 #[derive(Drop)]
 pub(crate) struct Walk {
-    pub(crate) fresh: BTreeSet<Name>,
+    pub(crate) unvisited: BTreeSet<Name>,
     /// Its newest rule stands first.
     pub(crate) path: VecDeque<Frame>,
     /// In the order in which they were done.
@@ -50,26 +59,17 @@ impl Walk {
         at: usize,
     ) -> Result<(), Stop>
         requires within { at < length targets.now }
-        requires between { IsBetween (book_view book.now) targets.now self.old.fresh self.old.path.items self.old.done.keys }
+        requires between { IsBetween (book_view book.now) targets.now self.old.unvisited self.old.path.items self.old.done.keys }
         ensures { (goal : List ℕ) → slice_get targets.now at ≡ Some goal
-            → Reaching (book_view book.now) targets.now goal self.new.fresh self.new.path.items self.old.done.keys self.new.done.keys result }
+            → Reaching (book_view book.now) targets.now goal self.new.unvisited self.new.path.items self.old.done.keys self.new.done.keys result }
     {
         let target = &targets[at];
         if self.is_ready(book, target) {
             return Ok(());
         }
-        match target.copy(alloc) {
-            Ok(target) => {
-                if let Err(stop) = self.enter(alloc, book, target) {
-                    return Err(stop);
-                }
-            }
-            Err(_) => return Err(Stop::NoMemory),
-        }
+        self.enter(alloc, book, target.copy(alloc)?)?;
         'turns: while let Some(frame) = self.path.pop_front() {
-            if let Err(stop) = self.turn(alloc, book, frame) {
-                return Err(stop);
-            }
+            self.turn(alloc, book, frame)?;
         }
         Ok(())
     }
@@ -88,22 +88,20 @@ impl Walk {
     /// Puts a rule that isn't done on the path.
     fn enter(&mut self, alloc: Global, book: &Book, name: Name) -> Result<(), Stop>
         requires { is_ready (book_view book.now) self.old.done.keys name ≡ false }
-        ensures enters { Enters (book_view book.now) self.old.fresh self.new.fresh self.old.path.items self.new.path.items name result }
+        ensures enters { Enters (book_view book.now) self.old.unvisited self.new.unvisited self.old.path.items self.new.path.items name result }
         ensures done { self.new.done ≡ self.old.done }
     {
         match book.lookup(&name) {
             Looked::None => Err(self.missing(alloc, name)),
             Looked::Rule(formula) => {
-                if !self.fresh.remove(&name) {
+                if !self.unvisited.remove(&name) {
                     return Err(self.cycle(alloc, name));
                 }
                 if !is_static(formula) {
                     return Err(Stop::Dynamic);
                 }
-                match refs(alloc, formula) {
-                    Ok(refs) => self.push(Frame { name, refs, at: 0 }),
-                    Err(_) => Err(Stop::NoMemory),
-                }
+                let refs = refs(alloc, formula)?;
+                self.push(Frame { name, refs, at: 0 })
             }
             Looked::Input(_) => unreachable!(),
         }
@@ -112,7 +110,7 @@ impl Walk {
     fn push(&mut self, frame: Frame) -> Result<(), Stop>
         ensures path { OnOk result (self.new.path.items ≡ frame ∷ self.old.path.items) }
         ensures never { IfErr result (λ stop. Refuses stop ⊥ (λ reason. ⊥)) }
-        ensures fresh { self.new.fresh ≡ self.old.fresh }
+        ensures unvisited { self.new.unvisited ≡ self.old.unvisited }
         ensures done { self.new.done ≡ self.old.done }
     {
         match self.path.push_front(frame) {
@@ -151,30 +149,26 @@ impl Walk {
         let mut path = Names::new(alloc);
         while let Some(frame) = self.path.pop_back() {
             let Frame { name, .. } = frame;
-            if let Err(refused) = path.push(name) {
-                return Err(refused);
-            }
+            path.push(name)?;
         }
-        match path.push(last) {
-            Ok(()) => Ok(path),
-            Err(refused) => Err(refused),
-        }
+        path.push(last)?;
+        Ok(path)
     }
 
     /// One turn for the newest rule, which was taken off the path: it goes back with the rule that it waits
     /// for on it, or is done.
     fn turn(&mut self, alloc: Global, book: &Book, frame: Frame) -> Result<(), Stop>
         requires { Stands (book_view book.now) self.old.done.keys frame }
-        ensures { Turns (book_view book.now) self.old.fresh self.new.fresh self.old.path.items self.new.path.items self.old.done.keys self.new.done.keys frame result }
+        ensures { Turns (book_view book.now) self.old.unvisited self.new.unvisited self.old.path.items self.new.path.items self.old.done.keys self.new.done.keys frame result }
     {
         let Frame { name, refs, at } = frame;
         let at = self.first_open(book, &refs, at);
         match refs.get(at) {
             None => self.finish(name),
-            Some(need) => match need.copy(alloc) {
-                Ok(need) => self.wait(alloc, book, Frame { name, refs, at }, need),
-                Err(_) => Err(Stop::NoMemory),
-            },
+            Some(need) => {
+                let need = need.copy(alloc)?;
+                self.wait(alloc, book, Frame { name, refs, at }, need)
+            }
         }
     }
 
@@ -196,19 +190,17 @@ impl Walk {
     // The rule goes back on the path, and the one that it needs goes on top.
     fn wait(&mut self, alloc: Global, book: &Book, frame: Frame, need: Name) -> Result<(), Stop>
         requires { is_ready (book_view book.now) self.old.done.keys need ≡ false }
-        ensures enters { Enters (book_view book.now) self.old.fresh self.new.fresh (frame ∷ self.old.path.items) self.new.path.items need result }
+        ensures enters { Enters (book_view book.now) self.old.unvisited self.new.unvisited (frame ∷ self.old.path.items) self.new.path.items need result }
         ensures done { self.new.done ≡ self.old.done }
     {
-        match self.push(frame) {
-            Ok(()) => self.enter(alloc, book, need),
-            Err(stop) => Err(stop),
-        }
+        self.push(frame)?;
+        self.enter(alloc, book, need)
     }
 
     fn finish(&mut self, name: Name) -> Result<(), Stop>
         ensures done { OnOk result (self.new.done.keys ≡ insert_key name_eq self.old.done.keys name) }
         ensures never { IfErr result (λ stop. Refuses stop ⊥ (λ reason. ⊥)) }
-        ensures fresh { self.new.fresh ≡ self.old.fresh }
+        ensures unvisited { self.new.unvisited ≡ self.old.unvisited }
         ensures path { self.new.path ≡ self.old.path }
     {
         match self.done.insert(name) {

@@ -9,12 +9,12 @@ use Rattle.carte_tree.specs.declared.expr.Op.{Op}
 use Rattle.carte_tree.specs.declared.expr.Op.TheVariants as op
 use Rattle.carte_tree.specs.declared.expr.Func.{Func}
 use Rattle.carte_tree.specs.declared.expr.Func.TheVariants as f
-use Rattle.carte_tree.specs.Coercions.{as_number, as_truth, text_of, is_nonzero, number_value, truth_value, strict, or_wrong, each_as, one, two, numbers}
+use Rattle.carte_tree.specs.Coercions.{as_number, as_bool, text_of, is_nonzero, number_value, bool_value, strict, or_wrong, each_as, one, two, numbers}
 use Rattle.carte_tree.specs.Numbers.{divided, total, numbers_in, least, greatest}
 use Rattle.carte_tree.specs.Order.{compared}
 use Rattle.carte_tree.specs.Texts.{joined, lines, line_of}
 
--- the truth of a condition, or what takes the place of both branches
+-- whether a condition holds, or what takes the place of both branches
 abbrev pub condition : Value → Result Bool Value
 condition Empty = Ok false
 condition (Number n) = Ok (is_nonzero n)
@@ -63,9 +63,9 @@ called f.Min vs = strict (λ us. Number (least (numbers_in us))) vs
 called f.Max vs = strict (λ us. Number (greatest (numbers_in us))) vs
 called f.Count vs = Number (pos (length (numbers_in vs)))
 called f.Concat vs = joined vs
-called f.And vs = strict (λ us. or_wrong (each_as as_truth us) (λ bs. truth_value (list_all (λ b. b) bs))) vs
-called f.Or vs = strict (λ us. or_wrong (each_as as_truth us) (λ bs. truth_value (list_any (λ b. b) bs))) vs
-called f.Not vs = strict (one (λ v. or_wrong (as_truth v) (λ b. truth_value (not b)))) vs
+called f.And vs = strict (λ us. or_wrong (each_as as_bool us) (λ bs. bool_value (list_all (λ b. b) bs))) vs
+called f.Or vs = strict (λ us. or_wrong (each_as as_bool us) (λ bs. bool_value (list_any (λ b. b) bs))) vs
+called f.Not vs = strict (one (λ v. or_wrong (as_bool v) (λ b. bool_value (not b)))) vs
 called f.Len vs = strict (one (λ v. Number (pos (length (text_of v))))) vs
 called f.Upper vs = strict (one (λ v. Text (str_to_ascii_uppercase (text_of v)))) vs
 called f.Lines vs = strict (one (λ v. Number (pos (length (lines (text_of v)))))) vs

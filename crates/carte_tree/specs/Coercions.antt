@@ -1,4 +1,4 @@
--- Values as numbers, texts and truths, and the rule of bad values.
+-- Values as numbers, texts and booleans, and the rule of bad values.
 use Rattle.std.specs.Prelude.{ℕ, ℤ, pos, negsuc, zero, Bool, true, false, List, [], ◌∷◌, Option, Some, None, length, nat_lt, nat_le, ◌^◌, if◌then◌else◌}
 use Rattle.std.specs.Fmt.{signed_decimal}
 use Rattle.carte_value.specs.declared.value.Bad.{Bad as BadValue}
@@ -18,9 +18,9 @@ number_value n = if fits_i64 n then Number n else Bad bad.Num
 abbrev pub text_value : List ℕ → Value
 text_value t = if nat_le (length t) 65536 then Text t else Bad bad.Len
 
-abbrev pub truth_value : Bool → Value
-truth_value true = Number (pos 1)
-truth_value false = Number (pos 0)
+abbrev pub bool_value : Bool → Value
+bool_value true = Number (pos 1)
+bool_value false = Number (pos 0)
 
 -- None where the kind is wrong
 abbrev pub as_number : Value → Option ℤ
@@ -33,11 +33,11 @@ abbrev pub is_nonzero : ℤ → Bool
 is_nonzero (pos zero) = false
 is_nonzero n = true
 
-abbrev pub as_truth : Value → Option Bool
-as_truth Empty = Some false
-as_truth (Number n) = Some (is_nonzero n)
-as_truth (Text t) = None
-as_truth (Bad b) = None
+abbrev pub as_bool : Value → Option Bool
+as_bool Empty = Some false
+as_bool (Number n) = Some (is_nonzero n)
+as_bool (Text t) = None
+as_bool (Bad b) = None
 
 -- each value but a bad one is a text; a bad one is the result before it is read as one
 abbrev pub text_of : Value → List ℕ

@@ -8,7 +8,7 @@ use Rattle.carte_value.specs.declared.value.Value.{Value}
 use Rattle.carte_value.specs.declared.value.Value.TheVariants.{Empty, Number, Text}
 use Rattle.carte_tree.specs.declared.expr.Op.{Op}
 use Rattle.carte_tree.specs.declared.expr.Op.TheVariants as op
-use Rattle.carte_tree.specs.Coercions.{strict, two, truth_value}
+use Rattle.carte_tree.specs.Coercions.{strict, two, bool_value}
 
 -- Empty is 0 beside a number, and the text without bytes beside a text
 abbrev pub value_cmp : Value → Value → Ordering
@@ -45,4 +45,4 @@ passes op.Ge o = not (is_less o)
 passes op o = false
 
 abbrev pub compared : Op → List Value → Value
-compared op vs = strict (two (λ v w. truth_value (passes op (value_cmp v w)))) vs
+compared op vs = strict (two (λ v w. bool_value (passes op (value_cmp v w)))) vs

@@ -10,18 +10,12 @@ use std::alloc::Global;
 pub fn neg_of(alloc: Global, operand: Expr) -> Result<Expr, NoMemory>
     ensures { IfOk result (λ e. tree_of e ≡ neg (tree_of operand)) }
 {
-    match Box::new(alloc, operand) {
-        Ok(operand) => Ok(Expr::Neg(operand)),
-        Err(_) => Err(NoMemory),
-    }
+    Ok(Expr::Neg(Box::new(alloc, operand)?))
 }
 
 /// A chain as a formula.
 pub fn chain_of(alloc: Global, chain: Chain) -> Result<Expr, NoMemory>
     ensures { IfOk result (λ e. tree_of e ≡ chain_tree chain) }
 {
-    match Box::new(alloc, chain) {
-        Ok(chain) => Ok(Expr::Chain(chain)),
-        Err(_) => Err(NoMemory),
-    }
+    Ok(Expr::Chain(Box::new(alloc, chain)?))
 }

@@ -1,8 +1,8 @@
-ghost use Rattle.std.specs.Prelude.{◌≡◌, ◌++◌, ◌∷◌, [], IfOk, OnOk};
+ghost use Rattle.std.specs.Prelude.{◌≡◌, IfOk};
 ghost use Rattle.carte_tree.specs.Code.{tree_of, chain_tree, args_tree, rest_steps, arg_tree};
 
 use crate::boxed::{chain_of, neg_of};
-use crate::{Arg, Args, Chain, Expr, Op, Rest};
+use crate::{Arg, Args, Chain, Expr, Rest};
 use carte_value::NoMemory;
 use std::alloc::Global;
 
@@ -14,26 +14,11 @@ impl Expr {
     {
         match self {
             Expr::Number(number) => Ok(Expr::Number(*number)),
-            Expr::Text(text) => match text.copy(alloc) {
-                Ok(text) => Ok(Expr::Text(text)),
-                Err(refused) => Err(refused),
-            },
-            Expr::Ref(name) => match name.copy(alloc) {
-                Ok(name) => Ok(Expr::Ref(name)),
-                Err(refused) => Err(refused),
-            },
-            Expr::Neg(operand) => match operand.copy(alloc) {
-                Ok(operand) => neg_of(alloc, operand),
-                Err(refused) => Err(refused),
-            },
-            Expr::Chain(chain) => match chain.copy(alloc) {
-                Ok(chain) => chain_of(alloc, chain),
-                Err(refused) => Err(refused),
-            },
-            Expr::Call(func, args) => match args.copy(alloc) {
-                Ok(args) => Ok(Expr::Call(*func, args)),
-                Err(refused) => Err(refused),
-            },
+            Expr::Text(text) => Ok(Expr::Text(text.copy(alloc)?)),
+            Expr::Ref(name) => Ok(Expr::Ref(name.copy(alloc)?)),
+            Expr::Neg(operand) => neg_of(alloc, operand.copy(alloc)?),
+            Expr::Chain(chain) => chain_of(alloc, chain.copy(alloc)?),
+            Expr::Call(func, args) => Ok(Expr::Call(*func, args.copy(alloc)?)),
         }
     }
 }
@@ -44,18 +29,13 @@ impl Chain {
     pub fn copy(&self, alloc: Global) -> Result<Chain, NoMemory>
         ensures { IfOk result (λ c. chain_tree c ≡ chain_tree self.now) }
     {
-        let first = match self.first.copy(alloc) {
-            Ok(first) => first,
-            Err(refused) => return Err(refused),
-        };
-        match self.rest.copy(alloc) {
-            Ok(rest) => Ok(Chain {
-                level: self.level,
-                first,
-                rest,
-            }),
-            Err(refused) => Err(refused),
-        }
+        let first = self.first.copy(alloc)?;
+        let rest = self.rest.copy(alloc)?;
+        Ok(Chain {
+            level: self.level,
+            first,
+            rest,
+        })
     }
 }
 
@@ -67,10 +47,7 @@ impl Rest {
     {
         let mut items = Vec::new(alloc);
         for (op, operand) in self.items.iter() {
-            match operand.copy(alloc) {
-                Ok(operand) => put_step(&mut items, *op, operand)?,
-                Err(refused) => return Err(refused),
-            }
+            items.push((*op, operand.copy(alloc)?))?;
         }
         Ok(Rest { items })
     }
@@ -84,10 +61,7 @@ impl Args {
     {
         let mut items = Vec::new(alloc);
         for arg in self.items.iter() {
-            match arg.copy(alloc) {
-                Ok(arg) => put_arg(&mut items, arg)?,
-                Err(refused) => return Err(refused),
-            }
+            items.push(arg.copy(alloc)?)?;
         }
         Ok(Args { items })
     }
@@ -100,29 +74,8 @@ impl Arg {
         ensures { IfOk result (λ a. arg_tree a ≡ arg_tree self.now) }
     {
         match self {
-            Arg::One(expr) => match expr.copy(alloc) {
-                Ok(expr) => Ok(Arg::One(expr)),
-                Err(refused) => Err(refused),
-            },
+            Arg::One(expr) => Ok(Arg::One(expr.copy(alloc)?)),
             Arg::Cells(area) => Ok(Arg::Cells(*area)),
         }
-    }
-}
-
-fn put_step(items: &mut Vec<(Op, Expr)>, op: Op, operand: Expr) -> Result<(), NoMemory>
-    ensures { OnOk result (items.new.items ≡ items.old.items ++ (record { 0 = op; 1 = operand }) ∷ []) }
-{
-    match items.push((op, operand)) {
-        Ok(()) => Ok(()),
-        Err(_) => Err(NoMemory),
-    }
-}
-
-fn put_arg(items: &mut Vec<Arg>, arg: Arg) -> Result<(), NoMemory>
-    ensures { OnOk result (items.new.items ≡ items.old.items ++ arg ∷ []) }
-{
-    match items.push(arg) {
-        Ok(()) => Ok(()),
-        Err(_) => Err(NoMemory),
     }
 }

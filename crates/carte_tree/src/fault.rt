@@ -1,3 +1,8 @@
+ghost use Rattle.std.specs.Prelude.{◌≡◌};
+ghost use Rattle.carte_tree.specs.declared.fault.FormulaFault.TheVariants.{NoMemory as OutOfMemory};
+
+use carte_value::NoMemory;
+use std::alloc::AllocFailed;
 use thiserror::Error;
 
 /// Why a text isn't read as a formula. Places are offsets in bytes. Of several faults the first in this order is told:
@@ -22,4 +27,20 @@ pub enum FormulaFault {
     /// There was no memory.
     #[error("out of memory")]
     NoMemory,
+}
+
+impl From<NoMemory> for FormulaFault {
+    ghost from_gives = { λ _ e. e ≡ OutOfMemory };
+
+    fn from(_: NoMemory) -> FormulaFault {
+        FormulaFault::NoMemory
+    }
+}
+
+impl<T: Drop> From<AllocFailed<T>> for FormulaFault {
+    ghost from_gives = { λ _ e. e ≡ OutOfMemory };
+
+    fn from(_: AllocFailed<T>) -> FormulaFault {
+        FormulaFault::NoMemory
+    }
 }

@@ -29,7 +29,6 @@ mod laws;
 mod level;
 mod mentioned;
 mod printer;
-mod put;
 
 pub use boxed::{chain_of, neg_of};
 pub use expr::{Arg, Args, Chain, Expr, Func, Level, Op, Rest};
@@ -38,4 +37,3 @@ pub use fixed::is_static;
 pub use laws::{static_asks, static_ends, static_looks, static_needs, static_runs};
 pub use mentioned::refs;
 pub use printer::print;
-pub use put::put_byte;

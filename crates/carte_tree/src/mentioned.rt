@@ -16,10 +16,8 @@ pub fn refs(alloc: Global, expr: &Expr) -> Result<Names, NoMemory>
     ensures { IfOk result (λ ks. ks ≡ refs_of (tree_of expr.now)) }
 {
     let mut seen = IndexSet::new(alloc);
-    match see_expr(alloc, expr, &mut seen) {
-        Ok(()) => listed(alloc, &seen),
-        Err(refused) => Err(refused),
-    }
+    see_expr(alloc, expr, &mut seen)?;
+    listed(alloc, &seen)
 }
 
 #[cycle(refs)]
@@ -84,11 +82,8 @@ fn see_cells(alloc: Global, area: &Area, seen: &mut IndexSet<Name>) -> Result<()
 fn see(alloc: Global, name: &Name, seen: &mut IndexSet<Name>) -> Result<(), NoMemory>
     ensures { OnOk result (seen.new.keys ≡ seen_also seen.old.keys name.now) }
 {
-    let name = name.copy(alloc)?;
-    match seen.insert(name) {
-        Ok(_) => Ok(()),
-        Err(_) => Err(NoMemory),
-    }
+    seen.insert(name.copy(alloc)?)?;
+    Ok(())
 }
 
 fn listed(alloc: Global, seen: &IndexSet<Name>) -> Result<Names, NoMemory>

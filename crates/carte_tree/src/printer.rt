@@ -5,7 +5,9 @@ ghost use Rattle.carte_tree.specs.Printed.{tight, func_name, in_brackets, printe
 ghost use Rattle.carte_tree.specs.Code.{tree_of, chain_tree, rest_steps, args_tree, arg_tree};
 ghost use Rattle.carte_tree.specs.Formula.{IsExpr, AreSteps, AreArgs, IsArg};
 
-use crate::put::{put, put_number, put_text};
+mod pieces;
+
+use crate::printer::pieces::{put, put_number, put_text};
 use crate::{Arg, Args, Chain, Expr, Func, Level, Rest};
 use carte_value::{Area, Name, NoMemory};
 use std::alloc::Global;
@@ -16,10 +18,8 @@ pub fn print(alloc: Global, expr: &Expr) -> Result<String, NoMemory>
     ensures { IfOk result (λ t. string_bytes t ≡ printed (tree_of expr.now)) }
 {
     let mut out = String::new(alloc);
-    match print_expr(alloc, &mut out, expr) {
-        Ok(()) => Ok(out),
-        Err(refused) => Err(refused),
-    }
+    print_expr(alloc, &mut out, expr)?;
+    Ok(out)
 }
 
 #[cycle(print)]
@@ -130,10 +130,8 @@ fn print_cell(alloc: Global, out: &mut String, column: u32, row: u32) -> Result<
     requires { IsPlace column row }
     ensures { OnOk result (string_bytes out.new ≡ string_bytes out.old ++ cell_at column row) }
 {
-    match Name::cell_at(alloc, column, row) {
-        Ok(name) => put(out, name.text()),
-        Err(refused) => Err(refused),
-    }
+    let name = Name::cell_at(alloc, column, row)?;
+    put(out, name.text())
 }
 
 /// Whether a formula needs no bracket where operators bind looser than a rank.

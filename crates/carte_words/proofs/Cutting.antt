@@ -1,10 +1,10 @@
 -- Texts cut at blanks in front.
-use Rattle.std.proofs.Common.{ℕ, ◌≡◌, ◌∙◌, if◌then◌else◌, ◌-◌, ◌<◌, ◌≤◌, ◌+◌, zero, suc, Bool, true, false, List, [], ◌∷◌, ◌++◌, length, take, drop, get_or, refl, ap, sym, arith, rules}
+use Rattle.std.proofs.Common.{ℕ, ◌≡◌, ◌∙◌, if◌then◌else◌, ◌<◌, ◌≤◌, Bool, true, false, List, [], ◌∷◌, ◌++◌, length, take, drop, get_or, refl, ap, sym, arith}
 use Rattle.std.proofs.lemmas.List.{length-append}
 use Rattle.std.proofs.Math.Seq.{take-append_seam, drop-append_seam}
 use Rattle.std.specs.Str.{IsCharBoundary, IsUtf8}
 use Rattle.std.proofs.lemmas.Str.{IsCharBoundary-after_ascii}
-use Rattle.carte_words.specs.Cuts.{is_blank, begins_blank, skip, word_of, behind, joined, grown, words_in, NextWord}
+use Rattle.carte_words.specs.Cuts.{is_blank, begins_blank, skip, word_of, behind, NextWord}
 
 -- a text is its first word and what follows it
 pub word_split : (t : List ℕ) → word_of t ++ behind t ≡ t

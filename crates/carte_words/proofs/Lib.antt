@@ -5,3 +5,4 @@ mod Cutting
 mod Trims
 mod Commands
 pub mod Meanings
+pub mod NamedLemmas

@@ -1,13 +1,12 @@
 -- By which words a line is meant, and that it has one meaning at most.
-use Rattle.std.proofs.Common.{ℕ, ◌≡◌, ◌∙◌, ◌<◌, List, [], ◌∷◌, Option, Some, None, IsTrue, length, codes, refl, ap, ap₂, sym, arith, slice_index}
+use Rattle.std.proofs.Common.{ℕ, ◌≡◌, ◌∙◌, List, [], ◌∷◌, Some, codes, refl, ap, ap₂, sym, arith, slice_index}
 use Rattle.carte_value.specs.declared.kind.Kind.{Kind}
 use Rattle.carte_value.specs.declared.value.Value.{Value}
-use Rattle.carte_value.specs.Reading.{OneReading, Reads}
 use Rattle.carte_value.proofs.Readings.{one_reading}
 use Rattle.carte_words.specs.declared.line.Line.{Line}
 use Rattle.carte_words.specs.declared.line.Line.TheVariants.{Set, Build, Explain, Clean, Nothing}
 use Rattle.carte_words.specs.Cuts.{skip, trim_end, without_return, words_in, word_of, behind, NextWord}
-use Rattle.carte_words.specs.Lines.{AreNames, Assigns, Follows, Says, Means, OneMeaning, names_of}
+use Rattle.carte_words.specs.Lines.{AreNames, Assigns, Follows, Says, OneMeaning}
 use Rattle.carte_words.proofs.Commands.{words_next}
 
 -- the first byte of the word that a line is meant by

@@ -1,7 +1,7 @@
 -- The command that is written out is one of which `clap` tells the whole meaning.
 use Rattle.std.proofs.Common.{◌≡◌, true, List, [], refl, map, subst, inl, inr}
 use Rattle.std.proofs.lemmas.List.{map-id}
-use Rattle.clap.specs.Words.{App, Text, HasMatchesOf, found_of, rows_of, kind_of, HasKind, IsAmong, Kinds, is_simple, is_simple_and_free, fault_of}
+use Rattle.clap.specs.Words.{App, Text, HasMatchesOf, found_of, rows_of, kind_of, HasKind, Kinds, is_simple, is_simple_and_free, fault_of}
 use Rattle.clap.specs.declared.parser.matches.ArgMatches.{ArgMatches}
 use Rattle.clap.specs.declared.error.Error.{Error}
 use Rattle.clap.specs.declared.error.kind.ErrorKind.TheVariants.{OutOfMemory}

@@ -4,3 +4,4 @@ pub mod Words
 pub mod Parsed
 pub mod Cuts
 pub mod Lines
+pub mod Named

@@ -1,5 +1,5 @@
 -- What words ask for, or the first fault why they ask for nothing.
-use Rattle.std.specs.Prelude.{ℕ, ◌≡◌, Bool, true, false, List, [], ◌∷◌, codes, Option, Some, None, Result, Ok, Err, option_and_then, unwrap_or, bytes_eq, if◌then◌else◌}
+use Rattle.std.specs.Prelude.{◌≡◌, Bool, true, false, List, [], ◌∷◌, codes, Option, Some, None, Result, Ok, Err, option_and_then, unwrap_or, bytes_eq, if◌then◌else◌}
 use Rattle.clap.specs.Words.{Kinds, Row, Text, first_of, all_of}
 use Rattle.carte_value.specs.Kinds.{is_text_of, name_of}
 use Rattle.carte_value.specs.declared.kind.Kind.{Kind}

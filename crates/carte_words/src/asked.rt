@@ -1,5 +1,6 @@
-ghost use Rattle.std.specs.Prelude.{◌≡◌};
+ghost use Rattle.std.specs.Prelude.{◌≡◌, IfOk};
 ghost use Rattle.clap.specs.Words.{first_of, found_of, rows_of};
+ghost use Rattle.carte_words.specs.Named.{AllNamed};
 ghost use Rattle.carte_words.specs.Words.{words_of, meaning_of, chosen_of, or_words, Gives};
 
 use crate::choices::{choose, value_at};
@@ -19,12 +20,11 @@ use std::alloc::Global;
 ///
 /// The fault is the first of these: `Words`; `NoTarget`; `TargetsNotTaken`; `BadTarget`.
 pub fn read_words(alloc: Global, words: &[Word]) -> Result<Words, WordsFault>
-    ensures { Gives (words_of words.now) result }
+    ensures words { Gives (words_of words.now) result }
+    ensures names { IfOk result (λ w. AllNamed w.kind w.targets) }
 {
-    match parse(alloc, words) {
-        Ok(matches) => read_matches(alloc, &matches),
-        Err(fault) => Err(fault),
-    }
+    let matches = parse(alloc, words)?;
+    read_matches(alloc, &matches)
 }
 
 fn read_matches(alloc: Global, matches: &ArgMatches) -> Result<Words, WordsFault>
@@ -63,10 +63,7 @@ fn word_at(alloc: Global, matches: &ArgMatches, id: &str) -> Result<Word, WordsF
     ensures { Gives (or_words (first_of id.now (rows_of (found_of matches.now)))) result }
 {
     match value_at(matches, id) {
-        Some(text) => match Word::of(alloc, text) {
-            Ok(word) => Ok(word),
-            Err(_) => Err(WordsFault::NoMemory),
-        },
+        Some(text) => Ok(Word::of(alloc, text)?),
         None => Err(WordsFault::Words),
     }
 }

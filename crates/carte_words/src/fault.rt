@@ -1,4 +1,9 @@
+ghost use Rattle.std.specs.Prelude.{◌≡◌};
+ghost use Rattle.carte_words.specs.declared.fault.WordsFault.TheVariants as fault;
+
 use crate::Word;
+use carte_value::NoMemory;
+use std::alloc::AllocError;
 
 /// Why words ask for nothing: the first of these, in this order.
 #[derive(Debug, Drop)]
@@ -14,4 +19,20 @@ pub enum WordsFault {
     BadTarget(Word),
     /// There was no memory for them. It may come in place of any answer.
     NoMemory,
+}
+
+impl From<NoMemory> for WordsFault {
+    ghost from_gives = { λ _ e. e ≡ fault.NoMemory };
+
+    fn from(_: NoMemory) -> WordsFault {
+        WordsFault::NoMemory
+    }
+}
+
+impl From<AllocError> for WordsFault {
+    ghost from_gives = { λ _ e. e ≡ fault.NoMemory };
+
+    fn from(_: AllocError) -> WordsFault {
+        WordsFault::NoMemory
+    }
 }

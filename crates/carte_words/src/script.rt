@@ -1,7 +1,8 @@
-ghost use Rattle.std.specs.Prelude.{◌≡◌, ◌==◌, Ok, Some, None, codes, slice_index, if◌then◌else◌};
+ghost use Rattle.std.specs.Prelude.{◌≡◌, IfOk, IfSome, ◌==◌, Ok, Some, None, codes, slice_index, if◌then◌else◌};
 ghost use Rattle.carte_value.specs.declared.kind.Kind.{Kind};
 ghost use Rattle.carte_words.specs.declared.line.Line.TheVariants.{Nothing};
 ghost use Rattle.carte_words.specs.Cuts.{skip, words_in};
+ghost use Rattle.carte_words.specs.Named.{LineNamed};
 ghost use Rattle.carte_words.specs.Lines.{Means, Says, Follows, IsMeant, IsNameAt, AreNamesAt, AreKeys, names_of};
 
 use crate::Line;
@@ -17,7 +18,8 @@ use std::str;
 /// and `clean`. A name is one of the kind; a value is all that follows it, as `Value::read` reads it. A line that
 /// isn't UTF-8 is none of them.
 pub fn read_line(alloc: Global, kind: Kind, line: &[u8]) -> Result<Option<Line>, NoMemory>
-    ensures { IsMeant (Means kind line.now) result }
+    ensures line { IsMeant (Means kind line.now) result }
+    ensures names { IfOk result (λ o. IfSome o (λ l. LineNamed kind l)) }
 {
     let Ok(text) = str::from_utf8(line) else {
         return Ok(None);
@@ -49,20 +51,18 @@ fn read_command(alloc: Global, kind: Kind, word: &str, rest: &str) -> Result<Opt
 fn read_build(alloc: Global, kind: Kind, rest: &str) -> Result<Option<Line>, NoMemory>
     ensures { IsMeant (Follows kind (codes "build") rest.now) result }
 {
-    match read_keys(alloc, kind, rest) {
-        Ok(Some(names)) => Ok(Some(Line::Build(names))),
-        Ok(None) => Ok(None),
-        Err(refused) => Err(refused),
+    match read_keys(alloc, kind, rest)? {
+        Some(names) => Ok(Some(Line::Build(names))),
+        None => Ok(None),
     }
 }
 
 fn read_explain(alloc: Global, kind: Kind, rest: &str) -> Result<Option<Line>, NoMemory>
     ensures { IsMeant (Follows kind (codes "explain") rest.now) result }
 {
-    match read_keys(alloc, kind, rest) {
-        Ok(Some(names)) => Ok(Some(Line::Explain(names))),
-        Ok(None) => Ok(None),
-        Err(refused) => Err(refused),
+    match read_keys(alloc, kind, rest)? {
+        Some(names) => Ok(Some(Line::Explain(names))),
+        None => Ok(None),
     }
 }
 
@@ -90,15 +90,12 @@ fn read_set(alloc: Global, kind: Kind, rest: &str) -> Result<Option<Line>, NoMem
     let Some((word, rest)) = next_word(rest) else {
         return Ok(None);
     };
-    let name = match read_name(alloc, kind, word) {
-        Ok(Some(name)) => name,
-        Ok(None) => return Ok(None),
-        Err(refused) => return Err(refused),
+    let Some(name) = read_name(alloc, kind, word)? else {
+        return Ok(None);
     };
-    match Value::read(alloc, skip(rest)) {
-        Ok(Some(value)) => Ok(Some(Line::Set(name, value))),
-        Ok(None) => Ok(None),
-        Err(refused) => Err(refused),
+    match Value::read(alloc, skip(rest))? {
+        Some(value) => Ok(Some(Line::Set(name, value))),
+        None => Ok(None),
     }
 }
 
@@ -106,17 +103,13 @@ fn read_set(alloc: Global, kind: Kind, rest: &str) -> Result<Option<Line>, NoMem
 fn read_keys(alloc: Global, kind: Kind, text: &str) -> Result<Option<Names>, NoMemory>
     ensures { AreKeys kind text.now result }
 {
-    match read_names(alloc, kind, text) {
-        Ok(Some(names)) => {
-            if names.is_empty() {
-                Ok(None)
-            } else {
-                Ok(Some(names))
-            }
-        }
-        Ok(None) => Ok(None),
-        Err(refused) => Err(refused),
+    let Some(names) = read_names(alloc, kind, text)? else {
+        return Ok(None);
+    };
+    if names.is_empty() {
+        return Ok(None);
     }
+    Ok(Some(names))
 }
 
 fn read_names(alloc: Global, kind: Kind, text: &str) -> Result<Option<Names>, NoMemory>

@@ -23,10 +23,8 @@ impl Word {
     pub fn of(alloc: Global, text: &str) -> Result<Word, NoMemory>
         ensures { IfOk result (λ w. w ≡ text.now) }
     {
-        match String::from_str(alloc, text) {
-            Ok(text) => Ok(Word { text }),
-            Err(_) => Err(NoMemory),
-        }
+        let text = String::from_str(alloc, text)?;
+        Ok(Word { text })
     }
 
     /// It takes no memory.

@@ -15,12 +15,12 @@ pub range-requires-clause-end_boundary : goal.range-requires-clause-end_boundary
 range-requires-clause-end_boundary c =
     run_is_over c.args.text.now c.args.at c.args.class c.run_end-last.result.0 c.run_end-last.result.1 c.utf8.text (run_along c.as_bytes.result.now c.args.text.now c.args.class c.run_end-last.result.0 c.args.at c.run_end-last.result.1 c.as_bytes.ensures.value c.run_end-last.ensures) c.in_default.not-Inside
 
-pub returns-in-Ok-Some : goal.returns-in-Ok-Some
-returns-in-Ok-Some c =
-    run_put c.args.kind c.args.text.now c.args.at c.args.class c.run_end-last.result.0 c.run_end-last.result.1 c.in-Ok-Some.token c.args.tokens.now.items c.put.new.tokens.items c.put.result c.requires.place c.requires.start
-    (run_along c.as_bytes.result.now c.args.text.now c.args.class c.run_end-last.result.0 c.args.at c.run_end-last.result.1 c.as_bytes.ensures.value c.run_end-last.ensures) (sym c.in-Ok-Some.field-0-is ∙ c.in-Ok-Some.ensures ∙ ap (λ bs. token_of c.run_end-last.result.0 bs) c.range.ensures.value) c.put.ensures
+pub returns-in-Some : goal.returns-in-Some
+returns-in-Some c =
+    run_put c.args.kind c.args.text.now c.args.at c.args.class c.run_end-last.result.0 c.run_end-last.result.1 c.in-Some.token c.args.tokens.now.items c.put.new.tokens.items c.put.result c.requires.place c.requires.start
+    (run_along c.as_bytes.result.now c.args.text.now c.args.class c.run_end-last.result.0 c.args.at c.run_end-last.result.1 c.as_bytes.ensures.value c.run_end-last.ensures) (sym c.in-Some.is ∙ c.in_ok-token.ensures ∙ ap (λ bs. token_of c.run_end-last.result.0 bs) c.range.ensures.value) c.put.ensures
 
-pub returns-in-Ok-None : goal.returns-in-Ok-None
-returns-in-Ok-None c =
+pub returns-in-None : goal.returns-in-None
+returns-in-None c =
     run_bad c.args.kind c.args.text.now c.args.at c.args.class c.run_end-last.result.0 c.run_end-last.result.1 c.requires.place c.requires.start (run_along c.as_bytes.result.now c.args.text.now c.args.class c.run_end-last.result.0 c.args.at c.run_end-last.result.1 c.as_bytes.ensures.value c.run_end-last.ensures)
-    (sym c.in-Ok-None.field-0-is ∙ c.in-Ok-None.ensures ∙ ap (λ bs. token_of c.run_end-last.result.0 bs) c.range.ensures.value)
+    (sym c.in-None.is ∙ c.in_ok-token.ensures ∙ ap (λ bs. token_of c.run_end-last.result.0 bs) c.range.ensures.value)

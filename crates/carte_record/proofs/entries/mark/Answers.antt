@@ -15,7 +15,7 @@ pub returns-in_default-get_mut : goal.returns-in_default-get_mut
 returns-in_default-get_mut c p is =
     let within = place_below p c.args.entries.now.items c.in-Some.at (sym is ∙ c.in-Some.is) in
     let below : c.in-Some.at < vec_len c.args.entries.now = search rules in
-    absurd (let there : false ≡ true = (c.in_default-get_mut.ensures {u = tt}).variant.1 below in cc)
+    let there : false ≡ true = (c.in_default-get_mut.ensures {u = tt}).variant.1 below in cc
 
 pub returns-in_default : goal.returns-in_default
 returns-in_default c p is = sym (change_none p (staled true) c.args.entries.now.items (sym is ∙ c.in_default.is))

@@ -1,4 +1,4 @@
-use Rattle.std.proofs.Common.{◌≡◌, sym, ◌∙◌}
+use Rattle.std.proofs.Common.{sym, ◌∙◌}
 use Rattle.carte_record.proofs.FirstPlaces.{place_finds, place_misses}
 use Rattle.carte_record.proofs.table.first.Goals as goal
 

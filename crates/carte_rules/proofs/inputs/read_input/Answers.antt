@@ -11,3 +11,9 @@ returns-in-Ok-add_input c = λ m h new.
     let j = c.in-Ok.name in
     let is = c.in-Ok.ensures.gives in
     (insert m j (input c.in-Ok-Some.value), input_put k j (view c.args.value) c.in-Ok-Some.value m is (rw c.in-Ok-Some.field-0-is at c.in-Ok-Some.ensures), c.in-Ok-add_input.ensures m h (ap (get m) (same_name k j is) ∙ new))
+
+pub add_input-requires-clause-free : goal.add_input-requires-clause-free
+add_input-requires-clause-free c =
+    let i = c.requires in
+    let is = c.in-Ok.ensures.gives in
+    (i.0, i.1, ap (get i.0) (same_name c.args.key.now c.in-Ok.name is) ∙ i.2)

@@ -7,4 +7,4 @@ use Rattle.carte_rules.proofs.Fresh.{AllFresh}
 use Rattle.carte_rules.proofs.inputs.read_inputs.Given as goal
 
 abbrev pub invariant-loop-key : goal.invariant-loop-key
-invariant-loop-key l = Holds l.fn.draft empty → (m : Content) × (inputs_into (table_view l.fn.table) empty ≡ inputs_into (members_view l.key-iterator) m) × Holds l.draft m × AllFresh m l.key-iterator
+invariant-loop-key l = (m : Content) × (inputs_into (table_view l.fn.table) empty ≡ inputs_into (members_view l.key-iterator) m) × Holds l.draft m × AllFresh m l.key-iterator

@@ -6,4 +6,4 @@ use Rattle.carte_topo.specs.Between.{IsBetween}
 use Rattle.carte_topo.proofs.plan.walk.Given as goal
 
 abbrev pub invariant-loop-at : goal.invariant-loop-at
-invariant-loop-at l = IsBetween (book_view l.book) l.targets l.walk.fresh l.walk.path.items l.walk.done.keys × ((k : List ℕ) → Among (take l.at l.targets) k → IsReady (book_view l.book) l.walk.done.keys k)
+invariant-loop-at l = IsBetween (book_view l.book) l.targets l.walk.unvisited l.walk.path.items l.walk.done.keys × ((k : List ℕ) → Among (take l.at l.targets) k → IsReady (book_view l.book) l.walk.done.keys k)

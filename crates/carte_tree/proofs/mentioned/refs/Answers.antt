@@ -5,8 +5,8 @@ use Rattle.carte_tree.specs.Formula.{mentions}
 use Rattle.carte_tree.proofs.Once.{listed_firsts}
 use Rattle.carte_tree.proofs.mentioned.refs.Goals as goal
 
-pub returns-in-Ok : goal.returns-in-Ok
-returns-in-Ok c =
+pub returns : goal.returns
+returns c =
     let none : c.new-seen.result.keys ≡ [] = search rules in
     let seen : c.see_expr.new.seen.keys ≡ seen_all c.new-seen.result.keys (mentions (tree_of c.args.expr.now)) = search rules in
     listed_firsts c.listed.result c.see_expr.new.seen.keys c.new-seen.result.keys (mentions (tree_of c.args.expr.now)) none seen c.listed.ensures

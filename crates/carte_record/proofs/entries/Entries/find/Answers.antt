@@ -1,4 +1,4 @@
-use Rattle.std.proofs.Common.{◌≡◌, ap, ◌∙◌}
+use Rattle.std.proofs.Common.{ap, ◌∙◌}
 use Rattle.carte_record.specs.Lookups.{first_entry, is_entry_of}
 use Rattle.carte_record.proofs.entries.Entries.find.Goals as goal
 

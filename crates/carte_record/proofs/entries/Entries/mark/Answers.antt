@@ -1,4 +1,4 @@
-use Rattle.std.proofs.Common.{◌≡◌, ◌∙◌, ap, sym, refl, true}
+use Rattle.std.proofs.Common.{◌∙◌, sym, refl, true}
 use Rattle.carte_record.specs.Lookups.{is_entry_of}
 use Rattle.carte_record.specs.Kept.{staled}
 use Rattle.carte_record.proofs.Changed.{place_kept, length_changed}

@@ -1,4 +1,4 @@
-use Rattle.std.proofs.Common.{◌≡◌, refl}
+use Rattle.std.proofs.Common.{refl}
 use Rattle.carte_record.proofs.Steps.{begins_self}
 use Rattle.carte_record.proofs.kept.Kept.grow_traces.Goals as goal
 

@@ -1,4 +1,4 @@
-use Rattle.std.proofs.Common.{◌≡◌, ◌<◌, [], ◌∷◌, ◌++◌, length, take, ap, sym, ◌∙◌, subst, rules}
+use Rattle.std.proofs.Common.{◌<◌, [], ◌∷◌, ◌++◌, length, take, ap, sym, ◌∙◌, subst, rules}
 use Rattle.std.proofs.lemmas.List.{take_more}
 use Rattle.carte_record.specs.Lookups.{is_link_of}
 use Rattle.carte_record.specs.Steps.{HasRoom}

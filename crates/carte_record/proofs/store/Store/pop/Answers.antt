@@ -1,4 +1,4 @@
-use Rattle.std.proofs.Common.{◌≡◌, ◌<◌, ℕ, List, [], ◌∷◌, ◌++◌, length, map, subst, sym, ◌∙◌, ap, rules, arith, length-append}
+use Rattle.std.proofs.Common.{◌≡◌, [], ◌∷◌, length, map, subst, sym, ◌∙◌, ap, rules, arith, length-append}
 use Rattle.std.proofs.lemmas.List.{same_from_push}
 use Rattle.std.specs.HashMap.{get}
 use Rattle.carte_value.specs.Names.{name_eq}

@@ -1,4 +1,4 @@
-use Rattle.std.proofs.Common.{◌≡◌, ap, ◌∙◌}
+use Rattle.std.proofs.Common.{ap, ◌∙◌}
 use Rattle.carte_record.specs.Lookups.{first_value, is_value_of}
 use Rattle.carte_record.proofs.Found.{find_end}
 use Rattle.carte_record.proofs.store.Store.put.Goals as goal

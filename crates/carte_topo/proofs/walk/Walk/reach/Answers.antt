@@ -1,4 +1,5 @@
 use Rattle.std.proofs.Common.{ap, sym, ◌∙◌}
+use Rattle.std.proofs.lemmas.Result.{err_from_is_err_and}
 use Rattle.carte_book.specs.Book.{book_view}
 use Rattle.carte_topo.specs.Walk.{is_ready}
 use Rattle.carte_topo.proofs.Ordered.{none_left, turned_all}
@@ -8,32 +9,34 @@ use Rattle.carte_topo.proofs.walk.Walk.reach.Goals as goal
 pub returns-then-is_ready : goal.returns-then-is_ready
 returns-then-is_ready c = λ k at.
     let same = same_goal c.args.targets.now c.args.at k _ c.requires.within c.index-targets-at.is at in
-    ready_already (book_view c.args.book.now) c.args.targets.now k c.index-targets-at.result c.args.self.now.fresh c.args.self.now.path.items c.args.self.now.done.keys c.is_ready.result c.requires.between same c.is_ready.ensures c.if-is_ready.true
+    ready_already (book_view c.args.book.now) c.args.targets.now k c.index-targets-at.result c.args.self.now.unvisited c.args.self.now.path.items c.args.self.now.done.keys c.is_ready.result c.requires.between same c.is_ready.ensures c.if-is_ready.true
 
-pub returns-in-Err-enter : goal.returns-in-Err-enter
-returns-in-Err-enter c = λ k at.
+pub returns-in_err-enter : goal.returns-in_err-enter
+returns-in_err-enter c = λ k at.
     let same = same_goal c.args.targets.now c.args.at k _ c.requires.within c.index-targets-at.is at in
-    first_refused (book_view c.args.book.now) c.args.targets.now k c.in-Ok.target c.args.at c.args.self.now.fresh c.enter.new.self.fresh c.args.self.now.path.items c.enter.new.self.path.items c.args.self.now.done.keys c.enter.new.self.done.keys c.in-Err-enter.stop at c.requires.between (c.in-Ok.ensures ∙ same) (ap (is_ready (book_view c.args.book.now) c.args.self.now.done.keys) c.in-Ok.ensures ∙ sym c.is_ready.ensures ∙ c.if-is_ready.false) c.in-Err-enter.ensures.enters
+    let p = err_from_is_err_and c.from_residual-in_err-enter.result c.from_residual-in_err-enter.ensures.1 in
+    rw (p.1, p.2) (first_refused (book_view c.args.book.now) c.args.targets.now k c.in_ok-copy.field-0 c.args.at c.args.self.now.unvisited c.enter.new.self.unvisited c.args.self.now.path.items c.enter.new.self.path.items c.args.self.now.done.keys c.enter.new.self.done.keys c.in_err-enter.field-0.0 at c.requires.between (c.in_ok-copy.ensures ∙ same) (ap (is_ready (book_view c.args.book.now) c.args.self.now.done.keys) c.in_ok-copy.ensures ∙ sym c.is_ready.ensures ∙ c.if-is_ready.false) c.in_err-enter.ensures.enters)
 
 pub turns-init : goal.turns-init
 turns-init c = λ k at.
     let same = same_goal c.args.targets.now c.args.at k _ c.requires.within c.index-targets-at.is at in
-    first_turning (book_view c.args.book.now) c.args.targets.now k c.in-Ok.target c.args.at c.args.self.now.fresh c.enter.new.self.fresh c.args.self.now.path.items c.enter.new.self.path.items c.args.self.now.done.keys c.enter.new.self.done.keys at c.requires.between (c.in-Ok.ensures ∙ same) c.in_default.ensures.enters (ap (λ s. s.keys) c.in_default.ensures.done)
+    first_turning (book_view c.args.book.now) c.args.targets.now k c.in_ok-copy.field-0 c.args.at c.args.self.now.unvisited c.enter.new.self.unvisited c.args.self.now.path.items c.enter.new.self.path.items c.args.self.now.done.keys c.enter.new.self.done.keys at c.requires.between (c.in_ok-copy.ensures ∙ same) c.in_ok-enter.ensures.enters (ap (λ s. s.keys) c.in_ok-enter.ensures.done)
 
 pub turn-requires : goal.turn-requires
 turn-requires c =
     let some = has_goal c.args.targets.now c.args.at c.requires.within in
-    newest_stands (book_view c.args.book.now) c.args.targets.now some.0 c.turns.self.fresh c.turns.self.path.items c.pop_front.new.self.items c.args.self.now.done.keys c.turns.self.done.keys c.in-Some.frame c.in-Some.ensures.items (c.turns.invariant some.0 some.1)
+    newest_stands (book_view c.args.book.now) c.args.targets.now some.0 c.turns.self.unvisited c.turns.self.path.items c.pop_front.new.self.items c.args.self.now.done.keys c.turns.self.done.keys c.in-Some.frame c.in-Some.ensures.items (c.turns.invariant some.0 some.1)
 
-pub returns-in-Err-turn : goal.returns-in-Err-turn
-returns-in-Err-turn c = λ k at.
-    later_refused (book_view c.args.book.now) c.args.targets.now k c.args.at c.turns.self.fresh c.turn.new.self.fresh c.turns.self.path.items c.pop_front.new.self.items c.turn.new.self.path.items c.args.self.now.done.keys c.turns.self.done.keys c.turn.new.self.done.keys c.in-Some.frame c.in-Err-turn.stop at c.in-Some.ensures.items (c.turns.invariant k at) c.in-Err-turn.ensures
+pub returns-in_err-turn : goal.returns-in_err-turn
+returns-in_err-turn c = λ k at.
+    let p = err_from_is_err_and c.from_residual-in_err-turn.result c.from_residual-in_err-turn.ensures.1 in
+    rw (p.1, p.2) (later_refused (book_view c.args.book.now) c.args.targets.now k c.args.at c.turns.self.unvisited c.turn.new.self.unvisited c.turns.self.path.items c.pop_front.new.self.items c.turn.new.self.path.items c.args.self.now.done.keys c.turns.self.done.keys c.turn.new.self.done.keys c.in-Some.frame c.in_err-turn.field-0.0 at c.in-Some.ensures.items (c.turns.invariant k at) c.in_err-turn.ensures)
 
 pub turns-preserved : goal.turns-preserved
 turns-preserved c = λ k at.
-    later_turning (book_view c.args.book.now) c.args.targets.now k c.turns.self.fresh c.turn.new.self.fresh c.turns.self.path.items c.pop_front.new.self.items c.turn.new.self.path.items c.args.self.now.done.keys c.turns.self.done.keys c.turn.new.self.done.keys c.in-Some.frame c.in-Some.ensures.items (c.turns.invariant k at) c.in_default-turn.ensures
+    later_turning (book_view c.args.book.now) c.args.targets.now k c.turns.self.unvisited c.turn.new.self.unvisited c.turns.self.path.items c.pop_front.new.self.items c.turn.new.self.path.items c.args.self.now.done.keys c.turns.self.done.keys c.turn.new.self.done.keys c.in-Some.frame c.in-Some.ensures.items (c.turns.invariant k at) c.in_ok-turn.ensures
 
 pub returns : goal.returns
 returns c = λ k at.
-    let none = none_left c.turns.self.path.items c.turns.self.path.len c.turns.self.path.ok.0 c.in_default-pop_front.ensures.cases.0 in
-    turned_all (book_view c.args.book.now) c.args.targets.now k c.turns.self.fresh c.turns.self.path.items c.pop_front.new.self.items c.args.self.now.done.keys c.turns.self.done.keys none (sym c.in_default-pop_front.ensures.items ∙ none) (c.turns.invariant k at)
+    let none = none_left c.turns.self.path.items c.turns.self.path.len c.turns.self.path.ok.0 c.in_default.ensures.cases.0 in
+    turned_all (book_view c.args.book.now) c.args.targets.now k c.turns.self.unvisited c.turns.self.path.items c.pop_front.new.self.items c.args.self.now.done.keys c.turns.self.done.keys none (sym c.in_default.ensures.items ∙ none) (c.turns.invariant k at)

@@ -1,0 +1,4 @@
+pub mod Each
+pub mod Spellings
+pub mod Parts
+pub mod Laws

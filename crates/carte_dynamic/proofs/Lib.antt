@@ -1,7 +1,0 @@
-pub mod Trails
-pub mod Places
-pub mod Searching
-pub mod First
-pub mod Linked
-pub mod Loops
-pub mod Picking

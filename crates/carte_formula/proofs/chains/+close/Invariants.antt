@@ -1,8 +1,0 @@
-use Rattle.std.proofs.Common.{◌+◌, ◌*◌, length}
-use Rattle.carte_formula.proofs.chains.+close.Given as goal
-
-abbrev pub decreases-close : goal.decreases-close
-decreases-close l = 2 * length l.stack.now.frames.items
-
-abbrev pub decreases-close_behind : goal.decreases-close_behind
-decreases-close_behind l = 2 * length l.stack.now.frames.items + 1

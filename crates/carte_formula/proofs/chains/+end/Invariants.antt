@@ -1,8 +1,0 @@
-use Rattle.std.proofs.Common.{◌+◌, ◌*◌, length}
-use Rattle.carte_formula.proofs.chains.+end.Given as goal
-
-abbrev pub decreases-end : goal.decreases-end
-decreases-end l = 2 * length l.stack.now.frames.items
-
-abbrev pub decreases-end_behind : goal.decreases-end_behind
-decreases-end_behind l = 2 * length l.stack.now.frames.items + 1

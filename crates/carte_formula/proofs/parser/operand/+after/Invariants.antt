@@ -1,0 +1,5 @@
+use Rattle.std.proofs.Common.{length}
+use Rattle.carte_formula.proofs.parser.operand.+after.Given as goal
+
+abbrev pub decreases-after : goal.decreases-after
+decreases-after l = length l.stack.now.frames.items

@@ -1,0 +1,6 @@
+pub mod Using
+pub mod Putting
+pub mod Changing
+pub mod Reaching
+pub mod Listing
+pub mod Beginning

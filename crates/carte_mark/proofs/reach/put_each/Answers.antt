@@ -1,0 +1,18 @@
+use Rattle.std.proofs.Common.{◌≡◌, ◌<◌, ◌≤◌, ℕ, List, [], ◌∷◌, ◌++◌, Some, length, map, take, slice_get, option_copied, ap, sym, ◌∙◌, subst, rules, refl, arith}
+use Rattle.std.proofs.lemmas.List.{take_more}
+use Rattle.indexmap.specs.IndexSet.{insert_key}
+use Rattle.carte_value.specs.Names.{name_eq}
+use Rattle.carte_mark.specs.Puts.{put_all}
+use Rattle.carte_mark.proofs.Putting.{put_end}
+use Rattle.carte_mark.proofs.reach.put_each.Goals as goal
+
+pub loop-key-preserved : goal.loop-key-preserved
+loop-key-preserved c =
+    let keys = c.as_slice-key-items.result.now in
+    let at = c.loop-key.key-index in
+    let below : at < length keys = search rules in
+    let more = take_more keys at c.key-item.result below ∙ ap (λ x. take at keys ++ x ∷ []) (sym c.key-item.is) in
+    (c.in_ok-put.ensures {u = tt})
+    ∙ (ap (λ rs. insert_key name_eq rs c.key-item.result) c.loop-key.invariant
+    ∙ (sym (put_end c.args.reached.now.keys (take at keys) c.key-item.result)
+    ∙ ap (put_all c.args.reached.now.keys) (sym more)))

@@ -1,0 +1,5 @@
+pub mod Tables
+pub mod Puts
+pub mod Reached
+pub mod Marking
+pub mod Bases

@@ -1,0 +1,33 @@
+-- Tables of the keys that need a name.
+use Rattle.std.specs.Prelude.{ℕ, ◌≡◌, ◌⊎◌, List, [], ◌∷◌, ◌++◌, Option, Some, None, if◌then◌else◌}
+use Rattle.carte_value.specs.Names.{name_eq}
+use Rattle.carte_value.specs.Truths.{Among}
+use Rattle.carte_record.specs.declared.entry.Entry.{Entry}
+use Rattle.carte_record.specs.Lookups.{first_entry}
+
+-- of each name the keys that need it
+abbrev pub Users : Type 0
+Users = List ℕ → List (List ℕ)
+
+abbrev pub keys_in : Option (List (List ℕ)) → List (List ℕ)
+keys_in None = []
+keys_in (Some ks) = ks
+
+-- the key's entry names it as a need
+abbrev pub Needs : List Entry → List ℕ → List ℕ → Type 0
+Needs es k q = (e : Entry) × (first_entry es k ≡ Some e) × Among e.needs q
+
+-- one key more for one name
+abbrev pub AddsKey : Users → Users → List ℕ → List ℕ → Type 0
+AddsKey old new n k = (q : List ℕ) → new q ≡ (if name_eq n q then old q ++ k ∷ [] else old q)
+
+-- one key more for each name that has the property
+pub record AddsFor (old new : Users) (k : List ℕ) (P : List ℕ → Type 0) : Type 0 where
+  pub only : (q j : List ℕ) → Among (new q) j → Among (old q) j ⊎ ((j ≡ k) × P q)
+  pub stays : (q j : List ℕ) → Among (old q) j → Among (new q) j
+  pub there : (q : List ℕ) → P q → Among (new q) k
+
+-- exactly the keys that need it
+pub record AreUsers (es : List Entry) (d : Users) : Type 0 where
+  pub only : (q k : List ℕ) → Among (d q) k → Needs es k q
+  pub each : (q k : List ℕ) → Needs es k q → Among (d q) k

@@ -1,0 +1,11 @@
+//! How batches are spelled in bytes, and read again.
+
+mod batch;
+mod entry;
+mod lists;
+mod start;
+#[cfg(test)]
+mod tests;
+mod trace;
+
+pub use batch::one_body;

@@ -1,0 +1,140 @@
+ghost use Rattle.std.specs.Prelude.{◌≡◌, ◌++◌, IfOk, OnOk};
+ghost use Rattle.carte_codec.specs.Each.{EachFits};
+ghost use Rattle.carte_record.specs.Bodies.{spelled_kind, spelled_front, FitsFront, spelled_back, FitsBack, spelled_batch, FitsBatch, IsUnmarked, IsBody, IsDecoded, IsWhole, OneBody};
+ghost use Rattle.carte_record.specs.BodyLaws.{kind_one, batch_of, batch_one};
+
+use crate::{Batch, Entries, Seen, Start, Store, Traces};
+use carte_codec::{Spelled, Unread};
+use carte_value::{Names, NoMemory};
+use std::alloc::Global;
+
+/// The kind of a body that is a batch of version 1 of the state file, spelled as 1.
+#[derive(Drop)]
+pub(crate) struct Kind;
+
+impl Spelled for Kind {
+    ghost spelling = { spelled_kind };
+
+    ghost fits = { λ _. Unit {0} };
+
+    ghost may = { λ _. Unit {0} };
+
+    fn write(&self, out: &mut Vec<u8>) -> Result<(), NoMemory> {
+        out.push(1)?;
+        Ok(())
+    }
+
+    fn read(_alloc: Global, bytes: &[u8]) -> Result<(Kind, &[u8]), Unread> {
+        match bytes {
+            [1, rest @ ..] => Ok((Kind, rest)),
+            _ => Err(Unread::NotThere),
+        }
+    }
+
+    ghost one_spelling = { kind_one };
+}
+
+type Front = (Start, (Store, (Seen, (Names, Entries))));
+
+type Back = (Traces, (Traces, (Traces, Option<Names>)));
+
+type Parts = (Kind, (Front, Back));
+
+/// The kind, and the nine parts in their order.
+impl Spelled for Batch {
+    ghost spelling = { spelled_batch };
+
+    ghost fits = { FitsBatch };
+
+    ghost may = { λ b. EachFits IsUnmarked b.entries };
+
+    fn write(&self, out: &mut Vec<u8>) -> Result<(), NoMemory> {
+        Kind.write(out)?;
+        write_front(self, out)?;
+        write_back(self, out)
+    }
+
+    fn read(alloc: Global, bytes: &[u8]) -> Result<(Batch, &[u8]), Unread> {
+        match Parts::read(alloc, bytes) {
+            Ok((parts, rest)) => Ok((of_parts(parts), rest)),
+            Err(unread) => Err(unread),
+        }
+    }
+
+    ghost one_spelling = { batch_one };
+}
+
+fn write_front(batch: &Batch, out: &mut Vec<u8>) -> Result<(), NoMemory>
+    ensures bytes { OnOk result (out.new.items ≡ out.old.items ++ spelled_front batch.now) }
+    ensures fits { OnOk result (EachFits IsUnmarked batch.now.entries → FitsFront batch.now) }
+{
+    batch.start.write(out)?;
+    batch.values.write(out)?;
+    batch.seen.write(out)?;
+    batch.stale.write(out)?;
+    batch.entries.write(out)
+}
+
+fn write_back(batch: &Batch, out: &mut Vec<u8>) -> Result<(), NoMemory>
+    ensures bytes { OnOk result (out.new.items ≡ out.old.items ++ spelled_back batch.now) }
+    ensures fits { OnOk result (FitsBack batch.now) }
+{
+    batch.verifying.write(out)?;
+    batch.constructive.write(out)?;
+    batch.deep.write(out)?;
+    batch.chain.write(out)
+}
+
+fn of_parts(parts: Parts) -> Batch
+    ensures { result ≡ batch_of parts }
+{
+    let (_, (front, back)) = parts;
+    let (start, (values, (seen, (stale, entries)))) = front;
+    let (verifying, (constructive, (deep, chain))) = back;
+    Batch {
+        start,
+        values,
+        seen,
+        stale,
+        entries,
+        verifying,
+        constructive,
+        deep,
+        chain,
+    }
+}
+
+impl Batch {
+    /// The bytes of the batch, as the state file keeps it.
+    pub fn encode(&self, alloc: Global) -> Result<Vec<u8>, NoMemory>
+        requires { EachFits IsUnmarked self.now.entries }
+        ensures { IfOk result (λ bytes. IsBody self.now bytes.items) }
+    {
+        let mut bytes = Vec::new(alloc);
+        self.write(&mut bytes)?;
+        Ok(bytes)
+    }
+
+    /// The batch whose bytes these are, and none where they are no batch's.
+    pub fn decode(alloc: Global, bytes: &[u8]) -> Result<Option<Batch>, NoMemory>
+        ensures { IsDecoded bytes.now result }
+    {
+        match Batch::read(alloc, bytes) {
+            Ok((batch, rest)) => Ok(whole(batch, rest)),
+            Err(Unread::NotThere) => Ok(None),
+            Err(Unread::NoMemory) => Err(NoMemory),
+        }
+    }
+}
+
+/// What was read, where nothing is left.
+fn whole(batch: Batch, rest: &[u8]) -> Option<Batch>
+    ensures { IsWhole batch rest.now result }
+{
+    if rest.is_empty() { Some(batch) } else { None }
+}
+
+/// Bytes are of one batch at most.
+pub fn one_body()
+    ensures { OneBody }
+{}

@@ -1,0 +1,131 @@
+-- Which bytes are a sheet, and which book it is. Rows and columns are counted from 1.
+use Rattle.std.specs.Prelude.{ℕ, ℤ, ◌≡◌, ◌<◌, ◌≤◌, ◌+◌, ◌==◌, nat_lt, List, [], ◌∷◌, length, drop, slice_index, MatchBool, Result, Ok, Err, if◌then◌else◌}
+use Rattle.std.specs.Str.{is_utf8}
+use Rattle.std.specs.List.{starts_with}
+use Rattle.std.specs.FinMap.{FinMap, insert, empty, entries}
+use Rattle.csv.specs.Reading.{default_config, records, strip_bom}
+use Rattle.carte_value.specs.declared.kind.Kind.TheVariants.{Sheet}
+use Rattle.carte_value.specs.declared.value.Value.{Value}
+use Rattle.carte_value.specs.declared.value.Value.TheVariants.{Number, Text, Empty, Bad}
+use Rattle.carte_value.specs.Areas.{cell_at}
+use Rattle.carte_value.specs.Names.{name_cmp}
+use Rattle.carte_value.specs.Reading.{IsNumberText}
+use Rattle.carte_tree.specs.Tree.{Tree}
+use Rattle.carte_tree.specs.declared.fault.FormulaFault.{FormulaFault}
+use Rattle.carte_formula.specs.Whole.{Reads, IsTold}
+use Rattle.carte_book.specs.Book.{Item, input, rule, Book, book_view}
+use Rattle.carte_book.specs.declared.book.Book.{Book as CodeBook}
+use Rattle.carte_book.specs.declared.fault.Which.TheVariants.{Bytes, Rows, Columns, Keys}
+use Rattle.carte_book.specs.declared.fault.BookFault.{BookFault}
+use Rattle.carte_book.specs.declared.fault.BookFault.TheVariants.{Limit, BadValue, Formula, NotUtf8, NoMemory}
+
+abbrev pub Content : Type 0
+Content = FinMap name_cmp Item
+
+-- a fault is the end, and else it goes on
+infixl 10 ◌>>=◌
+abbrev pub ◌>>=◌ : {A B : Type 0} → Result A BookFault → (A → Result B BookFault) → Result B BookFault
+(Ok a) >>= f = f a
+(Err fault) >>= f = Err fault
+
+abbrev pub Then : {A B : Type 0} → Result A BookFault → (A → Result B BookFault → Type 0) → Result B BookFault → Type 0
+Then (Ok a) P o = P a o
+Then (Err fault) P o = o ≡ Err fault
+
+-- ---- a field
+
+-- the cell at its place
+abbrev pub cell_of : ℕ → ℕ → Result (List ℕ) BookFault
+cell_of r c = if nat_lt 9999 r then Err (Limit Rows 9999) else (if nat_lt 702 c then Err (Limit Columns 702) else Ok (cell_at c r))
+
+-- the field is UTF-8
+abbrev pub text_of : List ℕ → List ℕ → Result (List ℕ) BookFault
+text_of k field = if is_utf8 field then Ok field else Err (NotUtf8 k)
+
+abbrev pub NoNumber : List ℕ → Type 0
+NoNumber text = (n : ℤ) → ¬ (IsNumberText text n)
+
+-- what is a number is one, and every other field a text
+abbrev pub ValueAt : List ℕ → Value → Type 0
+ValueAt text (Number n) = IsNumberText text n
+ValueAt text (Text t) = NoNumber text × (length text ≤ 65536) × (t ≡ text)
+ValueAt text Empty = ⊥
+ValueAt text (Bad b) = ⊥
+
+abbrev pub IsTooLong : List ℕ → Type 0
+IsTooLong text = NoNumber text × (65536 < length text)
+
+abbrev pub ValueOf : List ℕ → List ℕ → Result Item BookFault → Type 0
+ValueOf k text (Ok x) = (v : Value) × ValueAt text v × (x ≡ input v)
+ValueOf k text (Err fault) = IsTooLong text × (fault ≡ BadValue k)
+
+abbrev pub at_cell : List ℕ → Result Tree FormulaFault → Result Item BookFault
+at_cell k (Ok e) = Ok (rule e)
+at_cell k (Err fault) = Err (Formula k fault)
+
+-- what the text is read as, where there is memory
+abbrev pub FormulaOf : List ℕ → List ℕ → Result Item BookFault → Type 0
+FormulaOf k text o = (r : Result Tree FormulaFault) × Reads Sheet text r × IsTold r × (o ≡ at_cell k r)
+
+-- a rule behind `=`, and else an input
+abbrev pub ItemOf : List ℕ → List ℕ → Result Item BookFault → Type 0
+ItemOf k text o = MatchBool (slice_index text 0 == 61) (FormulaOf k (drop 1 text) o) (ValueOf k text o)
+
+abbrev pub put : List ℕ → Content → Result Item BookFault → Result Content BookFault
+put k m (Ok x) = Ok (insert m k x)
+put k m (Err fault) = Err fault
+
+abbrev pub ItemInto : List ℕ → List ℕ → Content → Result Content BookFault → Type 0
+ItemInto k text m o = (r : Result Item BookFault) × ItemOf k text r × (o ≡ put k m r)
+
+abbrev pub FilledInto : List ℕ → List ℕ → Content → Result Content BookFault → Type 0
+FilledInto k field m o = Then (text_of k field) (λ text. ItemInto k text m) o
+
+-- an empty field makes no key
+abbrev pub FieldInto : ℕ → ℕ → List ℕ → Content → Result Content BookFault → Type 0
+FieldInto r c [] m o = o ≡ Ok m
+FieldInto r c (b ∷ bs) m o = Then (cell_of r c) (λ k. FilledInto k (b ∷ bs) m) o
+
+-- ---- all of them
+
+abbrev pub FieldsInto : ℕ → ℕ → List (List ℕ) → Content → Result Content BookFault → Type 0
+FieldsInto r c [] m o = o ≡ Ok m
+FieldsInto r c (f ∷ fs) m o = (x : Result Content BookFault) × FieldInto r c f m x × Then x (FieldsInto r (c + 1) fs) o
+
+abbrev pub RowsInto : ℕ → List (List (List ℕ)) → Content → Result Content BookFault → Type 0
+RowsInto r [] m o = o ≡ Ok m
+RowsInto r (fs ∷ rows) m o = (x : Result Content BookFault) × FieldsInto r 1 fs m x × Then x (RowsInto (r + 1) rows) o
+
+-- at most 65,536 keys
+abbrev pub book_of : Content → Result Book BookFault
+book_of m = if nat_lt 65536 (length (entries m)) then Err (Limit Keys 65536) else Ok (record { kind = Sheet; items = m })
+
+-- the number of keys comes last
+abbrev pub InRows : List (List (List ℕ)) → Result Book BookFault → Type 0
+InRows rows o = (r : Result Content BookFault) × RowsInto 1 rows empty r × (o ≡ (r >>= book_of))
+
+-- ---- bytes
+
+abbrev pub mark : List ℕ
+mark = 239 ∷ 187 ∷ 191 ∷ []
+
+-- without a byte order mark in front
+abbrev pub without_mark : List ℕ → List ℕ
+without_mark bytes = if starts_with ◌==◌ bytes mark then drop 3 bytes else bytes
+
+-- the records of a text are those that `csv` gives, which passes over such a mark too
+unfoldable pub records_of : List ℕ → List (List (List ℕ))
+records_of text = records default_config (strip_bom text)
+
+abbrev pub rows_of : List ℕ → Result (List (List (List ℕ))) BookFault
+rows_of bytes = if nat_lt 16777216 (length bytes) then Err (Limit Bytes 16777216) else Ok (records_of (without_mark bytes))
+
+-- the book that bytes are, or the first fault why they are none
+abbrev pub BookOf : List ℕ → Result Book BookFault → Type 0
+BookOf bytes o = Then (rows_of bytes) InRows o
+
+-- what a reader answers: that, but that memory may run out
+abbrev pub IsRead : List ℕ → Result CodeBook BookFault → Type 0
+IsRead bytes (Ok b) = BookOf bytes (Ok (book_view b))
+IsRead bytes (Err NoMemory) = Unit {0}
+IsRead bytes (Err fault) = BookOf bytes (Err fault)

@@ -1,0 +1,4 @@
+pub mod Folds
+pub mod Applies
+pub mod Runs
+pub mod History

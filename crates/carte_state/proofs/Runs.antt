@@ -1,0 +1,194 @@
+-- A loop of batches, through the contract of one.
+use Rattle.std.proofs.Common.{◌≡◌, ℕ, ◌+◌, ◌<◌, ◌≤◌, Bool, true, false, if◌then◌else◌, List, [], ◌∷◌, ◌++◌, length, take, drop, get_or, arith, refl, sym, ◌∙◌, ap, subst, append_assoc, append-nil}
+use Rattle.std.proofs.lemmas.List.{drop_more, take_more, take-append-drop}
+use Rattle.carte_codec.specs.Each.{EachFits}
+use Rattle.carte_io.specs.Disk.{CountsUp, Story, moments}
+use Rattle.carte_io.specs.Stations.{Step, StepsThrough, calls_in, last_of}
+use Rattle.carte_io.proofs.Acknowledged.{AreMade, calls_in-append, last_of-append, steps_further, steps_none, steps_then}
+use Rattle.carte_io.proofs.Images.{throughout_none}
+use Rattle.carte_journal.specs.Journals.{Standing, calls_of, committed}
+use Rattle.carte_journal.proofs.Commits.{some_calls}
+use Rattle.carte_record.specs.Bodies.{IsUnmarked, spelled_batch}
+use Rattle.carte_record.proofs.Empties.{empty_same}
+use Rattle.carte_record.specs.Folds.{apply}
+use Rattle.carte_record.specs.Kept.{SomeKept}
+use Rattle.carte_record.specs.declared.batch.Batch.{Batch}
+use Rattle.carte_record.specs.Empty.{is_empty}
+use Rattle.carte_state.specs.Folding.{Keeps}
+use Rattle.carte_state.specs.Runs.{AreUnmarked, EndsIn, applied, calls_of_all, journal_behind, steps_of}
+use Rattle.carte_state.specs.States.{IsKeptOn, Stand, calls_for, journal_after, kept_in, step_for}
+use Rattle.carte_state.proofs.Applies.{kept_leaves}
+
+pub applied-append : (K : SomeKept) (Bs Cs : List Batch) → applied K (Bs ++ Cs) ≡ applied (applied K Bs) Cs
+applied-append K [] Cs = refl
+applied-append K (B ∷ Bs) Cs = applied-append (apply B K) Bs Cs
+
+journal_behind-append : (j : Standing) (Bs Cs : List Batch) → journal_behind j (Bs ++ Cs) ≡ journal_behind (journal_behind j Bs) Cs
+journal_behind-append j [] Cs = refl
+journal_behind-append j (B ∷ Bs) Cs = journal_behind-append (journal_after j B) Bs Cs
+
+calls_of_all-push : (j : Standing) (Bs : List Batch) (B : Batch) → calls_of_all j (Bs ++ B ∷ []) ≡ calls_of_all j Bs + calls_for (journal_behind j Bs) B
+calls_of_all-push j [] B = omega arith
+calls_of_all-push j (C ∷ Bs) B = omega (arith, calls_of_all-push (journal_after j C) Bs B)
+
+-- a journal that isn't broken, after a batch
+whole_if : (empty : Bool) (j k : Standing) → j.broken ≡ false → k.broken ≡ false → (if empty then j else k).broken ≡ false
+whole_if true j k old new = old
+whole_if false j k old new = new
+
+pub whole_after : (j : Standing) (B : Batch) → j.broken ≡ false → (journal_after j B).broken ≡ false
+whole_after j B whole = whole_if (is_empty B) j (committed j (spelled_batch B)) whole refl
+
+-- one batch as steps
+module _ (j : Standing) (K : SomeKept) (B : Batch) where
+  calls_if : (empty : Bool) → calls_in (if empty then [] else let step : Step SomeKept = record { calls = calls_of j; to = apply B K } in step ∷ [])
+      ≡ (if empty then 0 else calls_of j)
+  calls_if true = refl
+  calls_if false = omega arith
+
+  calls_in-step_for : calls_in (step_for j K B) ≡ calls_for j B
+  calls_in-step_for = calls_if (is_empty B)
+
+  last_if : (empty : Bool) → (empty ≡ true → apply B K ≡ K)
+      → last_of K (if empty then [] else let step : Step SomeKept = record { calls = calls_of j; to = apply B K } in step ∷ []) ≡ apply B K
+  last_if true same = sym (same refl)
+  last_if false same = refl
+
+  last_of-step_for : last_of K (step_for j K B) ≡ apply B K
+  last_of-step_for = last_if (is_empty B) (empty_same B K)
+
+  made_if : (empty : Bool) → AreMade (if empty then [] else let step : Step SomeKept = record { calls = calls_of j; to = apply B K } in step ∷ [])
+  made_if true = tt
+  made_if false = (omega (arith, some_calls j.fresh), tt)
+
+  made_step_for : AreMade (step_for j K B)
+  made_step_for = made_if (is_empty B)
+
+are_made : {A : Type 0} (bs cs : List (Step A)) → AreMade bs → AreMade cs → AreMade (bs ++ cs)
+are_made [] cs made more = more
+are_made (b ∷ bs) cs made more = (made.0, are_made bs cs made.1 more)
+
+made_steps_of : (j : Standing) (K : SomeKept) (Bs : List Batch) → AreMade (steps_of j K Bs)
+made_steps_of j K [] = tt
+made_steps_of j K (B ∷ Bs) = are_made (step_for j K B) (steps_of (journal_after j B) (apply B K) Bs) (made_step_for j K B) (made_steps_of (journal_after j B) (apply B K) Bs)
+
+pub calls_in-steps_of : (j : Standing) (K : SomeKept) (Bs : List Batch) → calls_in (steps_of j K Bs) ≡ calls_of_all j Bs
+calls_in-steps_of j K [] = refl
+calls_in-steps_of j K (B ∷ Bs) =
+    omega (
+      arith,
+      calls_in-append (step_for j K B) (steps_of (journal_after j B) (apply B K) Bs),
+      calls_in-step_for j K B,
+      calls_in-steps_of (journal_after j B) (apply B K) Bs,
+    )
+
+pub last_of-steps_of : (j : Standing) (K : SomeKept) (Bs : List Batch) → last_of K (steps_of j K Bs) ≡ applied K Bs
+last_of-steps_of j K [] = refl
+last_of-steps_of j K (B ∷ Bs) =
+    last_of-append K (step_for j K B) (steps_of (journal_after j B) (apply B K) Bs)
+    ∙ ap (λ L. last_of L (steps_of (journal_after j B) (apply B K) Bs)) (last_of-step_for j K B)
+    ∙ last_of-steps_of (journal_after j B) (apply B K) Bs
+
+pub steps_of-append : (j : Standing) (K : SomeKept) (Bs Cs : List Batch)
+    → steps_of j K (Bs ++ Cs) ≡ steps_of j K Bs ++ steps_of (journal_behind j Bs) (applied K Bs) Cs
+steps_of-append j K [] Cs = refl
+steps_of-append j K (B ∷ Bs) Cs =
+    ap (λ qs. step_for j K B ++ qs) (steps_of-append (journal_after j B) (apply B K) Bs Cs)
+    ∙ sym (append_assoc (step_for j K B) (steps_of (journal_after j B) (apply B K) Bs) (steps_of (journal_behind (journal_after j B) Bs) (applied (apply B K) Bs) Cs))
+
+steps_of-push : (j : Standing) (K : SomeKept) (Bs : List Batch) (B : Batch)
+    → steps_of j K (Bs ++ B ∷ []) ≡ steps_of j K Bs ++ step_for (journal_behind j Bs) (applied K Bs) B
+steps_of-push j K Bs B = steps_of-append j K Bs (B ∷ []) ∙ ap (λ qs. steps_of j K Bs ++ qs) (append-nil (step_for (journal_behind j Bs) (applied K Bs) B))
+
+-- what was applied so far, and is kept on the disk
+pub record SoFar (limit : ℕ) (j : Standing) (K : SomeKept) (done : List Batch) (now : Stand) (s t : Story) : Type 0 where
+  pub on : IsKeptOn now t
+  pub made : t.now.passed ≡ s.now.passed + calls_of_all j done
+  pub steps : StepsThrough (Keeps limit) K (steps_of j K done) s t
+
+-- none yet
+pub none_yet : (state : Stand) (s : Story) → IsKeptOn state s → SoFar state.journal.limit state.journal (kept_in state) [] state s s
+none_yet state s on = record {
+  on = on;
+  made = omega arith;
+  steps = steps_none (Keeps state.journal.limit) (kept_in state) s s (throughout_none s s _ refl (kept_leaves state s on));
+}
+
+-- the batches up to a place and one more, and all of them cut there
+pub one_further : (Bs : List Batch) (i : ℕ) (B : Batch) → i < length Bs → B ≡ get_or Bs i B → take (i + 1) Bs ≡ take i Bs ++ B ∷ []
+one_further Bs i B within is = take_more Bs i B within ∙ ap (λ x. take i Bs ++ x ∷ []) (sym is)
+
+pub cut_at : (Bs : List Batch) (i : ℕ) (B : Batch) → i < length Bs → B ≡ get_or Bs i B → Bs ≡ take i Bs ++ B ∷ drop (i + 1) Bs
+cut_at Bs i B within is =
+    sym (take-append-drop i Bs) ∙ ap (λ back. take i Bs ++ back) (drop_more Bs i B within ∙ ap (λ x. x ∷ drop (i + 1) Bs) (sym is))
+
+unmarked_at : (Bs Cs : List Batch) (B : Batch) → AreUnmarked (Bs ++ B ∷ Cs) → EachFits IsUnmarked B.entries
+unmarked_at [] Cs B unmarked = unmarked.0
+unmarked_at (C ∷ Bs) Cs B unmarked = unmarked_at Bs Cs B unmarked.1
+
+pub unmarked_in : (Bs : List Batch) (i : ℕ) (B : Batch) → i < length Bs → B ≡ get_or Bs i B → AreUnmarked Bs → EachFits IsUnmarked B.entries
+unmarked_in Bs i B within is unmarked = unmarked_at (take i Bs) (drop (i + 1) Bs) B (subst AreUnmarked (cut_at Bs i B within is) unmarked)
+
+module _ (limit : ℕ) (j : Standing) (K : SomeKept) (Bs : List Batch) (i : ℕ) (B : Batch) (within : i < length Bs) (is : B ≡ get_or Bs i B)
+    (now : Stand) (place : now.journal ≡ journal_behind j (take i Bs)) (kept : kept_in now ≡ applied K (take i Bs)) where
+  -- the place, what is kept and the calls after one batch more
+  pub place_further : (after : Standing) → after ≡ journal_after now.journal B → after ≡ journal_behind j (take (i + 1) Bs)
+  place_further after so =
+      so ∙ ap (λ k. journal_after k B) place
+      ∙ sym (ap (journal_behind j) (one_further Bs i B within is) ∙ journal_behind-append j (take i Bs) (B ∷ []))
+
+  pub kept_further : (L : SomeKept) → L ≡ apply B (kept_in now) → L ≡ applied K (take (i + 1) Bs)
+  kept_further L so =
+      so ∙ ap (apply B) kept ∙ sym (ap (applied K) (one_further Bs i B within is) ∙ applied-append K (take i Bs) (B ∷ []))
+
+  pub made_further : (before mid after : ℕ) → mid ≡ before + calls_of_all j (take i Bs) → after ≡ mid + calls_for now.journal B
+      → after ≡ before + calls_of_all j (take (i + 1) Bs)
+  made_further before mid after made more =
+      omega (arith, made, more, ap (λ k. calls_for k B) place, ap (calls_of_all j) (one_further Bs i B within is), calls_of_all-push j (take i Bs) B)
+
+  -- where it ended early
+  pub ends_in : (before mid after : ℕ) → mid ≡ before + calls_of_all j (take i Bs) → mid ≤ after → after < mid + calls_for now.journal B
+      → EndsIn j Bs before after
+  ends_in before mid after made le fewer = record {
+    done = take i Bs;
+    next = B;
+    rest = drop (i + 1) Bs;
+    all = cut_at Bs i B within is;
+    made = omega (arith, made, le);
+    fewer = omega (arith, made, fewer, ap (λ k. calls_for k B) place);
+  }
+
+  module _ (s t u : Story) (so : SoFar limit j K (take i Bs) now s t) (up : CountsUp (moments u))
+      (more : StepsThrough (Keeps limit) (kept_in now) (step_for now.journal (kept_in now) B) t u) where
+    -- one batch more, whether it was applied or not
+    step_further : StepsThrough (Keeps limit) K (steps_of j K (take i Bs ++ B ∷ [])) s u
+    step_further =
+        let k : Standing = journal_behind j (take i Bs) in
+        let L : SomeKept = applied K (take i Bs) in
+        let at_k : StepsThrough (Keeps limit) (kept_in now) (step_for k (kept_in now) B) t u =
+        subst (λ n. StepsThrough (Keeps limit) (kept_in now) (step_for n (kept_in now) B) t u) place more in
+        let at_L : StepsThrough (Keeps limit) L (step_for k L B) t u = subst (λ M. StepsThrough (Keeps limit) M (step_for k M B) t u) kept at_k in
+        subst (λ qs. StepsThrough (Keeps limit) K qs s u) (sym (steps_of-push j K (take i Bs) B))
+        (steps_then (Keeps limit) K (steps_of j K (take i Bs)) (step_for k L B) s t u so.steps
+        (omega (arith, so.made, calls_in-steps_of j K (take i Bs))) up (made_step_for k L B)
+        (subst (λ M. StepsThrough (Keeps limit) M (step_for k L B) t u) (sym (last_of-steps_of j K (take i Bs))) at_L))
+
+    pub one_more : (new : Stand) → IsKeptOn new u → u.now.passed ≡ t.now.passed + calls_for now.journal B → SoFar limit j K (take (i + 1) Bs) new s u
+    one_more new on made =
+        subst (λ done. SoFar limit j K done new s u) (sym (one_further Bs i B within is)) (record {
+          on = on;
+          made = omega (arith, made, so.made, calls_of_all-push j (take i Bs) B, ap (λ k. calls_for k B) place);
+          steps = step_further;
+        })
+
+    -- before the others
+    pub steps_to : u.now.passed < t.now.passed + calls_for now.journal B → StepsThrough (Keeps limit) K (steps_of j K Bs) s u
+    steps_to fewer =
+        let done : List Batch = take i Bs ++ B ∷ [] in
+        let rest : List Batch = drop (i + 1) Bs in
+        subst (λ Cs. StepsThrough (Keeps limit) K (steps_of j K Cs) s u)
+        (append_assoc (take i Bs) (B ∷ []) rest ∙ sym (cut_at Bs i B within is))
+        (subst (λ qs. StepsThrough (Keeps limit) K qs s u) (sym (steps_of-append j K done rest))
+        (steps_further (Keeps limit) K (steps_of j K done) (steps_of (journal_behind j done) (applied K done) rest) s u step_further up
+        (made_steps_of (journal_behind j done) (applied K done) rest)
+        (omega (arith, fewer, so.made, calls_in-steps_of j K done, calls_of_all-push j (take i Bs) B, ap (λ k. calls_for k B) place))))

@@ -1,0 +1,4 @@
+pub mod Folding
+pub mod States
+pub mod Runs
+pub mod Histories

@@ -1,0 +1,131 @@
+ghost use Rattle.std.specs.Prelude.{◌≡◌, ◌≢◌, ◌⊎◌, ◌<◌, ◌≤◌, ◌+◌, ◌↔◌, ℕ, true, false, option_copied, IsTrue, IfOk, OnOk, OnErr, Ok, Err};
+ghost use Rattle.carte_codec.specs.Each.{EachFits};
+ghost use Rattle.carte_io.specs.Causes.{HasCauseOf};
+ghost use Rattle.carte_io.specs.Stations.{StepsThrough};
+ghost use Rattle.carte_record.specs.Bodies.{IsBody, IsUnmarked, spelled_batch};
+ghost use Rattle.carte_record.specs.Empty.{is_empty};
+ghost use Rattle.carte_state.specs.Folding.{Keeps};
+ghost use Rattle.carte_state.specs.States.{HasRoom, IsAfter, IsKeptOn, calls_for, kept_in, needs_for, step_for};
+
+use crate::ApplyFault;
+use crate::fault::fault_of;
+use carte_io::Disk;
+use carte_journal::{Frame, Journal};
+use carte_record::{Batch, Kept};
+use carte_value::{Digest, Value};
+use std::alloc::Global;
+use std::marker::Model;
+
+/// What a file keeps. It doesn't hold the disk: each call that takes one is meant for the disk that the state was loaded
+/// from, as its own calls left it.
+#[derive(Drop)]
+pub struct State {
+    journal: Journal,
+    kept: Kept,
+}
+
+impl Model for State {
+    ghost use Rattle.carte_state.specs.States.{Stand};
+
+    ghost Value = { Stand };
+
+    ghost view = { λ s. record { journal = s.journal; kept = s.kept } };
+}
+
+impl State {
+    pub(crate) fn of(journal: Journal, kept: Kept) -> State
+        ensures { result ≡ record { journal = journal; kept = kept } }
+    {
+        State { journal, kept }
+    }
+
+    /// What is kept.
+    pub fn kept(&self) -> &Kept
+        ensures { result.now ≡ self.now.kept }
+    {
+        &self.kept
+    }
+
+    /// The value of a digest that is kept, where there is one: of several the first. It takes no memory.
+    pub fn value_of(&self, digest: &Digest) -> Option<&Value>
+        ensures { option_copied result ≡ (kept_in self.now).stored digest.now }
+    {
+        self.kept.values.find(digest)
+    }
+
+    /// Whether applying a batch met a fault of the disk. What the file keeps is then not known, and it has to be loaded
+    /// again.
+    pub fn is_broken(&self) -> bool
+        ensures { result ≡ self.now.journal.broken }
+    {
+        self.journal.is_broken()
+    }
+
+    /// Puts a batch into what is kept, on the disk and here. After Ok every later image of the file keeps it; at each
+    /// moment before, an image keeps what was kept before it or after it. An empty batch makes no call of the disk, and
+    /// another 4 writing calls, or 6 as the first on a new file.
+    pub fn apply<D: Disk>(
+        &mut self,
+        alloc: Global,
+        disk: &mut D,
+        batch: &Batch,
+    ) -> Result<(), ApplyFault>
+        requires whole { self.old.journal.broken ≡ false }
+        requires unmarked { EachFits IsUnmarked batch.now.entries }
+
+        ensures empty { is_empty batch.now ≡ true → (result ≡ Ok tt) × (self.new ≡ self.old) × (disk.new ≡ disk.old) }
+
+        // Where there is no room, or no memory, nothing has changed and no call of the disk was made.
+        ensures full { (needed limit : ℕ) → result ≡ Err (ApplyFault.Full needed limit)
+            → (needed ≡ needs_for self.old batch.now) × (limit ≡ self.old.journal.limit) × (limit < needed) × (self.new ≡ self.old) × (disk.new ≡ disk.old) }
+        ensures over { is_empty batch.now ≡ false → self.old.journal.limit < needs_for self.old batch.now
+            → (result ≡ Err (ApplyFault.Full (needs_for self.old batch.now) self.old.journal.limit)) ⊎ (result ≡ Err ApplyFault.NoMemory) }
+        ensures room { OnOk result (HasRoom self.old batch.now) }
+        ensures no_memory { result ≡ Err ApplyFault.NoMemory → (self.new ≡ self.old) × (disk.new ≡ disk.old) }
+        ensures broken { IsTrue self.new.journal.broken ↔ (result ≡ Err ApplyFault.DiskFault) }
+        ensures cause { HasCauseOf ApplyFault.DiskFault (D.faults disk.old) (D.faults disk.new) result }
+
+        ensures place { OnOk result (IsAfter batch.now self.old self.new) }
+        ensures limit { self.new.journal.limit ≡ self.old.journal.limit }
+        ensures calls { D.tells → OnOk result ((D.story disk.new).now.passed ≡ (D.story disk.old).now.passed + calls_for self.old.journal batch.now) }
+        ensures fewer { D.tells → OnErr result (((D.story disk.old).now.passed ≤ (D.story disk.new).now.passed)
+            × ((D.story disk.new).now.passed < (D.story disk.old).now.passed + calls_for self.old.journal batch.now)) }
+
+        ensures rest { D.tells → IsKeptOn self.old (D.story disk.old) → OnOk result (IsKeptOn self.new (D.story disk.new)) }
+        ensures any_moment { D.tells → IsKeptOn self.old (D.story disk.old)
+            → StepsThrough (Keeps self.old.journal.limit) (kept_in self.old) (step_for self.old.journal (kept_in self.old) batch.now)
+            (D.story disk.old) (D.story disk.new) }
+    {
+        if batch.is_empty() {
+            return Ok(());
+        }
+        let frame = self.frame_of(alloc, batch)?;
+        self.kept.apply(batch)?;
+        match self.journal.commit(disk, &frame) {
+            Ok(()) => Ok(()),
+            Err(fault) => Err(fault_of(fault)),
+        }
+    }
+
+    // The frame of a batch, where there is room for it.
+    fn frame_of(&self, alloc: Global, batch: &Batch) -> Result<Frame, ApplyFault>
+        requires { EachFits IsUnmarked batch.now.entries }
+        ensures frame { IfOk result (λ frame. frame ≡ spelled_batch batch.now) }
+        ensures fits { IfOk result (λ frame. IsBody batch.now frame) }
+        ensures room { OnOk result (needs_for self.now batch.now ≤ self.now.journal.limit) }
+        ensures full { (needed limit : ℕ) → result ≡ Err (ApplyFault.Full needed limit)
+            → (needed ≡ needs_for self.now batch.now) × (limit ≡ self.now.journal.limit) × (limit < needed) }
+        ensures over { self.now.journal.limit < needs_for self.now batch.now
+            → (result ≡ Err (ApplyFault.Full (needs_for self.now batch.now) self.now.journal.limit)) ⊎ (result ≡ Err ApplyFault.NoMemory) }
+        ensures disk { result ≢ Err ApplyFault.DiskFault }
+    {
+        let bytes = batch.encode(alloc)?;
+        let needed = self.journal.needed(bytes.len());
+        let limit = self.journal.limit();
+        if needed > limit {
+            return Err(ApplyFault::Full { needed, limit });
+        }
+        let frame = Frame::of(alloc, &bytes)?;
+        Ok(frame)
+    }
+}
