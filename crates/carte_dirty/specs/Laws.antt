@@ -53,6 +53,7 @@ module _ (K : SomeKept) (b : Book) (H : List Book) (base : IsBase K b H) (k : Li
     is_rule = is_rule;
     right = λ m ends. (
         let right : IsRightMade dirty K b k (Reused (record { key = k; value = r.value; links = [] })) = record { key = refl; value = r.clean; came = (fresh, refl) } in
+        let says : Ok (Reused (record { key = k; value = r.value; links = [] })) ≡ Ok m = ends in
         let same : Reused (record { key = k; value = r.value; links = [] }) ≡ m = cc in
         subst (IsRightMade dirty K b k) same right);
     needed = λ j none. absurd none;

@@ -45,26 +45,25 @@ module _ (h : How) (K : SomeKept) (b : Book) (k : List ℕ) (whole : Asks Made) 
     asks_needs = is_whole.may;
   }
 
-  module _ {J : Type 0} (left : J → Asks Made) (begun : Truth → J → Type 0) (t part : Truth) (grown : Extends t part) (is_part : IsPart b part) (again : (a : Answers) (q : J) → AnswersOf part a → Went whole a (left q) → begun part q) (p : J) (a : Answers) (known : AnswersOf t a) (went : Went whole a (left p)) where
-    all_known : (c : Answers) → AnswersOf part c → AnswersOf part (a ++ c)
-    all_known c of = answers_on part a c (known_more t part a grown known) of
+  all_known : (t part : Truth) (a c : Answers) → Extends t part → AnswersOf t a → AnswersOf part c → AnswersOf part (a ++ c)
+  all_known t part a c grown known of = answers_on part a c (known_more t part a grown known) of
 
-    all_went : (c : Answers) (r : Asks Made) → Went (left p) c r → Went whole (a ++ c) r
-    all_went c r further = went_on whole (left p) r a c went further
+  runs_as : (part : Truth) (m r : Asks Made) (a c : Answers) → Went whole a m → Went m c r → AnswersOf part (a ++ c) → run part whole ≡ run part r
+  runs_as part m r a c went further all = went_run part whole r (a ++ c) (went_on whole m r a c went further) all
 
-    runs_as : (c : Answers) (r : Asks Made) → AnswersOf part c → Went (left p) c r → run part whole ≡ run part r
-    runs_as c r of further = went_run part whole r (a ++ c) (all_went c r further) (all_known c of)
+  stops_here : (part : Truth) (n : List ℕ) (go : Value → Asks Made) → part n ≡ None → run part (ask n go) ≡ Err n
+  stops_here part n go none = rw none refl
 
-    stops_here : (n : List ℕ) (go : Value → Asks Made) → part n ≡ None → run part (ask n go) ≡ Err n
-    stops_here n go none = rw none refl
-
-    -- a drive makes what is right, or goes on
-    pub whole_goes : (c : Answers) (step : Step) (q : J) → Gives (left p) part c step (left q) → GoesOver h K b k part begun step q
-    whole_goes c (came m) q (of, further) =
-        let ends : run part whole ≡ Ok m = runs_as c (done m) of further in
-        (is_whole.right m (run_kept part (clean b) whole m is_part.part ends), is_whole.there part is_part.part m ends)
-    whole_goes c (stopped n) q (of, further, (go, is), none) =
-        let stops : run part whole ≡ Err n = runs_as c (left q) of further ∙ ap (run part) is ∙ stops_here n go none in
-        let where_it_stops = is_whole.before part is_part.part n stops in
-        (again (a ++ c) q (all_known c of) (all_went c (left q) further), where_it_stops.0, where_it_stops.1)
-    whole_goes c no_memory q (of, further) = again (a ++ c) q (all_known c of) (all_went c (left q) further)
+  -- a drive makes what is right, or goes on
+  pub whole_goes : {J : Type 0} (left : J → Asks Made) (begun : Truth → J → Type 0) (t part : Truth) → Extends t part → IsPart b part → ((a : Answers) (q : J) → AnswersOf part a → Went whole a (left q) → begun part q)
+    → (p : J) (a : Answers) → AnswersOf t a → Went whole a (left p) → (c : Answers) (step : Step) (q : J) → Gives (left p) part c step (left q) → GoesOver h K b k part begun step q
+  whole_goes left begun t part grown is_part again p a known went c (came m) q (of, further) =
+      let ends : run part whole ≡ Ok m = runs_as part (left p) (done m) a c went further (all_known t part a c grown known of) in
+      (is_whole.right m (run_kept part (clean b) whole m is_part.part ends), is_whole.there part is_part.part m ends)
+  whole_goes left begun t part grown is_part again p a known went c (stopped n) q (of, further, (go, is), none) =
+      let all = all_known t part a c grown known of in
+      let stops : run part whole ≡ Err n = runs_as part (left p) (left q) a c went further all ∙ ap (run part) is ∙ stops_here part n go none in
+      let there = is_whole.before part is_part.part n stops in
+      (again (a ++ c) q all (went_on whole (left p) (left q) a c went further), there.0, there.1)
+  whole_goes left begun t part grown is_part again p a known went c no_memory q (of, further) =
+      again (a ++ c) q (all_known t part a c grown known of) (went_on whole (left p) (left q) a c went further)
