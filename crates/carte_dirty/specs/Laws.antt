@@ -90,5 +90,5 @@ module _ (K : SomeKept) (b : Book) (H : List Book) (base : IsBase K b H) (t : Tr
   pub dirty_goes : (part : Truth) → Extends t part → IsPart b part → (a : Answers) (step : Step) (q : Tries) → Gives (left_of p) part a step (left_of q) → GoesOver dirty K b k part (λ u j. IsDirtyJob K b u k j) step q
   dirty_goes part grown is_part a step q gives =
       whole_goes dirty K b k whole_of (dirty_whole K b H base k job.formula job.is_rule) left_of (λ u j. IsDirtyJob K b u k j) t part grown is_part
-        (λ c n known went. record { formula = job.formula; is_rule = job.is_rule; within = is_part.part; further = c; known = known; went = went })
-        p job.further job.known job.went a step q gives
+      (λ c n known went. record { formula = job.formula; is_rule = job.is_rule; within = is_part.part; further = c; known = known; went = went })
+      p job.further job.known job.went a step q gives

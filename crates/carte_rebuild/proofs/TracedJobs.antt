@@ -135,5 +135,5 @@ module _ (w : Way) (of : OfNeeds w) (K : SomeKept) (b : Book) (H : List Book) (b
   pub traced_goes : (part : Truth) → Extends t part → IsPart b part → (a : Answers) (step : Step) (q : Tries) → Gives (left_of p) part a step (left_of q) → GoesOver (tracing w) K b k part (λ u j. IsTracedJob w K b u k j) step q
   traced_goes part grown is_part a step q gives =
       whole_goes (tracing w) K b k whole_of is_whole left_of (λ u j. IsTracedJob w K b u k j) t part grown is_part
-        (λ c n known went. record { formula = job.formula; is_rule = job.is_rule; checks = job.checks; tried = job.tried; within = is_part.part; further = c; known = known; went = went })
-        p job.further job.known job.went a step q gives
+      (λ c n known went. record { formula = job.formula; is_rule = job.is_rule; checks = job.checks; tried = job.tried; within = is_part.part; further = c; known = known; went = went })
+      p job.further job.known job.went a step q gives

@@ -56,7 +56,7 @@ module _ (h : How) (K : SomeKept) (b : Book) (k : List ℕ) (whole : Asks Made) 
 
   -- a drive makes what is right, or goes on
   pub whole_goes : {J : Type 0} (left : J → Asks Made) (begun : Truth → J → Type 0) (t part : Truth) → Extends t part → IsPart b part → ((a : Answers) (q : J) → AnswersOf part a → Went whole a (left q) → begun part q)
-    → (p : J) (a : Answers) → AnswersOf t a → Went whole a (left p) → (c : Answers) (step : Step) (q : J) → Gives (left p) part c step (left q) → GoesOver h K b k part begun step q
+      → (p : J) (a : Answers) → AnswersOf t a → Went whole a (left p) → (c : Answers) (step : Step) (q : J) → Gives (left p) part c step (left q) → GoesOver h K b k part begun step q
   whole_goes left begun t part grown is_part again p a known went c (came m) q (of, further) =
       let ends : run part whole ≡ Ok m = runs_as part (left p) (done m) a c went further (all_known t part a c grown known of) in
       (is_whole.right m (run_kept part (clean b) whole m is_part.part ends), is_whole.there part is_part.part m ends)
