@@ -1,2 +1,3 @@
 pub mod Spots
+pub mod Steps
 pub mod Held

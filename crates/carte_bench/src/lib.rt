@@ -2,7 +2,8 @@
 //!
 //! A scheduler demands rules, takes jobs that are ready, drives each over the bench itself (a bench is a look: the book's
 //! inputs and the values that are done), and puts each back with what it came to. Contracts see a bench as what stands
-//! at each name.
+//! at each name. The laws are over any kind of job that keeps to the contract of `Job`: after every order of steps what
+//! is done is clean, a stop waits for a need of its key, and nothing is done twice.
 //!
 //! The slots stand in one map in the order of their demands, so each has a dense number from the first day, while
 //! contracts speak of names alone. A slot keeps the whole outcome, since putting back takes no memory and can't copy a
@@ -11,10 +12,12 @@
 #![tactic(auto)]
 
 mod bench;
+mod laws;
 mod look;
 mod place;
 mod slot;
 
 pub use bench::Bench;
+pub use laws::{done_once, every_schedule};
 pub use place::Place;
 pub use slot::Slot;
