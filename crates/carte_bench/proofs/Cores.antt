@@ -1,5 +1,6 @@
 -- What holds of a bench after every order of steps.
 use Rattle.std.proofs.Common.{◌≡◌, ℕ, true, List, Option, Some, None, Result, Ok, Err, refl, ap, sym, ◌∙◌, subst, inl, inr, ◌⊎◌, cond}
+use Rattle.std.specs.Cmp.Lexicographic.{bytes_decides}
 use Rattle.carte_value.specs.declared.value.Value.{Value}
 use Rattle.carte_value.specs.Names.{name_eq}
 use Rattle.carte_value.specs.Once.{Answers}
@@ -91,8 +92,12 @@ module _ {J : Type 0} (fits : FitsOf J) (b : Book) where
         record { core = put_core s.spots new k Out sound.core fit.0 tt put; taken = λ q i is. at q i is (same_or_not k q) }
       where
         at : (q : List ℕ) (i : J) → cond (name_eq k q) (Some j) (s.taken q) ≡ Some i → (k ≡ q) ⊎ (¬ (k ≡ q)) → FitsBook fits b q i
-        at q i is (inl same) = ?
-        at q i is (inr other) = sound.taken q i (rw name_apart k q other at is)
+        at q i is (inl same) =
+            let tied : name_eq k q ≡ true = (bytes_decides k q).1 same in
+            let both : Some j ≡ Some i = rw tied at is in
+            let one : j ≡ i = cc in
+            subst (λ n. FitsBook fits b n i) same (subst (FitsBook fits b k) one (job_fits s.spots k j sound.core has).1)
+        at q i is (inr other) = sound.taken q i (rw (name_apart k q other) at is)
     step_sound s d (puts_back k p q t further o new took out part gave put) sound =
         record {
           core = put_core s.spots new k (slot_after q o) sound.core (sound.core.rules k Out out) (after_fits s.spots k p q t further o sound.core (sound.taken k p took) part gave) put;
