@@ -16,7 +16,7 @@ use Rattle.carte_book.specs.Needs.{IsRule, needs}
 use Rattle.carte_book.proofs.Clean.{clean_input}
 use Rattle.carte_bench.specs.declared.slot.Slot.{Slot}
 use Rattle.carte_bench.specs.declared.slot.Slot.TheVariants.{Ready, Stopped, Out, Done}
-use Rattle.carte_bench.specs.Spots.{Spots, PutAt, job_in, name_of, slot_after, done_in, sight_at, seen_in}
+use Rattle.carte_bench.specs.Spots.{Spots, PutAt, IsSame, job_in, name_of, slot_after, done_in, sight_at, seen_in}
 use Rattle.carte_bench.specs.Steps.{FitsOf, GivesOf, FitsBook, FitsSlot, IsCore, IsPartOf, State, step_of, Steps, demands, takes, puts_back, Comes, start, next}
 use Rattle.carte_bench.proofs.Puts.{put_here, put_apart, put_keeps}
 
@@ -24,8 +24,18 @@ pub sees_inputs : {J : Type 0} (b : Book) (s : Spots J) (i : List ℕ) (v : Valu
 sees_inputs b s i v is = rw is refl
 
 module _ {J : Type 0} (fits : FitsOf J) (b : Book) where
-  pub none_core : IsCore fits b (λ k. None)
-  none_core = record { rules = λ k x is. cc; slots = λ k x is. cc }
+  -- a bench on which nothing was demanded
+  pub none_core : (s : Spots J) → IsSame (λ q. None) s → IsCore fits b s
+  none_core s none = record {
+    rules = λ k x is. (let both : None ≡ Some x = sym (none k) ∙ is in cc);
+    slots = λ k x is. (let both : None ≡ Some x = sym (none k) ∙ is in cc);
+  }
+
+  pub same_core : (s d : Spots J) → IsSame s d → IsCore fits b s → IsCore fits b d
+  same_core s d same core = record {
+    rules = λ k x is. core.rules k x (sym (same k) ∙ is);
+    slots = λ k x is. core.slots k x (sym (same k) ∙ is);
+  }
 
   -- what fits may be put at a rule's name
   pub put_core : (s d : Spots J) (k : List ℕ) (x : Slot J) → IsCore fits b s → IsRule b k → FitsSlot fits b k x → PutAt s d k x → IsCore fits b d
@@ -105,7 +115,7 @@ module _ {J : Type 0} (fits : FitsOf J) (b : Book) where
         }
 
     comes_sound : (s : State J) → Comes name fits gives b s → IsSound s
-    comes_sound s start = record { core = none_core; taken = λ k j is. cc }
+    comes_sound s start = record { core = none_core (λ k. None) (λ q. refl); taken = λ k j is. cc }
     comes_sound d (next {s = s} comes steps) = step_sound s d steps (comes_sound s comes)
 
     pub comes_core : (s : State J) → Comes name fits gives b s → IsCore fits b s.spots
