@@ -84,3 +84,7 @@ sight_in b s k = sight_at (content b k) (done_in (s k))
 -- the inputs, and what is done
 abbrev pub seen_in : {J : Type 0} → Book → Spots J → Truth
 seen_in b s k = value_seen (sight_in b s k)
+
+-- each job stands at its name
+abbrev pub AreNamed : {J : Type 0} → (J → List ℕ) → Spots J → Type 0
+AreNamed {J = J} name s = (k : List ℕ) (j : J) → job_in (s k) ≡ Some j → name j ≡ k

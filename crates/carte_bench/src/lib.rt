@@ -16,8 +16,9 @@ mod laws;
 mod look;
 mod place;
 mod slot;
+mod turn;
 
 pub use bench::Bench;
-pub use laws::{done_once, every_schedule};
+pub use laws::{done_once, every_schedule, turn_keeps};
 pub use place::Place;
 pub use slot::Slot;
