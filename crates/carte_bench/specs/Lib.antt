@@ -2,3 +2,5 @@ pub mod Spots
 pub mod Steps
 pub mod Held
 pub mod Turns
+pub mod Waits
+pub mod Ended
