@@ -1,6 +1,7 @@
 -- Lists of finished keys, and the marks that they leave.
 use Rattle.std.proofs.Common.{◌≡◌, ◌⊎◌, ℕ, Bool, true, false, not, ◌||◌, ◌&&◌, cond, List, [], ◌∷◌, ◌++◌, Option, Some, None, is_some, is_none, length, filter, find, refl, ap, sym, ◌∙◌, subst, inl, inr}
 use Rattle.std.specs.Prelude.{◌==◌}
+use Rattle.std.proofs.Math.Dec.{eqb-suc-zero}
 use Rattle.std.proofs.lemmas.List.Elements.{filter-append}
 use Rattle.carte_value.specs.Names.{name_eq}
 use Rattle.carte_value.specs.Truths.{Among, NoneTwice}
@@ -83,7 +84,7 @@ left_more fs ms left m t is so = on t (is ∙ found_among fs m) ∙ sym (filter-
 
 no_items : {A : Type 0} (xs : List A) → (length xs == 0) ≡ true → xs ≡ []
 no_items [] is = refl
-no_items (x ∷ xs) is = cc
+no_items (x ∷ xs) is = let e : true ≡ false = sym is ∙ eqb-suc-zero (length xs) in cc
 
 no_chain : (o : Option (List (List ℕ))) → is_none o ≡ true → o ≡ None
 no_chain None is = refl
