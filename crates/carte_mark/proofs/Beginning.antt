@@ -19,7 +19,6 @@ unstaled (Some e) = refl
 pub no_marks : (K : SomeKept) (ms : List (List ℕ)) → ms ≡ [] → K ≡ with_marks K ms
 no_marks K ms none = ap (λ (f : List ℕ → Option Entry). record K { entries = f }) (fun_ext (λ k. unstaled (K.entries k))) ∙ ap (with_marks K) (sym none)
 
-
 -- under other rules nothing
 pub begins_other : (K : SomeKept) (b : Book) (x : Begun) → has_rules_of K b ≡ false → x.same ≡ false → x.marks ≡ [] → base_view x.base ≡ nothing_kept → BeginsWith K b x
 begins_other K b x other same none base = record {

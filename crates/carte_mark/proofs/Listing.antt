@@ -1,5 +1,7 @@
 -- The list of the marks.
-use Rattle.std.proofs.Common.{◌≡◌, ◌⊎◌, ℕ, Bool, true, false, not, ◌&&◌, ◌||◌, cond, List, [], ◌∷◌, ◌++◌, Option, Some, None, BTreeSet, refl, ap, sym, ◌∙◌, subst, inl, inr}
+use Rattle.std.proofs.Common.{◌≡◌, ◌⊎◌, ℕ, Bool, true, false, not, ◌&&◌, ◌||◌, cond, List, [], ◌∷◌, ◌++◌, length, Option, Some, None, BTreeSet, refl, ap, sym, ◌∙◌, subst, inl, inr}
+use Rattle.std.specs.Prelude.{◌==◌}
+use Rattle.std.proofs.Math.Dec.{eqb-suc-zero}
 use Rattle.std.specs.List.{list_any}
 use Rattle.std.specs.List.Sorted.{IsStrictlySortedBy}
 use Rattle.std.specs.BTreeSet.{contains}
@@ -83,6 +85,10 @@ all_marked K b rs s ms reached unmarked rising is = subst (IsListOf (IsMarked (k
   only = λ k among. let p = (unmarked k).0 (among_keys s.keys k among) in marked_by K b k (first_entry K.entries k) refl p.1 (reached.only k p.0);
   each = λ k m. keys_among s.keys k ((unmarked k).1 (reached.each k (record { name = m.name; leads = m.leads; changed = m.changed }), ap is_unmarked m.kept ∙ ap not m.unmarked));
 })
+
+pub no_names : (ns : List (List ℕ)) → (length ns == 0) ≡ true → ns ≡ []
+no_names [] is = refl
+no_names (n ∷ ns) is = let e : true ≡ false = sym is ∙ eqb-suc-zero (length ns) in cc
 
 nil_rising : IsStrictlySortedBy name_cmp []
 unfolding IsStrictlySortedBy

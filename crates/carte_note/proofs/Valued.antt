@@ -58,7 +58,7 @@ module _ (ks : List Value) (now : Digest → Option Value) (vs : List Value) (v 
       on true is =
           let e = same_digest d (digest_of v) is in
           subst (λ c. or_first (now c) (Some v) ≡ now c) (sym e)
-              (subst (λ o. or_first o (Some v) ≡ o) (sym (s.values (digest_of v))) (some_or (first_value ks (digest_of v)) (first_value vs (digest_of v)) (Some v) has))
+          (subst (λ o. or_first o (Some v) ≡ o) (sym (s.values (digest_of v))) (some_or (first_value ks (digest_of v)) (first_value vs (digest_of v)) (Some v) has))
       on false is = refl
 
   at_end : (d : Digest) → first_value (vs ++ v ∷ []) d ≡ option_or (first_value vs d) (cond (digest_eq d (digest_of v)) (Some v) None)
@@ -74,7 +74,7 @@ module _ (ks : List Value) (now : Digest → Option Value) (vs : List Value) (v 
       put true d is =
           let e = same_digest d (digest_of v) is in
           subst (λ c. or_first (now c) (Some v) ≡ option_or (first_value ks c) (option_or (first_value vs c) (Some v))) (sym e)
-              (ap (λ o. or_first o (Some v)) was ∙ sym (ap (λ o. option_or o (option_or (first_value vs (digest_of v)) (Some v))) kept_lacks ∙ ap (λ o. option_or o (Some v)) lacks))
+          (ap (λ o. or_first o (Some v)) was ∙ sym (ap (λ o. option_or o (option_or (first_value vs (digest_of v)) (Some v))) kept_lacks ∙ ap (λ o. option_or o (Some v)) lacks))
       put false d is = s.values d ∙ sym (ap (option_or (first_value ks d)) (or_none (first_value vs d)))
 
       values : (d : Digest) → store_at now v d ≡ option_or (first_value ks d) (first_value (vs ++ v ∷ []) d)

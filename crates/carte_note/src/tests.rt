@@ -47,7 +47,14 @@ fn noted(alloc: Global, method: Method, ran: bool) -> Result<Batch, Fail> {
     let book = Book::new(alloc, Kind::Sheet);
     let kept = Kept::empty(alloc);
     let mut batch = Batch::new(alloc);
-    note_finished(alloc, method, &kept, &book, &finished(alloc, ran)?, &mut batch)?;
+    note_finished(
+        alloc,
+        method,
+        &kept,
+        &book,
+        &finished(alloc, ran)?,
+        &mut batch,
+    )?;
     Ok(batch)
 }
 

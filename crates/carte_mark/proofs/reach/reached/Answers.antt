@@ -1,4 +1,4 @@
-use Rattle.std.proofs.Common.{◌≡◌, ◌<◌, ◌≤◌, ℕ, List, [], ◌∷◌, ◌++◌, Some, length, map, take, slice_get, option_copied, ap, sym, ◌∙◌, subst, rules, refl, arith}
+use Rattle.std.proofs.Common.{◌≡◌, ◌<◌, ◌≤◌, ◌+◌, ◌-◌, ℕ, List, [], ◌∷◌, ◌++◌, Some, length, map, take, slice_get, option_copied, ap, sym, ◌∙◌, subst, rules, refl, arith}
 use Rattle.std.proofs.lemmas.List.{take_more}
 use Rattle.std.specs.HashMap.{get}
 use Rattle.carte_value.specs.Names.{name_eq}
@@ -34,7 +34,9 @@ pub loop-next-smaller : goal.loop-next-smaller
 loop-next-smaller c =
     let d = λ (q : List ℕ). keys_in (get name_eq c.in_ok-users.users q) in
     let few = reached_few c.args.kept.now d c.args.changed.now c.loop-next.reached.keys c.loop-next.next c.loop-next.invariant in
-    ?
+    let below : c.loop-next.next < length c.loop-next.reached.keys = search rules in
+    let smaller : length c.args.kept.now.entries - (c.loop-next.next + 1) < length c.args.kept.now.entries - c.loop-next.next = omega arith in
+    smaller
 
 pub loop-next-preserved : goal.loop-next-preserved
 loop-next-preserved c =
@@ -43,7 +45,7 @@ loop-next-preserved c =
     let rs = c.loop-next.reached.keys in
     let below : c.loop-next.next < length rs = search rules in
     let there = get_there rs c.loop-next.next below in
-    subst (λ new. IsReaching K d c.args.changed.now new _) (sym ((c.in_ok-put_users_at.ensures {u = tt}) there.0 there.1))
+    subst (λ new. IsReaching K d c.args.changed.now new (c.loop-next.next + 1)) (sym ((c.in_ok-put_users_at.ensures {u = tt}) there.0 there.1))
     (reaching_next K d (c.in_ok-users.ensures {u = tt}) c.args.changed.now rs c.loop-next.next there.0 below there.1 c.loop-next.invariant)
 
 pub returns : goal.returns

@@ -1,9 +1,19 @@
-use Rattle.std.proofs.Common.{◌≡◌, sym, ◌∙◌, ap, option_copied, ℕ, List, OnOk, Result, Ok, Err}
+use Rattle.std.proofs.Common.{◌≡◌, ℕ, List, Result, Ok, Err, OnOk, sym, ◌∙◌, ap, option_copied}
+use Rattle.std.specs.HashMap.{get}
+use Rattle.carte_value.specs.Names.{name_eq}
+use Rattle.carte_mark.specs.Tables.{keys_in}
 use Rattle.carte_mark.proofs.Using.{adds_found, adds_nothing}
 use Rattle.carte_mark.proofs.users.add_entry.Goals as goal
 
+on_ok : {A E : Type 0} {P Q : Type 0} (r : Result A E) → (P → Q) → OnOk r P → OnOk r Q
+on_ok (Ok x) f p = f p
+on_ok (Err e) f p = p
+
 pub returns-in-Some : goal.returns-in-Some
-returns-in-Some c = ?
+returns-in-Some c =
+    let old = λ (q : List ℕ). keys_in (get name_eq c.args.users.now q) in
+    let new = λ (q : List ℕ). keys_in (get name_eq c.add_all.new.users q) in
+    on_ok c.add_all.result (adds_found c.args.entries.now old new c.args.key.now c.in-Some.entry.now (sym c.find.ensures ∙ ap option_copied c.in-Some.is)) c.add_all.ensures
 
 pub returns-in-None : goal.returns-in-None
-returns-in-None c = adds_nothing c.args.entries.now _ c.args.key.now (sym c.find.ensures ∙ ap option_copied c.in-None.is)
+returns-in-None c = adds_nothing c.args.entries.now (λ (q : List ℕ). keys_in (get name_eq c.args.users.now q)) c.args.key.now (sym c.find.ensures ∙ ap option_copied c.in-None.is)

@@ -19,9 +19,9 @@ returns-clause-notes c =
     let K = c.args.kept.now in
     let f = c.args.finished.now in
     on_ok c.note_entry.result
-        (λ (is : c.note_entry.new.batch ≡ with_entry h b K f c.note_run.new.batch).
-            subst (λ B. Notes h (kept_view K) b f c.args.batch.now B) (sym (is ∙ ap (with_entry h b K f) (c.in_ok-note_run.ensures {u = tt}))) (noted h K b f c.args.batch.now))
-        c.note_entry.ensures
+    (λ (is : c.note_entry.new.batch ≡ with_entry h b K f c.note_run.new.batch).
+    subst (λ B. Notes h (kept_view K) b f c.args.batch.now B) (sym (is ∙ ap (with_entry h b K f) (c.in_ok-note_run.ensures {u = tt}))) (noted h K b f c.args.batch.now))
+    c.note_entry.ensures
 
 pub returns-clause-unmarked : goal.returns-clause-unmarked
 returns-clause-unmarked c =
@@ -30,6 +30,6 @@ returns-clause-unmarked c =
     let K = c.args.kept.now in
     let f = c.args.finished.now in
     on_ok c.note_entry.result
-        (λ (is : c.note_entry.new.batch ≡ with_entry h b K f c.note_run.new.batch).
-            subst (λ (B : Batch). AreUnmarked c.args.batch.now.entries → AreUnmarked B.entries) (sym (is ∙ ap (with_entry h b K f) (c.in_ok-note_run.ensures {u = tt}))) (unmarked h K f c.args.batch.now.entries))
-        c.note_entry.ensures
+    (λ (is : c.note_entry.new.batch ≡ with_entry h b K f c.note_run.new.batch).
+    subst (λ (B : Batch). AreUnmarked c.args.batch.now.entries → AreUnmarked B.entries) (sym (is ∙ ap (with_entry h b K f) (c.in_ok-note_run.ensures {u = tt}))) (unmarked h K f c.args.batch.now.entries))
+    c.note_entry.ensures
