@@ -1,4 +1,4 @@
-ghost use Rattle.std.specs.Prelude.{◌≡◌, ℕ, List, IfOk, OnOk, if◌then◌else◌};
+ghost use Rattle.std.specs.Prelude.{◌≡◌, ◌∷◌, ◌++◌, [], ℕ, List, IfOk, OnOk, is_none, if◌then◌else◌};
 ghost use Rattle.carte_book.specs.Book.{book_view};
 ghost use Rattle.carte_book.specs.Digest.{rules_digest_of};
 ghost use Rattle.carte_record.specs.declared.start.Start.TheVariants.{GoOn, Anew};
@@ -6,6 +6,7 @@ ghost use Rattle.carte_record.specs.Kept.{SomeKept, kept_view};
 ghost use Rattle.carte_sound.specs.LeadsTo.{LeadsInOrder, LeadsRefused, LeadsSuspending, marks_left};
 ghost use Rattle.carte_sound.specs.Begun.{begin};
 ghost use Rattle.carte_sound.specs.Treated.{IsDoneInOrder, IsDoneSuspending};
+ghost use Rattle.carte_note.specs.Lists.{finished_of};
 ghost use Rattle.carte_note.specs.Notes.{AreUnmarked};
 ghost use Rattle.carte_note.specs.Right.{finishes_of};
 ghost use Rattle.carte_mark.specs.Bases.{BeginsWith};
@@ -16,7 +17,7 @@ use carte_mark::Begun;
 use carte_note::FinishedList;
 use carte_rebuild::Rebuilder;
 use carte_record::{Batch, Kept, Start};
-use carte_value::{Digest, Names, NoMemory};
+use carte_value::{Digest, Name, Names, NoMemory};
 use std::alloc::Global;
 
 /// The batch of a build. `rules` is the digest of the book's rules.
@@ -34,6 +35,21 @@ pub fn plan<R: Rebuilder>(
     ensures in_order { (K : SomeKept) (targets : List (List ℕ)) → BeginsWith K (book_view book.now) begun.now → IsBuilt (R.how rebuilder.now) K (book_view book.now) begun.now.marks (IsDoneInOrder (book_view book.now) targets) finished.now → IfOk result (LeadsInOrder (R.how rebuilder.now) K (book_view book.now) targets) }
     ensures suspending { (K : SomeKept) (targets : List (List ℕ)) → BeginsWith K (book_view book.now) begun.now → IsBuilt (R.how rebuilder.now) K (book_view book.now) begun.now.marks (IsDoneSuspending (R.how rebuilder.now) (begin K (book_view book.now) begun.now.marks) (book_view book.now) targets) finished.now → IfOk result (LeadsSuspending (R.how rebuilder.now) K (book_view book.now) targets) }
     ensures refused { (K : SomeKept) → BeginsWith K (book_view book.now) begun.now → IsBuilt (R.how rebuilder.now) K (book_view book.now) begun.now.marks (λ k. ⊥) finished.now → IfOk result (LeadsRefused (R.how rebuilder.now) K (book_view book.now)) }
+{
+    made(alloc, rebuilder, begun, rules, book, finished)
+}
+
+fn made<R: Rebuilder>(
+    alloc: Global,
+    rebuilder: &R,
+    begun: &Begun<'_>,
+    rules: Digest,
+    book: &Book,
+    finished: &FinishedList,
+) -> Result<Batch, NoMemory>
+    requires { rules ≡ rules_digest_of (book_view book.now) }
+    ensures unmarked { IfOk result (λ batch. AreUnmarked batch.entries) }
+    ensures plans { (K : SomeKept) → BeginsWith K (book_view book.now) begun.now → IfOk result (Plans (R.how rebuilder.now) K (book_view book.now) begun.now.marks finished.now) }
 {
     let mut batch = Batch::new(alloc);
     if !begun.same && finished.is_empty() {
@@ -60,11 +76,23 @@ fn marks_left(alloc: Global, marks: &Names, finished: &FinishedList) -> Result<N
 {
     let mut left = Names::new(alloc);
     for mark in marks.as_slice() {
-        if finished.find(mark).is_none() {
-            left.push(mark.copy(alloc)?)?;
-        }
+        add_left(alloc, finished, mark, &mut left)?;
     }
     Ok(left)
+}
+
+fn add_left(
+    alloc: Global,
+    finished: &FinishedList,
+    mark: &Name,
+    left: &mut Names,
+) -> Result<(), NoMemory>
+    ensures { OnOk result (left.new ≡ (if is_none (finished_of finished.now mark.now) then left.old ++ mark.now ∷ [] else left.old)) }
+{
+    if finished.find(mark).is_some() {
+        return Ok(());
+    }
+    left.push(mark.copy(alloc)?)
 }
 
 fn note_all<R: Rebuilder>(
