@@ -1,6 +1,8 @@
 -- From the batch of a build to what it leads to.
 use Rattle.std.proofs.Common.{◌≡◌, ◌⊎◌, ℕ, Bool, true, false, cond, List, [], ◌∷◌, ◌++◌, refl, ap, sym, ◌∙◌, subst, inl, inr}
-use Rattle.std.specs.Prelude.{if◌then◌else◌}
+use Rattle.std.specs.Prelude.{if◌then◌else◌, ◌==◌, length, not, ◌&&◌}
+use Rattle.carte_value.specs.declared.digest.Digest.{Digest}
+use Rattle.carte_record.specs.Empty.{is_empty}
 use Rattle.carte_value.specs.Lists.{Has}
 use Rattle.carte_value.specs.Truths.{Among, NoneTwice}
 use Rattle.carte_book.specs.Book.{Book}
@@ -23,12 +25,10 @@ use Rattle.carte_sound.proofs.Assembled.{brings_by}
 use Rattle.carte_note.specs.declared.finished.Finished.{Finished}
 use Rattle.carte_note.specs.Notes.{AreUnmarked}
 use Rattle.carte_note.specs.Right.{AreRight, finishes_of, keys_in}
-use Rattle.carte_plan.specs.Planned.{AreGiven, IsBuilt, IsPlanOf, NotesAll, Plans}
-use Rattle.carte_plan.proofs.Lists.{empty_is, keys_same}
-
--- a batch with a start and marks alone
-abbrev pub opening : Start → List (List ℕ) → Batch
-opening s ms = record empty_batch { start = s; stale = ms }
+use Rattle.carte_plan.specs.Planned.{AreGiven, IsBuilt, IsPlanOf, NotesAll, Plans, opening}
+use Rattle.carte_mark.specs.declared.base.Begun.{Begun}
+use Rattle.carte_mark.specs.Bases.{base_view, BeginsWith}
+use Rattle.carte_plan.proofs.Lists.{both, empty_is, keys_same, no_items}
 
 open_none : (s : Start) (ms : List (List ℕ)) (w : Way) → batch_traces w (opening s ms) ≡ []
 open_none s ms Verifying = refl
@@ -82,3 +82,34 @@ leads_by h done K b ms fs B marked (inl (other, none, empty)) built = inr (recor
 leads_by h done K b ms fs B marked (inr (something, plan)) built =
     let given : AreGiven h (begin K b ms) b fs = record { now = built.now; right = built.right; once = subst NoneTwice (keys_same fs) built.order.once } in
     inl (brings_by h done K b B ms marked (finishes_of fs) built.order (λ other none. something other (no_finishes fs none)) plan.start plan.stale (plan.traces given) plan.unmarked (plan.carries given))
+
+off : (t : Bool) → not t ≡ true → t ≡ false
+off true h = cc
+off false h = refl
+
+-- under other rules, where nothing was finished
+pub nothing_planned : (h : How) (K : SomeKept) (b : Book) (x : Begun) (fs : List Finished) (B : Batch) → BeginsWith K b x → (not x.same && (length fs == 0)) ≡ true → is_empty B ≡ true → Plans h K b x.marks fs B
+nothing_planned h K b x fs B begins test empty =
+    let tests = both (not x.same) (length fs == 0) test in
+    inl (sym begins.same ∙ off x.same tests.0, no_items fs tests.1, empty_is B empty)
+
+-- and else
+pub all_planned : (h : How) (K M : SomeKept) (b : Book) (rules : Digest) (x : Begun) (fs : List Finished) (old B : Batch) → BeginsWith K b x → rules ≡ rules_digest_of b → (not x.same && (length fs == 0)) ≡ false → M ≡ base_view x.base
+    → old ≡ opening (if x.same then GoOn else Anew rules) (marks_left (finishes_of fs) x.marks) → NotesAll h M b fs old B → Plans h K b x.marks fs B
+all_planned h K M b rules x fs old B begins digest test base is notes = inr (something, plan)
+  where
+    something : has_rules_of K b ≡ false → ¬ (fs ≡ [])
+    something other none =
+        let empty : (length fs == 0) ≡ true = ap (λ (gs : List Finished). length gs == 0) none in
+        let tests : (not x.same && (length fs == 0)) ≡ true = ap (λ t. not t && (length fs == 0)) (begins.same ∙ other) ∙ empty in
+        let e : true ≡ false = sym tests ∙ test in
+        cc
+
+    plan : IsPlanOf h K b x.marks fs B
+    plan = planned h K M b x.marks (marks_left (finishes_of fs) x.marks) x.same (if x.same then GoOn else Anew rules) fs old B begins.same (base ∙ begins.base) (ap (λ d. if x.same then GoOn else Anew d) digest) refl is notes
+
+pub nothing_unmarked : (B : Batch) → is_empty B ≡ true → AreUnmarked B.entries
+nothing_unmarked B empty = subst (λ (C : Batch). AreUnmarked C.entries) (sym (empty_is B empty)) (λ e nowhere. absurd nowhere)
+
+pub all_unmarked : (h : How) (M : SomeKept) (b : Book) (s : Start) (left : List (List ℕ)) (fs : List Finished) (old B : Batch) → old ≡ opening s left → NotesAll h M b fs old B → AreUnmarked B.entries
+all_unmarked h M b s left fs old B is notes = notes.unmarked (subst (λ (C : Batch). AreUnmarked C.entries) (sym is) (λ e nowhere. absurd nowhere))

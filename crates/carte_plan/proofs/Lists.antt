@@ -82,7 +82,7 @@ left_more fs ms left m t is so = on t (is ∙ found_among fs m) ∙ sym (filter-
 
 -- a batch with nothing in it is the empty one
 
-no_items : {A : Type 0} (xs : List A) → (length xs == 0) ≡ true → xs ≡ []
+pub no_items : {A : Type 0} (xs : List A) → (length xs == 0) ≡ true → xs ≡ []
 no_items [] is = refl
 no_items (x ∷ xs) is = let e : true ≡ false = sym is ∙ eqb-suc-zero (length xs) in cc
 
@@ -95,7 +95,7 @@ on_start GoOn is = refl
 on_start (Anew d) is = cc
 on_start Cleared is = cc
 
-both : (a c : Bool) → (a && c) ≡ true → (a ≡ true) × (c ≡ true)
+pub both : (a c : Bool) → (a && c) ≡ true → (a ≡ true) × (c ≡ true)
 both true c is = (refl, is)
 both false c is = cc
 

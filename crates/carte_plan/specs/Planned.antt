@@ -4,6 +4,7 @@ use Rattle.carte_value.specs.Truths.{NoneTwice}
 use Rattle.carte_book.specs.Book.{Book}
 use Rattle.carte_book.specs.Digest.{rules_digest_of}
 use Rattle.carte_record.specs.declared.batch.Batch.{Batch}
+use Rattle.carte_record.specs.declared.start.Start.{Start}
 use Rattle.carte_record.specs.declared.start.Start.TheVariants.{GoOn, Anew}
 use Rattle.carte_record.specs.declared.way.Way.{Way}
 use Rattle.carte_record.specs.Folds.{batch_traces}
@@ -18,6 +19,10 @@ use Rattle.carte_sound.specs.Left.{add_all}
 use Rattle.carte_note.specs.declared.finished.Finished.{Finished}
 use Rattle.carte_note.specs.Notes.{AreUnmarked}
 use Rattle.carte_note.specs.Right.{AreRight, finishes_of, keys_in}
+
+-- a batch with a start and marks alone
+abbrev pub opening : Start → List (List ℕ) → Batch
+opening s ms = record empty_batch { start = s; stale = ms }
 
 -- keys that are right and once each, over what says what the book says
 pub record AreGiven (h : How) (M : SomeKept) (b : Book) (fs : List Finished) : Type 0 where

@@ -1,4 +1,4 @@
-ghost use Rattle.std.specs.Prelude.{◌≡◌, ◌∷◌, ◌++◌, [], ℕ, List, IfOk, OnOk, is_none, if◌then◌else◌};
+ghost use Rattle.std.specs.Prelude.{◌≡◌, ◌∷◌, ◌++◌, [], ℕ, List, IfOk, OnOk, is_none, length, not, ◌&&◌, ◌==◌, if◌then◌else◌};
 ghost use Rattle.carte_book.specs.Book.{book_view};
 ghost use Rattle.carte_book.specs.Digest.{rules_digest_of};
 ghost use Rattle.carte_record.specs.declared.start.Start.TheVariants.{GoOn, Anew};
@@ -10,7 +10,7 @@ ghost use Rattle.carte_note.specs.Lists.{finished_of};
 ghost use Rattle.carte_note.specs.Notes.{AreUnmarked};
 ghost use Rattle.carte_note.specs.Right.{finishes_of};
 ghost use Rattle.carte_mark.specs.Bases.{BeginsWith};
-ghost use Rattle.carte_plan.specs.Planned.{IsBuilt, NotesAll, Plans};
+ghost use Rattle.carte_plan.specs.Planned.{IsBuilt, NotesAll, Plans, opening};
 
 use carte_book::Book;
 use carte_mark::Begun;
@@ -51,13 +51,33 @@ fn made<R: Rebuilder>(
     ensures unmarked { IfOk result (λ batch. AreUnmarked batch.entries) }
     ensures plans { (K : SomeKept) → BeginsWith K (book_view book.now) begun.now → IfOk result (Plans (R.how rebuilder.now) K (book_view book.now) begun.now.marks finished.now) }
 {
-    let mut batch = Batch::new(alloc);
-    if !begun.same && finished.is_empty() {
-        return Ok(batch);
+    if brings_nothing(begun, finished) {
+        return Ok(Batch::new(alloc));
     }
+    let mut batch = opened(alloc, begun, rules, finished)?;
+    note_all(alloc, rebuilder, begun.base.kept(), book, finished, &mut batch)?;
+    Ok(batch)
+}
+
+/// Whether nothing was finished under other rules.
+fn brings_nothing(begun: &Begun<'_>, finished: &FinishedList) -> bool
+    ensures { result ≡ (not begun.now.same && (length finished.now == 0)) }
+{
+    !begun.same && finished.is_empty()
+}
+
+/// The batch with its start and its marks.
+fn opened(
+    alloc: Global,
+    begun: &Begun<'_>,
+    rules: Digest,
+    finished: &FinishedList,
+) -> Result<Batch, NoMemory>
+    ensures { IfOk result (λ batch. batch ≡ opening (if begun.now.same then GoOn else Anew rules) (marks_left (finishes_of finished.now) begun.now.marks)) }
+{
+    let mut batch = Batch::new(alloc);
     batch.start = start(begun.same, rules);
     batch.stale = marks_left(alloc, &begun.marks, finished)?;
-    note_all(alloc, rebuilder, begun.base.kept(), book, finished, &mut batch)?;
     Ok(batch)
 }
 
