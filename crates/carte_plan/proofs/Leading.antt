@@ -30,6 +30,9 @@ use Rattle.carte_mark.specs.declared.base.Begun.{Begun}
 use Rattle.carte_mark.specs.Bases.{base_view, BeginsWith}
 use Rattle.carte_plan.proofs.Lists.{both, empty_is, keys_same, no_items}
 
+pub opened_is : (B : Batch) (s t : Start) (ms ns : List (List ℕ)) → is_empty B ≡ true → s ≡ t → ms ≡ ns → record B { start = s; stale = ms } ≡ opening t ns
+opened_is B s t ms ns empty starts stales = ap (λ (C : Batch). record C { start = s; stale = ms }) (empty_is B empty) ∙ (ap (λ u. opening u ms) starts ∙ ap (opening t) stales)
+
 open_none : (s : Start) (ms : List (List ℕ)) (w : Way) → batch_traces w (opening s ms) ≡ []
 open_none s ms Verifying = refl
 open_none s ms Constructive = refl

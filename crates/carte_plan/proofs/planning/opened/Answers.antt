@@ -1,7 +1,5 @@
-use Rattle.std.proofs.Common.{◌≡◌, ap, sym, ◌∙◌}
-use Rattle.carte_record.specs.declared.batch.Batch.{Batch}
-use Rattle.carte_plan.proofs.Lists.{empty_is}
+use Rattle.carte_plan.proofs.Leading.{opened_is}
 use Rattle.carte_plan.proofs.planning.opened.Goals as goal
 
 pub returns : goal.returns
-returns c = ?
+returns c = opened_is _ _ _ _ _ c.new-batch.ensures c.start.ensures (c.in_ok-marks_left.ensures {u = tt})
