@@ -31,10 +31,11 @@ pub fn plan<R: Rebuilder>(
 ) -> Result<Batch, NoMemory>
     requires { rules ≡ rules_digest_of (book_view book.now) }
     ensures unmarked { IfOk result (λ batch. AreUnmarked batch.entries) }
-    ensures plans { (K : SomeKept) → BeginsWith K (book_view book.now) begun.now → IfOk result (Plans (R.how rebuilder.now) K (book_view book.now) begun.now.marks finished.now) }
-    ensures in_order { (K : SomeKept) (targets : List (List ℕ)) → BeginsWith K (book_view book.now) begun.now → IsBuilt (R.how rebuilder.now) K (book_view book.now) begun.now.marks (IsDoneInOrder (book_view book.now) targets) finished.now → IfOk result (LeadsInOrder (R.how rebuilder.now) K (book_view book.now) targets) }
-    ensures suspending { (K : SomeKept) (targets : List (List ℕ)) → BeginsWith K (book_view book.now) begun.now → IsBuilt (R.how rebuilder.now) K (book_view book.now) begun.now.marks (IsDoneSuspending (R.how rebuilder.now) (begin K (book_view book.now) begun.now.marks) (book_view book.now) targets) finished.now → IfOk result (LeadsSuspending (R.how rebuilder.now) K (book_view book.now) targets) }
-    ensures refused { (K : SomeKept) → BeginsWith K (book_view book.now) begun.now → IsBuilt (R.how rebuilder.now) K (book_view book.now) begun.now.marks (λ k. ⊥) finished.now → IfOk result (LeadsRefused (R.how rebuilder.now) K (book_view book.now)) }
+    ensures in_order { let b = book_view book.now in let h = R.how rebuilder.now in (K : SomeKept) (targets : List (List ℕ)) → BeginsWith K b begun.now → IsBuilt h K b begun.now.marks (IsDoneInOrder b targets) finished.now → IfOk result (LeadsInOrder h K b targets) }
+    ensures suspending { let b = book_view book.now in let h = R.how rebuilder.now in (K : SomeKept) (targets : List (List ℕ)) → BeginsWith K b begun.now → IsBuilt h K b begun.now.marks (IsDoneSuspending h (begin K b begun.now.marks) b targets) finished.now → IfOk result (LeadsSuspending h K b targets) }
+    ensures refused { let b = book_view book.now in let h = R.how rebuilder.now in (K : SomeKept) → BeginsWith K b begun.now → IsBuilt h K b begun.now.marks (λ k. ⊥) finished.now → IfOk result (LeadsRefused h K b) }
+    // The same for whatever else may be done, as lemmas go on from it.
+    ensures plans { let b = book_view book.now in let h = R.how rebuilder.now in (K : SomeKept) → BeginsWith K b begun.now → IfOk result (Plans h K b begun.now.marks finished.now) }
 {
     made(alloc, rebuilder, begun, rules, book, finished)
 }
@@ -49,7 +50,7 @@ fn made<R: Rebuilder>(
 ) -> Result<Batch, NoMemory>
     requires { rules ≡ rules_digest_of (book_view book.now) }
     ensures unmarked { IfOk result (λ batch. AreUnmarked batch.entries) }
-    ensures plans { (K : SomeKept) → BeginsWith K (book_view book.now) begun.now → IfOk result (Plans (R.how rebuilder.now) K (book_view book.now) begun.now.marks finished.now) }
+    ensures plans { let b = book_view book.now in let h = R.how rebuilder.now in (K : SomeKept) → BeginsWith K b begun.now → IfOk result (Plans h K b begun.now.marks finished.now) }
 {
     if brings_nothing(begun, finished) {
         return Ok(Batch::new(alloc));
