@@ -1,3 +1,5 @@
 pub mod Growing
 pub mod Lists
 pub mod Leading
+pub mod Sums
+pub mod Alike
