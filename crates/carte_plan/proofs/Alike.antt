@@ -1,5 +1,5 @@
 -- Batches that carry the same difference have the same values, inputs and entries, if in another order.
-use Rattle.std.proofs.Common.{◌≡◌, ◌⊎◌, ℕ, Bool, true, false, cond, List, [], ◌∷◌, Option, Some, None, map, find, refl, ap, sym, ◌∙◌, subst, inl, inr}
+use Rattle.std.proofs.Common.{◌≡◌, ◌⊎◌, ℕ, Bool, true, false, cond, List, [], ◌∷◌, Option, Some, None, option_map, map, find, refl, ap, sym, ◌∙◌, subst, inl, inr}
 use Rattle.std.specs.List.{sum_by}
 use Rattle.std.specs.Option.{option_or}
 use Rattle.carte_value.specs.declared.digest.Digest.{Digest}
@@ -82,9 +82,61 @@ lacked_same now (Some w) None (Some v) is is' lacks lacks' = let e : Some w ≡ 
 link_by : List ℕ → Digest → Link
 link_by k d = record { name = k; digest = d }
 
+link_is : (l : Link) (k : List ℕ) → l.name ≡ k → l ≡ link_by k l.digest
+unfolding link_by
+link_is l k same i = record { name = same i; digest = l.digest }
+
+link_back : (ls : List Link) (k : List ℕ) → find_last (is_link_of k) ls ≡ option_map (link_by k) (link_in ls k)
+link_back ls k = on (find_last (is_link_of k) ls) refl
+  where
+    on : (o : Option Link) → find_last (is_link_of k) ls ≡ o → o ≡ option_map (link_by k) (digest_in o)
+    on None none = refl
+    on (Some l) found = ap Some (link_is l k (sym (name_eq_is k l.name (last_there (is_link_of k) ls l found).1)))
+
+-- values whose digests stand there once
+has_digest : (vs : List Value) (v : Value) → Has vs v → Has (map digest_of vs) (digest_of v)
+has_digest [] v nowhere = absurd nowhere
+has_digest (u ∷ us) v (inl same) = inl (ap digest_of same)
+has_digest (u ∷ us) v (inr later) = inr (has_digest us v later)
+
+values_apart : (vs : List Value) → EachOnce (map digest_of vs) → EachOnce vs
+values_apart [] once = tt
+values_apart (v ∷ vs) once = ((λ there. once.0 (has_digest vs v there)), values_apart vs once.1)
+
+value_there : (vs : List Value) (d : Digest) (v : Value) → first_value vs d ≡ Some v → Has vs v
+value_there [] d v is = cc
+value_there (u ∷ us) d v is = on (digest_eq d (digest_of u)) is (value_there us d v)
+  where
+    on : (t : Bool) → cond t (Some u) (find (is_value_of d) us) ≡ Some v → (first_value us d ≡ Some v → Has us v) → Has (u ∷ us) v
+    on true here rest = inl (let e : u ≡ v = cc in sym e)
+    on false later rest = inr (rest later)
+
+value_found : (vs : List Value) (v : Value) → EachOnce (map digest_of vs) → Has vs v → first_value vs (digest_of v) ≡ Some v
+value_found [] v once nowhere = absurd nowhere
+value_found (u ∷ us) v once (inl same) = ap (λ t. cond t (Some u) (find (is_value_of (digest_of v)) us)) (ap (λ w. digest_eq (digest_of v) (digest_of w)) (sym same) ∙ digest_self (digest_of v)) ∙ ap Some (sym same)
+value_found (u ∷ us) v once (inr later) = on (digest_eq (digest_of v) (digest_of u)) refl (value_found us v once.1 later)
+  where
+    on : (t : Bool) → digest_eq (digest_of v) (digest_of u) ≡ t → first_value us (digest_of v) ≡ Some v → cond t (Some u) (find (is_value_of (digest_of v)) us) ≡ Some v
+    on true is rest = absurd (once.0 (subst (Has (map digest_of us)) (same_digest (digest_of v) (digest_of u) is) (has_digest us v later)))
+    on false is rest = rest
+
 module _ (b : Book) (K L : SomeKept) (B C : Batch) (one : Carries b K L B) (other : Carries b K L C) where
   entries_same : (k : List ℕ) → entry_in B.entries k ≡ entry_in C.entries k
   entries_same k = or_same (L.entries k) (K.entries k) (entry_in B.entries k) (entry_in C.entries k) (one.entries k) (other.entries k) (one.entries_differ k) (other.entries_differ k)
 
   pub entries_sum : (f : Entry → ℕ) → sum_by f B.entries ≡ sum_by f C.entries
   entries_sum = same_keyed (λ (e : Entry). e.key) B.entries C.entries one.entries_once other.entries_once entries_same
+
+  seen_same : (k : List ℕ) → find_last (is_link_of k) B.seen ≡ find_last (is_link_of k) C.seen
+  seen_same k = link_back B.seen k ∙ (ap (option_map (link_by k)) (or_same (L.seen k) (K.seen k) (link_in B.seen k) (link_in C.seen k) (one.seen k) (other.seen k) (one.seen_differs k) (other.seen_differs k)) ∙ sym (link_back C.seen k))
+
+  pub seen_sum : (f : Link → ℕ) → sum_by f B.seen ≡ sum_by f C.seen
+  seen_sum = same_keyed (λ (l : Link). l.name) B.seen C.seen one.seen_once other.seen_once seen_same
+
+  values_same : (d : Digest) → first_value B.values d ≡ first_value C.values d
+  values_same d = lacked_same (L.stored d) (K.stored d) (first_value B.values d) (first_value C.values d) (one.values d) (other.values d) (one.values_lacked d) (other.values_lacked d)
+
+  pub values_sum : (f : Value → ℕ) → sum_by f B.values ≡ sum_by f C.values
+  values_sum = same_sums B.values C.values (values_apart B.values one.values_once) (values_apart C.values other.values_once)
+      (λ v there. value_there C.values (digest_of v) v (sym (values_same (digest_of v)) ∙ value_found B.values v one.values_once there))
+      (λ v there. value_there B.values (digest_of v) v (values_same (digest_of v) ∙ value_found C.values v other.values_once there))
