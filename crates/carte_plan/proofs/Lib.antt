@@ -3,3 +3,5 @@ pub mod Lists
 pub mod Leading
 pub mod Sums
 pub mod Alike
+pub mod Orders
+pub mod OneSize
