@@ -1,8 +1,8 @@
 -- All batches that lead from one kept information to one end have the same items, if in another order: so whatever is counted of each, as the bytes of its spelling, the sums are the same.
-use Rattle.std.proofs.Common.{◌≡◌, ◌⊎◌, ℕ, Bool, true, false, not, cond, List, [], ◌∷◌, Option, Some, None, unwrap_or, filter, refl, ap, sym, ◌∙◌, subst, inl, inr}
+use Rattle.std.proofs.Common.{◌≡◌, ◌⊎◌, ℕ, Bool, true, false, not, cond, List, [], ◌∷◌, Option, Some, None, unwrap_or, filter, is_eq, refl, ap, sym, ◌∙◌, subst, inl, inr}
 use Rattle.std.specs.List.{sum_by, AllByRecursion}
 use Rattle.std.specs.List.Sorted.{IsStrictlySortedBy}
-use Rattle.std.specs.declared.cmp.Ordering.TheVariants.{Less, Equal, Greater}
+use Rattle.std.specs.declared.cmp.Ordering.TheVariants.{Less}
 use Rattle.carte_value.specs.Lists.{Has}
 use Rattle.carte_value.specs.Names.{name_cmp}
 use Rattle.carte_value.specs.Truths.{Among, NoneTwice}
@@ -10,7 +10,9 @@ use Rattle.carte_book.specs.Book.{Book}
 use Rattle.carte_record.specs.declared.batch.Batch.{Batch}
 use Rattle.carte_record.specs.declared.trace.Trace.{Trace}
 use Rattle.carte_record.specs.declared.way.Way.{Way}
-use Rattle.std.specs.Cmp.Lexicographic.{nat_list_cmp_total}
+use Rattle.std.specs.Ordering.{eq_by_cmp}
+use Rattle.std.specs.Cmp.{eq_by_cmp_equiv}
+use Rattle.std.proofs.lemmas.Cmp.{nat_list_cmp_total}
 use Rattle.carte_record.specs.Folds.{apply, batch_traces, is_among}
 use Rattle.carte_record.specs.Kept.{SomeKept}
 use Rattle.carte_sound.specs.Begun.{AreMarks, begin, has_rules_of}
@@ -39,7 +41,7 @@ traces_sum h b M done fs gs one other w = same_sums (traces_made h b fs w) (trac
 below_apart : (k : List ℕ) (ks : List (List ℕ)) → AllByRecursion (λ j. name_cmp k j ≡ Less) ks → ¬ (Has ks k)
 below_apart k [] all nowhere = nowhere
 below_apart k (j ∷ js) all there = elim there [
-  | inl same ↦ (let e : name_cmp k k ≡ Less = subst (λ i. name_cmp k i ≡ Less) (sym same) all.0 in let r : name_cmp k k ≡ Equal = cmp_self k in cc)
+  | inl same ↦ (let e : name_cmp k k ≡ Less = subst (λ i. name_cmp k i ≡ Less) (sym same) all.0 in let t : eq_by_cmp name_cmp k k ≡ true = (eq_by_cmp_equiv nat_list_cmp_total).refl k in let f : false ≡ true = sym (ap is_eq e) ∙ t in cc)
   | inr later ↦ below_apart k js all.1 later
 ]
 
