@@ -145,9 +145,9 @@ module _ {A : Type 0} (At : A → List ℕ → Type 0) where
       throughout_more s t _ _ (λ m at. at.0 [] bs refl (omega (arith, at.1))) (throughout_counted s t _ up steps)
 
   -- once the calls of some steps passed, no image is at an earlier station
-  pub steps_stand : (a : A) (front rest : List (Step A)) (s t : Story) → StepsThrough At a (front ++ rest) s t
-      → s.now.passed + calls_in front ≤ t.now.passed → (c : List ℕ) → IsImage t.now c → IsAtOneOf At (last_of a front) rest c
-  steps_stand a front rest s t steps enough = throughout_last s t _ steps front rest refl enough
+  pub steps_stand : (a : A) (prefix rest : List (Step A)) (s t : Story) → StepsThrough At a (prefix ++ rest) s t
+      → s.now.passed + calls_in prefix ≤ t.now.passed → (c : List ℕ) → IsImage t.now c → IsAtOneOf At (last_of a prefix) rest c
+  steps_stand a prefix rest s t steps enough = throughout_last s t _ steps prefix rest refl enough
 
 -- one step, of which the stations are seen as others
 module _ {A C : Type 0} (At : A → List ℕ → Type 0) (There : C → List ℕ → Type 0) (a : A) (b : Step A) (c : C) (d : Step C) (same : d.calls ≡ b.calls)

@@ -108,10 +108,10 @@ settled_at calls n call some within is so s =
     let e : (n - 1) + 1 ≡ n = omega arith in
     subst (λ k. IsSettled (after_calls s (take k calls)).now) e (settled_more calls (n - 1) call (omega arith) is so s)
 
-after_calls-append : (s : Story) (front back : List Passed) → after_calls s (front ++ back) ≡ after_calls (after_calls s front) back
+after_calls-append : (s : Story) (prefix back : List Passed) → after_calls s (prefix ++ back) ≡ after_calls (after_calls s prefix) back
 after_calls-append s [] back = refl
-after_calls-append s (Wrote at piece ∷ front) back = after_calls-append (wrote at piece s) front back
-after_calls-append s (Synced ∷ front) back = after_calls-append (did_sync s) front back
+after_calls-append s (Wrote at piece ∷ prefix) back = after_calls-append (wrote at piece s) prefix back
+after_calls-append s (Synced ∷ prefix) back = after_calls-append (did_sync s) prefix back
 
 synced_kept : (s : Story) (calls : List Passed) → AreWrites calls → (after_calls s calls).now.synced ≡ s.now.synced
 synced_kept s [] writes = refl

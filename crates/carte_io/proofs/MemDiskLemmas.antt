@@ -61,5 +61,5 @@ pub put_at_grown : (old : List ℕ) (at end : ℕ) (piece grown : List ℕ) → 
     → grown ≡ old ++ replicate (end - length old) 0 → take at grown ++ piece ++ drop (at + length piece) grown ≡ put_at old at piece
 put_at_grown old at end piece grown is grown_is =
     ap (λ g. take at g ++ piece ++ drop (at + length piece) g) (grown_is ∙ ap (λ e. old ++ replicate (e - length old) 0) is)
-    ∙ ap (λ front. front ++ piece ++ drop (at + length piece) (old ++ replicate (at + length piece - length old) 0)) (take_grown old at (at + length piece - length old) (omega arith))
+    ∙ ap (λ prefix. prefix ++ piece ++ drop (at + length piece) (old ++ replicate (at + length piece - length old) 0)) (take_grown old at (at + length piece - length old) (omega arith))
     ∙ ap (λ back. take at (old ++ replicate (at - length old) 0) ++ piece ++ back) (drop_grown old (at + length piece) (at + length piece - length old) refl)

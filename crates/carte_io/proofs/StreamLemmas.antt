@@ -3,7 +3,7 @@ use Rattle.std.proofs.Common.{◌≡◌, ℕ, ◌+◌, ◌-◌, ◌≤◌, List,
 use Rattle.std.proofs.Math.Seq.{take-add}
 use Rattle.carte_io.specs.Streams.{Reads}
 
--- a front was taken, and now a front of the rest
+-- a prefix was taken, and now a prefix of the rest
 pub takes_more : (piece rest start before after : List ℕ) (at count : ℕ) → rest ≡ drop at piece → before ≡ start ++ take at piece
     → after ≡ before ++ take count rest → after ≡ start ++ take (at + count) piece
 takes_more piece rest start before after at count rest_is held more =

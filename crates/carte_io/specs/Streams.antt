@@ -15,7 +15,7 @@ pub record SinkState : Type 0 where
 -- the first n bytes left go into the front of a buffer
 pub record Moves (n : ℕ) (left left' into into' : List ℕ) : Type 0 where
   pub enough : n ≤ length left
-  pub front : into' ≡ take n left ++ drop n into
+  pub prefix : into' ≡ take n left ++ drop n into
   pub rest : left' ≡ drop n left
 
 -- some bytes were read that have P; where the source tells its bytes, they are the first that were left, and the others are left still
@@ -31,7 +31,7 @@ pub record ReadsMore (tells : Type 0) (left left' read read' : List ℕ) : Type 
   pub first : tells → left ≡ more ++ left'
 
 -- a prefix of the piece was taken, and not the whole of it
-pub record TakesFront (piece taken taken' : List ℕ) : Type 0 where
+pub record TakesPrefix (piece taken taken' : List ℕ) : Type 0 where
   pub count : ℕ
   pub below : count < length piece
-  pub front : taken' ≡ taken ++ take count piece
+  pub prefix : taken' ≡ taken ++ take count piece

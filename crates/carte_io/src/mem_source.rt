@@ -73,16 +73,16 @@ impl Source for MemSource {
             self.faults = one_more(self.faults);
             return Err(Failed);
         }
-        let count = copy_front(&self.bytes[self.place..], into);
+        let count = copy_prefix(&self.bytes[self.place..], into);
         self.place += count;
         Ok(count)
     }
 }
 
 // Copies as much as there is and has room.
-fn copy_front(from: &[u8], into: &mut [u8]) -> usize
+fn copy_prefix(from: &[u8], into: &mut [u8]) -> usize
     ensures count { result ≡ min (length into.old) (length from.now) }
-    ensures front { into.new ≡ take result from.now ++ drop result into.old }
+    ensures prefix { into.new ≡ take result from.now ++ drop result into.old }
 {
     let count = from.len().min(into.len());
     into[..count].copy_from_slice(&from[..count]);

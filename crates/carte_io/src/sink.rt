@@ -1,6 +1,6 @@
 ghost use Rattle.std.specs.Prelude.{◌≡◌, ◌<◌, ◌≤◌, ◌++◌, length, take, IfOk, OnOk, OnErr};
 ghost use Rattle.carte_io.specs.Causes.{HasCause};
-ghost use Rattle.carte_io.specs.Streams.{SinkState, TakesFront};
+ghost use Rattle.carte_io.specs.Streams.{SinkState, TakesPrefix};
 
 use crate::Failed;
 
@@ -38,7 +38,7 @@ pub trait Sink {
 /// its last piece. After `Failed` a prefix of the piece was taken.
 pub fn write_all<K: Sink>(sink: &mut K, piece: &[u8]) -> Result<(), Failed>
     ensures ok { K.tells → OnOk result ((K.state sink.new).taken ≡ (K.state sink.old).taken ++ piece.now) }
-    ensures err { K.tells → OnErr result (TakesFront piece.now (K.state sink.old).taken (K.state sink.new).taken) }
+    ensures err { K.tells → OnErr result (TakesPrefix piece.now (K.state sink.old).taken (K.state sink.new).taken) }
     ensures kept { K.tells → (K.state sink.old).handed ≤ (K.state sink.new).handed }
     ensures cause { HasCause (K.state sink.old).faults (K.state sink.new).faults result }
 {

@@ -23,20 +23,20 @@ module _ (limit start gate : ℕ) (bodies : List BodyAt) (file : List ℕ) (has 
       (get_or-drop start file (gate - start) 0 ∙ ap (λ i. get_or file i 0) there ∙ is_open)
 
   -- what the file has from the start on, with another end
-  front_kept : (c : List ℕ) → take gate c ≡ take gate file → gate < length c → drop start c ≡ take (gate - start) (drop start file) ++ drop gate c
-  front_kept c same inside =
+  prefix_kept : (c : List ℕ) → take gate c ≡ take gate file → gate < length c → drop start c ≡ take (gate - start) (drop start file) ++ drop gate c
+  prefix_kept c same inside =
       let there : start + (gate - start) ≡ gate = omega (arith, gate_from) in
       ap (drop start) (sym (take-append-drop gate c))
       ∙ drop-append-le start (take gate c) (drop gate c) (omega (arith, length-take gate c, gate_from))
-      ∙ ap (λ front. drop start front ++ drop gate c) same
+      ∙ ap (λ prefix. drop start prefix ++ drop gate c) same
       ∙ ap (λ n. drop start (take n file) ++ drop gate c) (sym there)
-      ∙ ap (λ front. front ++ drop gate c) (drop-take start (gate - start) file)
+      ∙ ap (λ prefix. prefix ++ drop gate c) (drop-take start (gate - start) file)
 
   -- with another end, the frames go on there
   goes_on_there : (c : List ℕ) → take gate c ≡ take gate file → gate < length c
       → frames_from limit start c ≡ adds bodies (walk limit gate 0 (drop gate c))
   goes_on_there c same inside =
-      ap (walk limit start 0) (front_kept c same inside)
+      ap (walk limit start 0) (prefix_kept c same inside)
       ∙ walk_on limit start 0 (drop start file) (drop gate c) gate bodies (omega (arith, length-drop gate c, inside)) has.ends
 
   -- a closed byte at the gate: the bodies are the same

@@ -97,15 +97,15 @@ gate_closed limit at zero (g ∷ bytes) gate bodies ends =
           rw e (gate_closed limit (suc at) (4 + stated bytes) bytes gate rest more)
     ]
 
--- a part of a front
-part_of_front : (n s m : ℕ) (bytes behind : List ℕ) → n + s ≤ m → m ≤ length bytes
+-- a part of a prefix
+part_of_prefix : (n s m : ℕ) (bytes behind : List ℕ) → n + s ≤ m → m ≤ length bytes
     → take s (drop n (take m bytes ++ behind)) ≡ take s (drop n bytes)
-part_of_front n s m bytes behind fits within =
+part_of_prefix n s m bytes behind fits within =
     same_lists _ _ (simp (length-take, length-drop, length-append) (omega arith)) (λ k d below. grind (arith, places))
 
-stated_front : (m : ℕ) (bytes behind : List ℕ) → 4 ≤ m → m ≤ length bytes → stated (take m bytes ++ behind) ≡ stated bytes
+stated_prefix : (m : ℕ) (bytes behind : List ℕ) → 4 ≤ m → m ≤ length bytes → stated (take m bytes ++ behind) ≡ stated bytes
 unfolding stated
-stated_front m bytes behind fits within = ap (from_be_bytes w32) (part_of_front 0 4 m bytes behind (omega arith) within)
+stated_prefix m bytes behind fits within = ap (from_be_bytes w32) (part_of_prefix 0 4 m bytes behind (omega arith) within)
 
 -- an open frame that stays whole, and the frames behind it
 open_on : (limit at g m : ℕ) (bytes behind : List ℕ) (rest : List BodyAt) (reading : Reading) → g ≡ 1 → lies limit at bytes ≡ true
@@ -113,12 +113,12 @@ open_on : (limit at g m : ℕ) (bytes behind : List ℕ) (rest : List BodyAt) (r
     → walk limit (suc at) (4 + stated bytes) (take m bytes ++ behind) ≡ adds rest reading
     → walk limit at 0 (g ∷ (take m bytes ++ behind)) ≡ add (at, take (stated bytes) (drop 4 bytes)) (adds rest reading)
 open_on limit at g m bytes behind rest reading is fits past inside some ends =
-    let s : stated (take m bytes ++ behind) ≡ stated bytes = stated_front m bytes behind (omega arith) (omega arith) in
+    let s : stated (take m bytes ++ behind) ≡ stated bytes = stated_prefix m bytes behind (omega arith) (omega arith) in
     let lie : (stated bytes + 5 ≤ length bytes) × (at + 6 + stated bytes ≤ limit) = lies_fits limit at bytes fits in
     let len : length (take m bytes ++ behind) ≡ m + length behind = simp (length-append, length-take) (omega arith) in
     walk_open limit at g (take m bytes ++ behind) is (fits_lies limit at (take m bytes ++ behind) (omega (arith, len, s)) (omega (arith, s, lie.1)))
     ∙ ap (λ n. add (at, take n (drop 4 (take m bytes ++ behind))) (walk limit (suc at) (4 + n) (take m bytes ++ behind))) s
-    ∙ ap (λ body. add (at, body) (walk limit (suc at) (4 + stated bytes) (take m bytes ++ behind))) (part_of_front 4 (stated bytes) m bytes behind past (omega arith))
+    ∙ ap (λ body. add (at, body) (walk limit (suc at) (4 + stated bytes) (take m bytes ++ behind))) (part_of_prefix 4 (stated bytes) m bytes behind past (omega arith))
     ∙ ap (add (at, take (stated bytes) (drop 4 bytes))) ends
 
 -- up to the closed gate byte the frames are the same, whatever is behind
@@ -157,28 +157,28 @@ pub adds_more : (all here there : Reading) (bodies after : List BodyAt) (body : 
 adds_more all here there bodies after body so is after_is =
     so ∙ ap (adds bodies) is ∙ sym (ap (λ bs. adds bs there) after_is ∙ adds-append bodies (body ∷ []) there)
 
--- passing over a front
-walk_past : (limit at : ℕ) (front bytes : List ℕ) → walk limit at (length front) (front ++ bytes) ≡ walk limit (at + length front) 0 bytes
+-- passing over a prefix
+walk_past : (limit at : ℕ) (prefix bytes : List ℕ) → walk limit at (length prefix) (prefix ++ bytes) ≡ walk limit (at + length prefix) 0 bytes
 walk_past limit at [] bytes = ap (λ n. walk limit n 0 bytes) (omega arith)
-walk_past limit at (x ∷ front) bytes =
-    walk_past limit (suc at) front bytes ∙ ap (λ n. walk limit n 0 bytes) (omega arith)
+walk_past limit at (x ∷ prefix) bytes =
+    walk_past limit (suc at) prefix bytes ∙ ap (λ n. walk limit n 0 bytes) (omega arith)
 
 length-piece_of : (body : List ℕ) → length (piece_of body) ≡ 5 + length body
 length-piece_of body = simp (length-append) (omega arith)
 
 -- an open frame that is whole, and a closed gate byte behind it
-whole : (limit gate n : ℕ) (front behind body : List ℕ) → length front ≡ 4 + n → stated (front ++ 0 ∷ behind) ≡ n
-    → take n (drop 4 (front ++ 0 ∷ behind)) ≡ body → gate + 6 + n ≤ limit
-    → walk limit gate 0 (1 ∷ (front ++ 0 ∷ behind)) ≡ Ends (gate + 5 + n) ((gate, body) ∷ [])
-whole limit gate n front behind body len size is fits =
-    let bytes : List ℕ = front ++ 0 ∷ behind in
-    let total : length (front ++ 0 ∷ behind) ≡ 5 + n + length behind = simp (length-append) (omega arith) in
+whole : (limit gate n : ℕ) (prefix behind body : List ℕ) → length prefix ≡ 4 + n → stated (prefix ++ 0 ∷ behind) ≡ n
+    → take n (drop 4 (prefix ++ 0 ∷ behind)) ≡ body → gate + 6 + n ≤ limit
+    → walk limit gate 0 (1 ∷ (prefix ++ 0 ∷ behind)) ≡ Ends (gate + 5 + n) ((gate, body) ∷ [])
+whole limit gate n prefix behind body len size is fits =
+    let bytes : List ℕ = prefix ++ 0 ∷ behind in
+    let total : length (prefix ++ 0 ∷ behind) ≡ 5 + n + length behind = simp (length-append) (omega arith) in
     walk_open limit gate 1 bytes refl (fits_lies limit gate bytes (omega (arith, total, size)) (omega (arith, size)))
     ∙ ap (λ k. add (gate, take k (drop 4 bytes)) (walk limit (suc gate) (4 + k) bytes)) size
     ∙ ap (λ b. add (gate, b) (walk limit (suc gate) (4 + n) bytes)) is
     ∙ ap (λ k. add (gate, body) (walk limit (suc gate) k bytes)) (sym len)
-    ∙ ap (add (gate, body)) (walk_past limit (suc gate) front (0 ∷ behind) ∙ walk_closed limit (suc gate + length front) 0 behind (λ never. absurd (cc)))
-    ∙ ap (λ k. Ends k ((gate, body) ∷ [])) (let e : suc gate + length front ≡ gate + 5 + n = omega arith in e)
+    ∙ ap (add (gate, body)) (walk_past limit (suc gate) prefix (0 ∷ behind) ∙ walk_closed limit (suc gate + length prefix) 0 behind (λ never. absurd (cc)))
+    ∙ ap (λ k. Ends k ((gate, body) ∷ [])) (let e : suc gate + length prefix ≡ gate + 5 + n = omega arith in e)
 
 stated_piece : (body behind : List ℕ) → length body < 2 ^ 32 → stated (to_be_bytes w32 (length body) ++ body ++ 0 ∷ behind) ≡ length body
 unfolding stated
@@ -211,14 +211,14 @@ next_frame limit gate size file body is_open size_is in_file in_limit is =
     let first : drop gate file ≡ 1 ∷ bytes = drop_more file gate 0 (omega arith) ∙ ap (λ b. b ∷ bytes) is_open in
     let whole_size : length body ≡ size = ap length is ∙ (length-take size (drop (gate + 5) file) ∙ (let e : min size (length (drop (gate + 5) file)) ≡ size = omega (arith, length-drop (gate + 5) file) in e)) in
     let body_is : take size (drop 4 bytes) ≡ body = ap (take size) (drop-drop 4 (gate + 1) file) ∙ ap (λ n. take size (drop n file)) (let e : gate + 1 + 4 ≡ gate + 5 = omega arith in e) ∙ sym is in
-    let front : length (take (4 + size) bytes) ≡ 4 + size = omega (arith, length-take (4 + size) bytes, len) in
+    let prefix : length (take (4 + size) bytes) ≡ 4 + size = omega (arith, length-take (4 + size) bytes, len) in
     ap (walk limit gate 0) first
     ∙ walk_open limit gate 1 bytes refl (fits_lies limit gate bytes (omega (arith, len, size_is)) (omega (arith, size_is)))
     ∙ ap (λ n. add (gate, take n (drop 4 bytes)) (walk limit (suc gate) (4 + n) bytes)) (sym size_is)
     ∙ ap (λ b. add (gate, b) (walk limit (suc gate) (4 + size) bytes)) body_is
     ∙ ap (λ xs. add (gate, body) (walk limit (suc gate) (4 + size) xs)) (sym (take-append-drop (4 + size) bytes))
-    ∙ ap (λ n. add (gate, body) (walk limit (suc gate) n (take (4 + size) bytes ++ drop (4 + size) bytes))) (sym front)
+    ∙ ap (λ n. add (gate, body) (walk limit (suc gate) n (take (4 + size) bytes ++ drop (4 + size) bytes))) (sym prefix)
     ∙ ap (add (gate, body)) (walk_past limit (suc gate) (take (4 + size) bytes) (drop (4 + size) bytes))
-    ∙ ap (λ n. add (gate, body) (walk limit n 0 (drop (4 + size) bytes))) (let e : suc gate + length (take (4 + size) bytes) ≡ end_of gate body = omega (arith, front, whole_size) in e)
+    ∙ ap (λ n. add (gate, body) (walk limit n 0 (drop (4 + size) bytes))) (let e : suc gate + length (take (4 + size) bytes) ≡ end_of gate body = omega (arith, prefix, whole_size) in e)
     ∙ ap (λ xs. add (gate, body) (walk limit (end_of gate body) 0 xs)) (drop-drop (4 + size) (gate + 1) file)
     ∙ ap (λ n. add (gate, body) (walk limit (end_of gate body) 0 (drop n file))) (let e : gate + 1 + (4 + size) ≡ end_of gate body = omega (arith, whole_size) in e)

@@ -1,6 +1,6 @@
 -- What applying a batch makes of a state, and what its images keep.
 use Rattle.std.proofs.Common.{◌≡◌, ℕ, ◌<◌, Bool, true, false, if◌then◌else◌, List, [], ◌∷◌, ◌++◌, refl, sym, ◌∙◌, ap, subst, arith, inl}
-use Rattle.carte_io.specs.Disk.{Leaves, Story}
+use Rattle.carte_io.specs.Disk.{IsSettled, Leaves, Story}
 use Rattle.carte_io.specs.Stations.{Step, StepsThrough}
 use Rattle.carte_io.proofs.Acknowledged.{step_as, steps_none, steps_one}
 use Rattle.carte_io.proofs.Images.{settled_image, throughout_none}
@@ -13,8 +13,12 @@ use Rattle.carte_record.specs.Kept.{SomeKept, nothing_kept}
 use Rattle.carte_record.specs.declared.batch.Batch.{Batch}
 use Rattle.carte_record.specs.Empty.{is_empty}
 use Rattle.carte_state.specs.Folding.{IsFolded, Keeps}
-use Rattle.carte_state.specs.States.{IsKeptOn, Stand, kept_in, step_for}
+use Rattle.carte_state.specs.States.{IsKeptOn, IsLoaded, Stand, kept_in, step_for}
 use Rattle.carte_state.proofs.Folds.{folded_push}
+
+-- what was loaded from a settled disk is kept on it
+pub loaded_kept : (s : Stand) (story : Story) → IsLoaded s story.now.reads → IsSettled story.now → IsKeptOn s story
+loaded_kept s story loaded settled = record { bodies = loaded.bodies; rest = record { read = loaded.read; settled = settled }; folded = loaded.folded }
 
 -- a state that a settled file keeps
 module _ (s : Stand) (story : Story) (on : IsKeptOn s story) where

@@ -29,3 +29,6 @@ pub use fault::ApplyFault;
 pub use laws::{bad_at_one, history_keeps, keeps_one, keeps_or_bad};
 pub use many::apply_all;
 pub use state::State;
+
+#[cfg(test)]
+mod tests;

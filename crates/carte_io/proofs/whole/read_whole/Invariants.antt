@@ -5,7 +5,7 @@ abbrev pub invariant-loop-piece : goal.invariant-loop-piece
 invariant-loop-piece g l = record {
   room : 0 < length l.piece;
   within : vec_len l.bytes ≤ l.limit + 1;
-  front : g.S.Source.tells → (g.S.Source.state l.fn.source).left ≡ l.bytes.items ++ (g.S.Source.state l.source).left;
+  prefix : g.S.Source.tells → (g.S.Source.state l.fn.source).left ≡ l.bytes.items ++ (g.S.Source.state l.source).left;
   same : (g.S.Source.state l.source).faults ≡ (g.S.Source.state l.fn.source).faults;
 }
 
