@@ -1,11 +1,10 @@
 -- Answers on the way through one computation behind another.
-use Rattle.std.proofs.Common.{◌≡◌, ℕ, List, [], ◌∷◌, ◌++◌, Option, Some, None, refl, ap, sym, ◌∙◌, append_assoc, append-nil, subst}
+use Rattle.std.proofs.Common.{ℕ, List, [], ◌∷◌, ◌++◌, Option, refl, ap, sym, ◌∙◌, append_assoc, append-nil, subst}
 use Rattle.carte_value.specs.declared.value.Value.{Value}
 use Rattle.carte_value.specs.Truths.{Truth}
-use Rattle.carte_value.specs.Asks.{Asks, done, ask, and_then}
-use Rattle.carte_value.specs.Once.{Answers, AnswersOf, Went}
+use Rattle.carte_value.specs.Asks.{Asks, and_then}
+use Rattle.carte_value.specs.Once.{Answers, Went}
 use Rattle.carte_value.proofs.Once.{went_on, answers_on}
-use Rattle.carte_effect.specs.declared.outcome.Made.{Made}
 use Rattle.carte_effect.specs.Effects.{more}
 use Rattle.carte_effect.proofs.More.{more_none, more_more}
 use Rattle.carte_task.specs.Answered.{Led, StopsAt}

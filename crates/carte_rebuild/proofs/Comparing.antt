@@ -1,10 +1,10 @@
 -- Comparisons of links with what a truth has.
-use Rattle.std.proofs.Common.{◌≡◌, ℕ, ◌+◌, Bool, true, false, List, [], ◌∷◌, ◌++◌, ◌⊎◌, Option, Some, None, option_map, Result, Ok, Err, refl, ap, sym, ◌∙◌, subst, inl, inr}
+use Rattle.std.proofs.Common.{◌≡◌, ℕ, ◌+◌, Bool, true, false, List, [], ◌∷◌, Option, Some, None, option_map, Ok, refl, ap, sym, ◌∙◌, subst, inl, inr}
 use Rattle.carte_value.specs.declared.value.Value.{Value}
 use Rattle.carte_value.specs.declared.digest.Digest.{Digest}
 use Rattle.carte_value.specs.declared.link.Link.{Link}
 use Rattle.carte_value.specs.Truths.{Truth, Among}
-use Rattle.carte_value.specs.Asks.{Asks, done, ask, run, asked, asked_on, answered}
+use Rattle.carte_value.specs.Asks.{run, asked, asked_on, answered}
 use Rattle.carte_value.specs.Spelling.{digest_of}
 use Rattle.carte_task.specs.Compared.{same_digest}
 use Rattle.carte_task.specs.Checks.{compared, compares}

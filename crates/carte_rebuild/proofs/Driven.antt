@@ -1,11 +1,10 @@
 -- A drive of checks, and of the task behind them.
-use Rattle.std.proofs.Common.{◌≡◌, ℕ, ◌+◌, Bool, true, false, List, [], ◌∷◌, ◌++◌, ◌⊎◌, Option, Some, None, Result, Ok, Err, refl, ap, sym, ◌∙◌, subst, inl, inr, suc, length, take, get_or, set, ◌≤◌, arith}
+use Rattle.std.proofs.Common.{◌≡◌, ℕ, ◌+◌, List, [], ◌∷◌, ◌++◌, Option, Some, None, Result, Ok, Err, refl, ap, sym, ◌∙◌, subst, suc, length, take, get_or, set, ◌≤◌, arith}
 use Rattle.std.proofs.Math.ListN.{drop_of_length-le}
 use Rattle.std.proofs.Math.Seq.{take-length}
 use Rattle.std.proofs.lemmas.List.{set_split, take_more}
-use Rattle.carte_value.specs.declared.value.Value.{Value}
 use Rattle.carte_value.specs.Truths.{Truth}
-use Rattle.carte_value.specs.Asks.{Asks, done, ask, and_then}
+use Rattle.carte_value.specs.Asks.{Asks, done, and_then}
 use Rattle.carte_value.specs.Once.{Answers, AnswersOf, Went}
 use Rattle.carte_value.proofs.Once.{went_on, answers_on}
 use Rattle.carte_effect.specs.declared.effect.Halt.{Halt}
@@ -15,13 +14,12 @@ use Rattle.carte_effect.specs.declared.outcome.Made.TheVariants.{Ran, Reused}
 use Rattle.carte_effect.specs.Outcomes.{Outcome, links_of}
 use Rattle.carte_effect.specs.Effects.{more, SameStops}
 use Rattle.carte_effect.specs.Jobs.{Step, came, stopped, no_memory, StepGave, Gave}
-use Rattle.carte_effect.proofs.More.{more_none, more_more}
+use Rattle.carte_effect.proofs.More.{more_more}
 use Rattle.carte_task.specs.Answered.{Led, StopsAt}
 use Rattle.carte_task.specs.Checking.{Checking}
-use Rattle.carte_task.specs.Checks.{rest_from, Checked, Judges, KeepsEarlier, found_by}
-use Rattle.carte_task.specs.declared.check.Verdict.{Verdict}
+use Rattle.carte_task.specs.Checks.{rest_from, Checked, Judges}
 use Rattle.carte_task.specs.declared.check.Verdict.TheVariants.{Same, Differs}
-use Rattle.carte_task.specs.Machines.{State, IsEnd}
+use Rattle.carte_task.specs.Machines.{State}
 use Rattle.carte_task.specs.MachineJobs.{GoesBy, MachineGives}
 use Rattle.carte_rebuild.specs.Trying.{with_links, machine_left, judged_by, checked, tries, Gives}
 use Rattle.carte_rebuild.specs.Tried.{Tried}

@@ -2,10 +2,9 @@
 use Rattle.std.proofs.Common.{◌≡◌, ℕ, Bool, true, false, cond, List, [], ◌∷◌, ◌++◌, ◌⊎◌, Option, Some, None, refl, ap, sym, ◌∙◌, subst, inl, inr}
 use Rattle.carte_value.specs.declared.digest.Digest.{Digest}
 use Rattle.carte_value.specs.declared.value.Value.{Value}
-use Rattle.carte_value.specs.Truths.{Truth}
 use Rattle.carte_value.specs.Names.{name_eq}
 use Rattle.carte_task.specs.Checking.{Checking}
-use Rattle.carte_book.specs.Book.{Book, clean}
+use Rattle.carte_book.specs.Book.{Book}
 use Rattle.carte_record.specs.declared.trace.Trace.{Trace}
 use Rattle.carte_record.specs.declared.way.Way.{Way}
 use Rattle.carte_record.specs.Lookups.{first_value, is_trace_of}
@@ -13,7 +12,7 @@ use Rattle.carte_record.specs.Kept.{SomeKept, traces_in}
 use Rattle.carte_value.specs.Lists.{Has}
 use Rattle.carte_sound.specs.Held.{IsTrusted}
 use Rattle.carte_rebuild.specs.Earlier.{check_of, check_at, is_wanted, checks_for, checks_in}
-use Rattle.carte_rebuild.specs.Traced.{IsCheckOf, AreTried, IsTracedJob, IsStart}
+use Rattle.carte_rebuild.specs.Traced.{AreTried, IsTracedJob, IsStart}
 use Rattle.carte_rebuild.specs.declared.tries.Tries.{Tries}
 use Rattle.carte_rebuild.proofs.TracesOf.{traces_there, traces_only}
 

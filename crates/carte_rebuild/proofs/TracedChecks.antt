@@ -1,5 +1,5 @@
 -- Checks of traces of needs: what holds of one that is the same, and where one may stop.
-use Rattle.std.proofs.Common.{◌≡◌, ◌⊎◌, ℕ, List, [], ◌∷◌, ◌++◌, Option, Some, None, Result, Ok, Err, true, false, refl, ap, sym, ◌∙◌, subst, inl, inr}
+use Rattle.std.proofs.Common.{◌≡◌, ◌⊎◌, ℕ, List, [], ◌∷◌, ◌++◌, Option, Some, None, Ok, Err, true, false, refl, ap, sym, ◌∙◌, subst, inl, inr}
 use Rattle.carte_value.specs.declared.value.Value.{Value}
 use Rattle.carte_value.specs.Spelling.{digest_of}
 use Rattle.carte_value.specs.Truths.{Truth, Extends, Among, HasValue}
@@ -11,22 +11,19 @@ use Rattle.carte_tree.specs.Tree.{Tree}
 use Rattle.carte_tree.specs.Meaning.{asks, fetched}
 use Rattle.carte_book.specs.Book.{Book, rule, content, clean}
 use Rattle.carte_book.specs.Needs.{needs}
-use Rattle.carte_effect.specs.declared.outcome.Made.{Made}
 use Rattle.carte_task.specs.Checking.{Checking}
 use Rattle.carte_task.specs.Checks.{compares, rest_from}
 use Rattle.carte_record.specs.declared.trace.Trace.{Trace}
 use Rattle.carte_record.specs.declared.way.Way.{Way}
 use Rattle.carte_record.specs.declared.way.Way.TheVariants.{Verifying, Constructive, Deep}
 use Rattle.carte_record.specs.Kept.{SomeKept}
-use Rattle.carte_value.specs.Lists.{Has}
-use Rattle.carte_sound.specs.True.{digest_or, links_to, linked, trace_of}
+use Rattle.carte_sound.specs.True.{digest_or, links_to, linked}
 use Rattle.carte_sound.specs.Sound.{IsTraceOfSome}
 use Rattle.carte_sound.specs.Base.{IsBase}
-use Rattle.carte_sound.specs.Held.{tracing, AreLinks, clean_digest, digest_now, IsHeldBy, looks_into_held}
+use Rattle.carte_sound.specs.Held.{tracing, AreLinks, digest_now, IsHeldBy, looks_into_held}
 use Rattle.carte_sound.specs.Results.{HasResult}
 use Rattle.carte_sound.proofs.Held.{needs_rule, need_has_value, same_rules, verifying_held, constructive_held}
 use Rattle.carte_note.specs.Right.{reused_links}
-use Rattle.carte_rebuild.specs.Earlier.{check_of}
 use Rattle.carte_rebuild.specs.Traced.{IsCheckOf}
 use Rattle.carte_rebuild.specs.Goes.{may_ask}
 use Rattle.carte_rebuild.proofs.Parting.{Parted, firsts_parted, AsksToo, asks_too}

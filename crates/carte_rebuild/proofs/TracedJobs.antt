@@ -1,33 +1,24 @@
 -- Jobs that compare the needs of a key: what they make is right, and what they lack when they stop.
-use Rattle.std.proofs.Common.{◌≡◌, ◌⊎◌, ℕ, List, [], ◌∷◌, ◌++◌, Option, Some, None, Result, Ok, Err, true, refl, ap, sym, ◌∙◌, subst, inl, inr}
-use Rattle.carte_value.specs.declared.value.Value.{Value}
-use Rattle.carte_value.specs.Truths.{Truth, Extends, Among, HasValue}
-use Rattle.carte_value.specs.Asks.{Asks, done, ask, run, asked, firsts}
-use Rattle.carte_value.specs.Once.{Answers, AnswersOf, Went, names_of}
-use Rattle.carte_value.proofs.Asks.{extends_on, run_kept, asked_kept, asked_known}
-use Rattle.carte_value.proofs.Firsts.{among_firsts, firsts_among}
-use Rattle.carte_value.proofs.Once.{went_on, went_run, went_asked, answers_on}
-use Rattle.carte_value.proofs.Members.{among_right}
-use Rattle.carte_value.proofs.Stops.{asked_before}
+use Rattle.std.proofs.Common.{◌≡◌, ℕ, List, Some, None, Ok, Err, refl, ap, sym, ◌∙◌, subst, inl, inr}
+use Rattle.carte_value.specs.Truths.{Truth, Extends, Among}
+use Rattle.carte_value.specs.Asks.{Asks, run, asked}
+use Rattle.carte_value.specs.Once.{Answers}
+use Rattle.carte_value.proofs.Asks.{run_kept}
 use Rattle.carte_tree.specs.Tree.{Tree}
-use Rattle.carte_tree.specs.Meaning.{asks, fetched}
+use Rattle.carte_tree.specs.Meaning.{asks}
 use Rattle.carte_book.specs.Book.{Book, rule, content, clean}
 use Rattle.carte_book.specs.Needs.{needs}
 use Rattle.carte_effect.specs.declared.outcome.Made.{Made}
 use Rattle.carte_effect.specs.declared.outcome.Made.TheVariants.{Ran, Reused}
-use Rattle.carte_effect.specs.Jobs.{Step, came, stopped, no_memory, outcome_of, HasLinks, AreLinks as LinksTo}
+use Rattle.carte_effect.specs.Jobs.{Step}
 use Rattle.carte_task.specs.Checking.{Checking}
 use Rattle.carte_task.specs.Checks.{rest_from}
-use Rattle.carte_record.specs.declared.trace.Trace.{Trace}
 use Rattle.carte_record.specs.declared.way.Way.{Way}
 use Rattle.carte_record.specs.Kept.{SomeKept}
-use Rattle.carte_value.specs.Lists.{Has}
 use Rattle.carte_sound.specs.True.{links_to}
 use Rattle.carte_sound.specs.Base.{IsBase}
-use Rattle.carte_sound.specs.Held.{tracing, AreLinks, IsHeldBy, IsHeld, IsFollowed}
-use Rattle.carte_sound.proofs.Fresh.{ends_clean, clean_ends}
-use Rattle.carte_sound.proofs.Held.{needs_rule, need_has_value}
-use Rattle.carte_note.specs.Right.{IsRightMade, Came}
+use Rattle.carte_sound.specs.Held.{tracing, AreLinks, IsHeldBy, IsHeld}
+use Rattle.carte_note.specs.Right.{IsRightMade}
 use Rattle.carte_rebuild.specs.Trying.{task_left, tries, Gives, FitsLeft}
 use Rattle.carte_rebuild.specs.Earlier.{check_of}
 use Rattle.carte_rebuild.specs.Traced.{IsCheckOf, AreTried, IsTracedJob}
@@ -39,7 +30,7 @@ use Rattle.carte_rebuild.proofs.Comparing.{digests_in, are_links_same}
 use Rattle.carte_rebuild.proofs.Trials.{IsGivenAgain, AllDiffer, tries_cases, tries_stop, tries_asked}
 use Rattle.carte_rebuild.proofs.TaskAlone.{alone_ran, alone_needs, alone_there, alone_before}
 use Rattle.carte_rebuild.proofs.Wholes.{IsRightWhole, whole_fits, whole_goes}
-use Rattle.carte_rebuild.proofs.TracedChecks.{OfNeeds, reused_needs, asks_needs, links_now, links_then, links_needs, held_needs, linked_names, check_asks, check_stops, check_holds}
+use Rattle.carte_rebuild.proofs.TracedChecks.{OfNeeds, reused_needs, asks_needs, links_now, links_then, held_needs, linked_names, check_asks, check_stops, check_holds}
 
 module _ (w : Way) (of : OfNeeds w) (K : SomeKept) (b : Book) (H : List Book) (base : IsBase K b H) (k : List ℕ) (f : Tree) (is_rule : content b k ≡ Some (rule f)) (cs : List Checking) (tried : AreTried w K k cs) where
   abbrev whole : Asks Made

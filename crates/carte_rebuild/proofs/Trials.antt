@@ -1,14 +1,11 @@
 -- Checks, of which the last comes first.
-use Rattle.std.proofs.Common.{◌≡◌, ℕ, Bool, List, [], ◌∷◌, ◌++◌, ◌⊎◌, Option, Some, None, Result, Ok, Err, refl, ap, sym, ◌∙◌, subst, inl, inr}
-use Rattle.carte_value.specs.declared.value.Value.{Value}
-use Rattle.carte_value.specs.Truths.{Truth, Among, Extends}
-use Rattle.carte_value.specs.Asks.{Asks, done, ask, and_then, run, asked, answered}
-use Rattle.carte_value.specs.Once.{Answers}
+use Rattle.std.proofs.Common.{◌≡◌, ℕ, List, [], ◌∷◌, ◌++◌, ◌⊎◌, Option, Some, None, Result, Ok, Err, refl, ap, sym, ◌∙◌, subst, inl, inr}
+use Rattle.carte_value.specs.Truths.{Truth, Among}
+use Rattle.carte_value.specs.Asks.{Asks, run, asked}
 use Rattle.carte_value.proofs.Asks.{run_then_ok, run_then_err, asked_then_ok, asked_then_err}
 use Rattle.carte_value.proofs.Members.{among_append}
 use Rattle.carte_effect.specs.declared.outcome.Made.{Made}
-use Rattle.carte_effect.specs.declared.outcome.Made.TheVariants.{Ran, Reused}
-use Rattle.carte_effect.specs.Outcomes.{Outcome}
+use Rattle.carte_effect.specs.declared.outcome.Made.TheVariants.{Reused}
 use Rattle.carte_task.specs.Checking.{Checking}
 use Rattle.carte_task.specs.Checks.{rest_from}
 use Rattle.carte_value.specs.Lists.{Has}

@@ -1,5 +1,5 @@
 -- Jobs by the computation that they are of: what holds of it over each part holds of the job, however far it is.
-use Rattle.std.proofs.Common.{◌≡◌, ℕ, List, [], ◌∷◌, ◌++◌, Some, None, Ok, Err, refl, ap, sym, ◌∙◌, subst}
+use Rattle.std.proofs.Common.{◌≡◌, ℕ, List, ◌++◌, Some, None, Ok, Err, refl, ap, sym, ◌∙◌, subst}
 use Rattle.carte_value.specs.declared.value.Value.{Value}
 use Rattle.carte_value.specs.Truths.{Truth, Extends, Among}
 use Rattle.carte_value.specs.Asks.{Asks, done, ask, run, asked}

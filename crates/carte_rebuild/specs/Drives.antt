@@ -2,7 +2,7 @@
 use Rattle.std.specs.Prelude.{ℕ, List}
 use Rattle.carte_value.specs.Truths.{Truth, Extends}
 use Rattle.carte_value.specs.Once.{Answers}
-use Rattle.carte_effect.specs.Jobs.{Step, came, stopped, no_memory}
+use Rattle.carte_effect.specs.Jobs.{Step, stopped, no_memory}
 use Rattle.carte_book.specs.Book.{Book}
 use Rattle.carte_rebuild.specs.Goes.{IsPart}
 

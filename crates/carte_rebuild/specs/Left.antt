@@ -1,5 +1,5 @@
 -- What is left of a job of checks and a task.
-use Rattle.std.specs.Prelude.{ℕ, List, [], Option, Some, None}
+use Rattle.std.specs.Prelude.{List, [], Some, None}
 use Rattle.carte_value.specs.Asks.{Asks}
 use Rattle.carte_effect.specs.declared.outcome.Made.{Made}
 use Rattle.carte_task.specs.Machines.{state_of}

@@ -1,5 +1,5 @@
 -- The jobs of rebuilders that compare the needs of a key.
-use Rattle.std.specs.Prelude.{ℕ, ◌≡◌, List, [], ◌∷◌, Some}
+use Rattle.std.specs.Prelude.{ℕ, ◌≡◌, List, Some}
 use Rattle.carte_value.specs.declared.value.Value.{Value}
 use Rattle.carte_value.specs.Truths.{Truth, Extends}
 use Rattle.carte_value.specs.Once.{Answers, AnswersOf, Went}

@@ -1,13 +1,13 @@
 -- What fits before a drive over a part of its truth fits after it.
-use Rattle.std.proofs.Common.{◌≡◌, ℕ, List, [], ◌∷◌, ◌++◌, Option, Some, None, Ok, refl, ap, sym, ◌∙◌, subst, inl, inr}
+use Rattle.std.proofs.Common.{ℕ, List, [], ◌∷◌, Option, refl, sym, ◌∙◌, subst, inl}
 use Rattle.carte_value.specs.declared.value.Value.{Value}
 use Rattle.carte_value.specs.Truths.{Truth, Extends, Among}
-use Rattle.carte_value.specs.Asks.{Asks, done, ask, run, asked}
+use Rattle.carte_value.specs.Asks.{Asks, done, asked}
 use Rattle.carte_value.specs.Once.{Answers, AnswersOf, Went, names_of}
 use Rattle.carte_value.proofs.Once.{went_run, went_asked}
 use Rattle.carte_value.proofs.Members.{among_left, among_right}
 use Rattle.carte_effect.specs.declared.outcome.Made.{Made}
-use Rattle.carte_effect.specs.Jobs.{Step, came, stopped, no_memory, StepFits, DriveFits}
+use Rattle.carte_effect.specs.Jobs.{Step, came, stopped, no_memory, DriveFits}
 use Rattle.carte_rebuild.specs.Trying.{Gives, FitsLeft}
 
 pub known_more : (t u : Truth) (a : Answers) → Extends t u → AnswersOf t a → AnswersOf u a

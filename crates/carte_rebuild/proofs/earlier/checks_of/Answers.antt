@@ -1,4 +1,4 @@
-use Rattle.std.proofs.Common.{◌≡◌, ◌≤◌, length, option_copied, arith}
+use Rattle.std.proofs.Common.{◌≡◌, length, option_copied, arith}
 use Rattle.carte_rebuild.proofs.Collecting.{at_more, at_last}
 use Rattle.carte_rebuild.proofs.earlier.checks_of.Goals as goal
 

@@ -1,4 +1,4 @@
-use Rattle.std.proofs.Common.{◌≡◌, refl, sym, ◌∙◌}
+use Rattle.std.proofs.Common.{refl, ◌∙◌}
 use Rattle.carte_rebuild.proofs.Finishing.{finishes_right}
 use Rattle.carte_rebuild.proofs.made.finish.Goals as goal
 

@@ -1,7 +1,7 @@
-use Rattle.std.proofs.Common.{◌≡◌, [], refl, ap, sym, ◌∙◌}
+use Rattle.std.proofs.Common.{refl, ap, sym, ◌∙◌}
 use Rattle.carte_task.specs.Machines.{state_of}
 use Rattle.carte_rebuild.specs.Trying.{machine_left, tries}
-use Rattle.carte_rebuild.specs.Left.{open_in, left_of}
+use Rattle.carte_rebuild.specs.Left.{left_of}
 use Rattle.carte_rebuild.proofs.Driven.{machine_gave}
 use Rattle.carte_rebuild.proofs.tries.Tries.run.Goals as goal
 

@@ -1,4 +1,3 @@
-use Rattle.std.proofs.Common.{◌≡◌}
 use Rattle.carte_rebuild.proofs.tries.Tries.try_checks.Goals as goal
 
 pub returns-in-Some-clause-tried : goal.returns-in-Some-clause-tried

@@ -1,4 +1,4 @@
-use Rattle.std.proofs.Common.{◌≡◌, refl, ap, ◌∙◌}
+use Rattle.std.proofs.Common.{refl, ap, ◌∙◌}
 use Rattle.carte_task.specs.Machines.{state_of}
 use Rattle.carte_rebuild.specs.Trying.{machine_left, tries}
 use Rattle.carte_rebuild.specs.Left.{open_in, left_of}
