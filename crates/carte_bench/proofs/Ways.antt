@@ -15,14 +15,14 @@ use Rattle.carte_bench.specs.Waits.{Onward, gone, ends, waits_for, waits_on, onw
 
 -- 1. names in lists
 
-has_among : (ks : List (List ℕ)) (k : List ℕ) → has ks k ≡ true → Among ks k
+pub has_among : (ks : List (List ℕ)) (k : List ℕ) → has ks k ≡ true → Among ks k
 has_among [] k is = cc
 has_among (j ∷ js) k is = elim (same_or_not k j) [
   | inl same ↦ inl same
   | inr other ↦ inr (has_among js k (rw (name_apart k j other) at is))
 ]
 
-none_among : (ks : List (List ℕ)) (k : List ℕ) → has ks k ≡ false → ¬ (Among ks k)
+pub none_among : (ks : List (List ℕ)) (k : List ℕ) → has ks k ≡ false → ¬ (Among ks k)
 none_among [] k is here = here
 none_among (j ∷ js) k is here = elim (same_or_not k j) [
   | inl same ↦ (let tied : name_eq k j ≡ true = (bytes_decides k j).1 same in let both : true ≡ false = rw tied at is in cc)

@@ -2,7 +2,7 @@ use Rattle.std.proofs.Common.{◌+◌, ◌-◌, length}
 use Rattle.carte_bench.specs.Held.{spots_of, book_of}
 use Rattle.carte_bench.specs.Waits.{onward}
 use Rattle.carte_bench.proofs.Ways.{IsOnWay}
-use Rattle.carte_bench.proofs.reason.Bench.reason.Given as goal
+use Rattle.carte_bench.proofs.bench.Bench.reason.Given as goal
 
 abbrev pub invariant-names : goal.invariant-names
 invariant-names g l = IsOnWay (onward (book_of l.self) (spots_of l.self)) l.target l.way.names.keys l.way.at
