@@ -98,6 +98,9 @@ module _ (f : List ℕ → Onward) (t : List ℕ) where
     waits = λ q here. absurd here;
   }
 
+  pub way_from : (ks : List (List ℕ)) (at : List ℕ) → ks ≡ [] → at ≡ t → IsOnWay ks at
+  way_from ks at none same = subst (λ (l : List (List ℕ)). IsOnWay l at) (sym none) (subst (λ (k : List ℕ). IsOnWay [] k) (sym same) way_begins)
+
   on_round : (seen : List (List ℕ)) (at j : List ℕ) → ¬ (Among seen at) → f at ≡ waits_for j → (rest : List (List ℕ)) × Round f seen (at ∷ rest) → (rest : List (List ℕ)) × Round f (at ∷ seen) (j ∷ rest)
   on_round seen at j new leads ([], here) = absurd (new here)
   on_round seen at j new leads (i ∷ rest, (other, is, h)) = let same : i ≡ j = cc in (rest, subst (λ k. Round f (at ∷ seen) (k ∷ rest)) same h)
