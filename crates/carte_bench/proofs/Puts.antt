@@ -1,5 +1,5 @@
 -- What is put at a name stands there, and all else is as before.
-use Rattle.std.proofs.Common.{◌≡◌, ℕ, List, Option, Some, refl, sym, ◌∙◌, inl, inr}
+use Rattle.std.proofs.Common.{◌≡◌, ℕ, List, Option, Some, refl, ◌∙◌, inl, inr}
 use Rattle.std.specs.Cmp.Lexicographic.{nat_list_eq_equiv}
 use Rattle.carte_value.proofs.Members.{same_or_not, name_apart}
 use Rattle.carte_bench.specs.declared.slot.Slot.{Slot}

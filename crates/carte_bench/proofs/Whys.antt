@@ -1,21 +1,20 @@
 -- A path of waits is why its target has no value, and a bench that has come to its end has one for each rule that isn't done.
-use Rattle.std.proofs.Common.{◌≡◌, ℕ, zero, suc, ◌+◌, ◌≤◌, ◌<◌, true, false, cond, List, [], ◌∷◌, length, Option, Some, None, refl, ap, sym, ◌∙◌, subst, inl, inr, ◌⊎◌, arith}
+use Rattle.std.proofs.Common.{◌≡◌, ℕ, zero, suc, ◌+◌, ◌<◌, true, false, cond, List, [], ◌∷◌, length, Option, Some, None, refl, sym, ◌∙◌, inl, inr, ◌⊎◌, arith}
 use Rattle.std.proofs.lemmas.Bool.{cases_Bool}
 use Rattle.std.specs.Map.{lookup, keys_of}
-use Rattle.carte_value.specs.declared.value.Value.{Value}
 use Rattle.carte_value.specs.Names.{name_eq}
 use Rattle.carte_value.specs.Truths.{Among, NoneTwice}
 use Rattle.carte_value.proofs.Members.{no_longer}
 use Rattle.carte_book.specs.Book.{Item, input, rule, Book, content, clean}
-use Rattle.carte_book.specs.Needs.{IsRule, needs}
-use Rattle.carte_book.specs.Reason.{StuckAt, Begins, GoesRound, GoesAstray, IsReason}
+use Rattle.carte_book.specs.Needs.{needs}
+use Rattle.carte_book.specs.Reason.{Begins, GoesRound, GoesAstray, IsReason}
 use Rattle.carte_book.specs.Stuck.{IsBlockedBy}
 use Rattle.carte_book.specs.declared.reason.Reason.{Reason}
 use Rattle.carte_book.specs.declared.reason.Reason.TheVariants.{Cycle, Missing, Dynamic}
 use Rattle.carte_book.proofs.Stuck.{stuck_at, no_clean_needs}
 use Rattle.carte_bench.specs.declared.slot.Slot.{Slot}
 use Rattle.carte_bench.specs.declared.slot.Slot.TheVariants.{Ready, Stopped, Out, Done}
-use Rattle.carte_bench.specs.Spots.{Spots, is_done, is_ready}
+use Rattle.carte_bench.specs.Spots.{Spots, is_done}
 use Rattle.carte_bench.specs.Steps.{FitsOf, IsCore}
 use Rattle.carte_bench.specs.Waits.{Onward, gone, ends, waits_for, waits_on, onward_at, onward, Starts, Round, Astray, WaitsAs, has}
 use Rattle.carte_bench.specs.Ended.{IsOpen, HasEnded, HasReason}

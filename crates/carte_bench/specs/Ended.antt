@@ -1,5 +1,5 @@
 -- Where a bench has come to its end with rules that aren't done.
-use Rattle.std.specs.Prelude.{ℕ, ◌≡◌, false, List, Option, Some}
+use Rattle.std.specs.Prelude.{ℕ, ◌≡◌, false, List, Some}
 use Rattle.carte_book.specs.Book.{Book}
 use Rattle.carte_book.specs.Needs.{IsRule}
 use Rattle.carte_book.specs.declared.reason.Reason.{Reason}

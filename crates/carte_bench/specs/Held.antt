@@ -1,5 +1,4 @@
 -- What a bench holds.
-use Rattle.std.specs.Prelude.{ℕ, List}
 use Rattle.std.specs.HashMap.{get}
 use Rattle.carte_value.specs.Names.{name_eq}
 use Rattle.carte_book.specs.Book.{Book, book_view}

@@ -1,6 +1,5 @@
 -- One turn of a key: its job is taken, driven over what the bench shows, and put back.
 use Rattle.std.specs.Prelude.{ℕ, ◌≡◌, Bool, List, Option, Some, None, Result, Ok, Err}
-use Rattle.carte_value.specs.Truths.{Truth}
 use Rattle.carte_effect.specs.declared.effect.Halt.{Halt}
 use Rattle.carte_effect.specs.declared.effect.Halt.TheVariants.{Stop}
 use Rattle.carte_effect.specs.declared.look.Stuck.{Stuck}
