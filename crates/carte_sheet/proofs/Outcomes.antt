@@ -1,153 +1,108 @@
--- Bytes have an outcome: they are a book, or have a fault.
-use Rattle.std.proofs.Common.{◌≡◌, ◌⊎◌, inl, inr, ℕ, ℤ, pos, negsuc, ◌+◌, ◌<◌, ◌≤◌, ◌^◌, ◌==◌, Bool, true, false, nat_lt, List, [], ◌∷◌, length, drop, Some, None, Result, Ok, Err, refl, subst, arith, FitsSigned, w64}
+-- Bytes have an outcome: that which the functions give.
+use Rattle.std.proofs.Common.{◌≡◌, ℕ, ℤ, pos, negsuc, ◌+◌, ◌<◌, ◌≤◌, ◌==◌, ◌&&◌, cond, Bool, true, false, nat_lt, List, [], ◌∷◌, length, drop, Result, Ok, Err, refl, sym, ◌∙◌, subst, arith, FitsSigned, w64}
 use Rattle.std.specs.Prelude.{MatchBool, slice_index}
 use Rattle.std.specs.Char.{digit_value}
+use Rattle.std.specs.List.{list_all}
 use Rattle.std.specs.Str.Parse.{AllDigits, without_leading_sign, signed_digits_value}
 use Rattle.std.specs.FinMap.{empty}
+use Rattle.std.proofs.lemmas.Bool.{false≢true, ltb-true, lt-ltb}
 use Rattle.std.proofs.lemmas.Bool.Decides.{nat_tests}
 use Rattle.carte_value.specs.Reading.{IsNumberText}
-use Rattle.carte_value.specs.declared.kind.Kind.{Kind}
 use Rattle.carte_value.specs.declared.kind.Kind.TheVariants.{Sheet}
 use Rattle.carte_value.specs.declared.value.Value.TheVariants.{Number, Text}
-use Rattle.carte_tree.specs.Tree.{Tree}
-use Rattle.carte_formula.specs.Machine.{wants}
-use Rattle.carte_formula.specs.Lexer.{idle, lexed}
-use Rattle.carte_formula.specs.Reading.{FormulaFault, BadToken, BadSyntax, TooDeep, TooLong, TooWide, NoMemory, ReadAs, tokens_read}
-use Rattle.carte_formula.specs.Whole.{Reads, IsTold, wide_from}
-use Rattle.carte_formula.proofs.Faults.{reads}
+use Rattle.carte_formula.specs.Whole.{reading}
+use Rattle.carte_formula.proofs.Round.{reads_reading, told_reading}
 use Rattle.carte_book.specs.Book.{Item, Book, input}
 use Rattle.carte_book.specs.declared.fault.BookFault.{BookFault}
 use Rattle.carte_book.specs.declared.fault.BookFault.TheVariants.{BadValue}
-use Rattle.carte_sheet.specs.Reading.{◌>>=◌, Content, Then, NoNumber, cell_of, text_of, ValueOf, at_cell, FormulaOf, ItemOf, put, ItemInto, FilledInto, FieldInto, FieldsInto, RowsInto, book_of, InRows, rows_of, BookOf}
-
-above : (a b : ℕ) → nat_lt a b ≡ true → a < b
-above a b e = grind (arith, nat_tests)
+use Rattle.carte_sheet.specs.Reading.{◌>>=◌, Content, Then, NoNumber, cell_of, text_of, ValueOf, at_cell, FormulaOf, ItemOf, put, ItemInto, FilledInto, FieldInto, FieldsInto, RowsInto, book_of, InRows, rows_of, BookOf, fits_i64, is_number, value_in, item_in, field_in, fields_in, rows_in, sheet_in}
 
 not_above : (a b : ℕ) → nat_lt a b ≡ false → b ≤ a
 not_above a b e = grind (arith, nat_tests)
 
-less_or_not : (a b : ℕ) → (a < b) ⊎ ¬ (a < b)
-less_or_not a b = go (nat_lt a b) refl
+-- ---- numbers
+
+both : (a b : Bool) → (a && b) ≡ true → (a ≡ true) × (b ≡ true)
+both true b e = (refl, e)
+both false b e = absurd (false≢true e)
+
+digits_from : (ds : List ℕ) → list_all (λ d. nat_lt (digit_value d) 10) ds ≡ true → AllDigits 10 ds
+digits_from [] e = tt
+digits_from (d ∷ ds) e = let parts = both _ _ e in (ltb-true _ _ parts.0, digits_from ds parts.1)
+
+digits_back : (ds : List ℕ) → AllDigits 10 ds → list_all (λ d. nat_lt (digit_value d) 10) ds ≡ true
+digits_back [] h = refl
+digits_back (d ∷ ds) h = rw (lt-ltb (digit_value d) 10 h.0) (digits_back ds h.1)
+
+fits_from : (z : ℤ) → fits_i64 z ≡ true → FitsSigned w64 z
+fits_from (pos n) e = record { sfits = ltb-true _ _ e }
+fits_from (negsuc n) e = record { sfits = ltb-true _ _ e }
+
+fits_back : (z : ℤ) → FitsSigned w64 z → fits_i64 z ≡ true
+fits_back (pos n) h = lt-ltb _ _ h.sfits
+fits_back (negsuc n) h = lt-ltb _ _ h.sfits
+
+number_from : (text : List ℕ) → is_number text ≡ true → IsNumberText text (signed_digits_value 10 text)
+number_from text e =
+    let parts = both _ _ e in
+    let numeral = both _ _ parts.0 in
+    ((ltb-true _ _ numeral.0, digits_from (without_leading_sign text) numeral.1), fits_from (signed_digits_value 10 text) parts.1, refl)
+
+number_back : (text : List ℕ) (n : ℤ) → IsNumberText text n → is_number text ≡ true
+number_back text n h =
+    let fits = subst (FitsSigned w64) h.2 h.1 in
+    rw (lt-ltb 0 (length (without_leading_sign text)) h.0.0, digits_back (without_leading_sign text) h.0.1, fits_back (signed_digits_value 10 text) fits) refl
+
+no_number : (text : List ℕ) → is_number text ≡ false → NoNumber text
+no_number text e = λ n h. false≢true (sym e ∙ number_back text n h)
+
+-- ---- a field
+
+value_some : (k text : List ℕ) → ValueOf k text (value_in k text)
+value_some k text = go (is_number text) refl (nat_lt 65536 (length text)) refl
   where
-    go : (t : Bool) → nat_lt a b ≡ t → (a < b) ⊎ ¬ (a < b)
-    go true e = inl (above a b e)
-    go false e = inr (λ h. omega (arith, h, not_above a b e))
+    go : (a : Bool) → is_number text ≡ a → (b : Bool) → nat_lt 65536 (length text) ≡ b
+        → ValueOf k text (cond a (Ok (input (Number (signed_digits_value 10 text)))) (cond b (Err (BadValue k)) (Ok (input (Text text)))))
+    go true is b e = (Number (signed_digits_value 10 text), number_from text is, refl)
+    go false is true e = ((no_number text is, ltb-true 65536 (length text) e), refl)
+    go false is false e = (Text text, (no_number text is, not_above 65536 (length text) e, refl), refl)
 
--- ---- formulas
+formula_some : (k text : List ℕ) → FormulaOf k text (at_cell k (reading Sheet text))
+formula_some k text = (reading Sheet text, reads_reading Sheet text, told_reading Sheet text, refl)
 
-abbrev Told : Kind → List ℕ → Type 0
-Told q bytes = (r : Result Tree FormulaFault) × Reads q bytes r × IsTold r
-
-some_reading : (q : Kind) (bytes : List ℕ) → Told q bytes
-some_reading q bytes = go (nat_lt 4096 (length bytes)) refl
+item_some : (k text : List ℕ) → ItemOf k text (item_in k text)
+item_some k text = go (slice_index text 0 == 61)
   where
-    go : (t : Bool) → nat_lt 4096 (length bytes) ≡ t → Told q bytes
-    go true e = (Err (TooLong (length bytes)), (above 4096 (length bytes) e, refl), tt)
-    go false e =
-        let low = not_above 4096 (length bytes) e in
-        elim (lexed q idle 0 bytes) as (λ l. lexed q idle 0 bytes ≡ l → Told q bytes) [
-          | Err place ↦ λ is. (Err (BadToken place), (low, is), tt)
-          | Ok ps ↦ λ is. elim (tokens_read (wants []) ps (length bytes)) as (λ r. ReadAs ps (length bytes) r → Told q bytes) [
-            | Ok tree ↦ λ read. elim (wide_from 0 ps) as (λ w. wide_from 0 ps ≡ w → Told q bytes) [
-              | None ↦ λ w. (Ok tree, (low, ps, is, read, w), tt)
-              | Some place ↦ λ w. (Err (TooWide place), (low, ps, is, tree, read, w), tt)
-            ] refl
-            | Err fault ↦ elim fault as (λ f. ReadAs ps (length bytes) (Err f) → Told q bytes) [
-              | BadSyntax place ↦ λ read. (Err (BadSyntax place), (low, ps, is, read), tt)
-              | TooDeep place ↦ λ read. (Err (TooDeep place), (low, ps, is, read), tt)
-              | NoMemory ↦ λ read. absurd read
-              | BadToken place ↦ λ read. absurd read
-              | TooLong place ↦ λ read. absurd read
-              | TooWide place ↦ λ read. absurd read
-            ]
-          ] (reads ps (length bytes))
-        ] refl
+    go : (b : Bool) → (λ (o : Result Item BookFault). MatchBool b (FormulaOf k (drop 1 text) o) (ValueOf k text o)) (cond b (at_cell k (reading Sheet (drop 1 text))) (value_in k text))
+    go true = formula_some k (drop 1 text)
+    go false = value_some k text
 
-some_formula : (k text : List ℕ) → (o : Result Item BookFault) × FormulaOf k text o
-some_formula k text = let r = some_reading Sheet text in (at_cell k r.0, (r.0, r.1, r.2, refl))
+then_some : {A B : Type 0} (r : Result A BookFault) (f : A → Result B BookFault) (P : A → Result B BookFault → Type 0) → ((a : A) → P a (f a)) → Then r P (r >>= f)
+then_some (Ok a) f P h = h a
+then_some (Err fault) f P h = refl
 
--- ---- numbers and texts
+into_some : (k text : List ℕ) (m : Content) → ItemInto k text m (put k m (item_in k text))
+into_some k text m = (item_in k text, item_some k text, refl)
 
-digits_or_not : (ds : List ℕ) → AllDigits 10 ds ⊎ ¬ (AllDigits 10 ds)
-digits_or_not [] = inl tt
-digits_or_not (c ∷ cs) = go (less_or_not (digit_value c) 10) (digits_or_not cs)
-  where
-    go : (digit_value c < 10) ⊎ ¬ (digit_value c < 10) → AllDigits 10 cs ⊎ ¬ (AllDigits 10 cs) → AllDigits 10 (c ∷ cs) ⊎ ¬ (AllDigits 10 (c ∷ cs))
-    go (inl d) (inl ds) = inl (d, ds)
-    go (inl d) (inr none) = inr (λ h. none h.1)
-    go (inr none) o = inr (λ h. none h.0)
+filled_some : (k field : List ℕ) (m : Content) → FilledInto k field m (text_of k field >>= (λ text. put k m (item_in k text)))
+filled_some k field m = then_some (text_of k field) (λ text. put k m (item_in k text)) (λ text. ItemInto k text m) (λ text. into_some k text m)
 
-fits_or_not : (z : ℤ) → FitsSigned w64 z ⊎ ¬ (FitsSigned w64 z)
-fits_or_not (pos n) = go (less_or_not n (2 ^ 63))
-  where
-    go : (n < 2 ^ 63) ⊎ ¬ (n < 2 ^ 63) → FitsSigned w64 (pos n) ⊎ ¬ (FitsSigned w64 (pos n))
-    go (inl h) = inl (record { sfits = h })
-    go (inr none) = inr (λ f. none f.sfits)
-fits_or_not (negsuc n) = go (less_or_not n (2 ^ 63))
-  where
-    go : (n < 2 ^ 63) ⊎ ¬ (n < 2 ^ 63) → FitsSigned w64 (negsuc n) ⊎ ¬ (FitsSigned w64 (negsuc n))
-    go (inl h) = inl (record { sfits = h })
-    go (inr none) = inr (λ f. none f.sfits)
+field_some : (r c : ℕ) (field : List ℕ) (m : Content) → FieldInto r c field m (field_in r c field m)
+field_some r c [] m = refl
+field_some r c (b ∷ bs) m = then_some (cell_of r c) (λ k. text_of k (b ∷ bs) >>= (λ text. put k m (item_in k text))) (λ k. FilledInto k (b ∷ bs) m) (λ k. filled_some k (b ∷ bs) m)
 
-number_or_not : (text : List ℕ) → ((n : ℤ) × IsNumberText text n) ⊎ NoNumber text
-number_or_not text = go (less_or_not 0 (length (without_leading_sign text))) (digits_or_not (without_leading_sign text)) (fits_or_not (signed_digits_value 10 text))
-  where
-    go : (0 < length (without_leading_sign text)) ⊎ ¬ (0 < length (without_leading_sign text))
-        → AllDigits 10 (without_leading_sign text) ⊎ ¬ (AllDigits 10 (without_leading_sign text))
-        → FitsSigned w64 (signed_digits_value 10 text) ⊎ ¬ (FitsSigned w64 (signed_digits_value 10 text))
-        → ((n : ℤ) × IsNumberText text n) ⊎ NoNumber text
-    go (inl some) (inl digits) (inl fits) = inl (signed_digits_value 10 text, ((some, digits), fits, refl))
-    go (inl some) (inl digits) (inr none) = inr (λ n h. none (subst (FitsSigned w64) h.2 h.1))
-    go (inl some) (inr none) o = inr (λ n h. none h.0.1)
-    go (inr none) d o = inr (λ n h. none h.0.0)
+-- ---- all of them
 
-some_value : (k text : List ℕ) → (o : Result Item BookFault) × ValueOf k text o
-some_value k text = go (number_or_not text) (nat_lt 65536 (length text)) refl
-  where
-    go : ((n : ℤ) × IsNumberText text n) ⊎ NoNumber text → (t : Bool) → nat_lt 65536 (length text) ≡ t → (o : Result Item BookFault) × ValueOf k text o
-    go (inl p) t e = (Ok (input (Number p.0)), (Number p.0, p.1, refl))
-    go (inr none) true e = (Err (BadValue k), ((none, above 65536 (length text) e), refl))
-    go (inr none) false e = (Ok (input (Text text)), (Text text, (none, not_above 65536 (length text) e, refl), refl))
+fields_some : (r c : ℕ) (fields : List (List ℕ)) (m : Content) → FieldsInto r c fields m (fields_in r c fields m)
+fields_some r c [] m = refl
+fields_some r c (f ∷ fs) m = (field_in r c f m, field_some r c f m, then_some (field_in r c f m) (fields_in r (c + 1) fs) (FieldsInto r (c + 1) fs) (fields_some r (c + 1) fs))
 
--- ---- fields, rows and bytes
+rows_some : (r : ℕ) (rows : List (List (List ℕ))) (m : Content) → RowsInto r rows m (rows_in r rows m)
+rows_some r [] m = refl
+rows_some r (fs ∷ rows) m = (fields_in r 1 fs m, fields_some r 1 fs m, then_some (fields_in r 1 fs m) (rows_in (r + 1) rows) (RowsInto (r + 1) rows) (rows_some (r + 1) rows))
 
-some_then : {A B : Type 0} (r : Result A BookFault) (P : A → Result B BookFault → Type 0) → ((a : A) → (o : Result B BookFault) × P a o) → (o : Result B BookFault) × Then r P o
-some_then (Ok a) P f = f a
-some_then (Err fault) P f = (Err fault, refl)
+book_some : (rows : List (List (List ℕ))) → InRows rows (rows_in 1 rows empty >>= book_of)
+book_some rows = (rows_in 1 rows empty, rows_some 1 rows empty, refl)
 
-some_item : (k text : List ℕ) → (o : Result Item BookFault) × ItemOf k text o
-some_item k text = go (slice_index text 0 == 61)
-  where
-    go : (b : Bool) → (o : Result Item BookFault) × MatchBool b (FormulaOf k (drop 1 text) o) (ValueOf k text o)
-    go true = some_formula k (drop 1 text)
-    go false = some_value k text
-
-some_into : (k text : List ℕ) (m : Content) → (o : Result Content BookFault) × ItemInto k text m o
-some_into k text m = let r = some_item k text in (put k m r.0, (r.0, r.1, refl))
-
-some_filled : (k field : List ℕ) (m : Content) → (o : Result Content BookFault) × FilledInto k field m o
-some_filled k field m = some_then (text_of k field) (λ text. ItemInto k text m) (λ text. some_into k text m)
-
-some_field : (r c : ℕ) (field : List ℕ) (m : Content) → (o : Result Content BookFault) × FieldInto r c field m o
-some_field r c [] m = (Ok m, refl)
-some_field r c (b ∷ bs) m = some_then (cell_of r c) (λ k. FilledInto k (b ∷ bs) m) (λ k. some_filled k (b ∷ bs) m)
-
-some_row : (r c : ℕ) (fields : List (List ℕ)) (m : Content) → (o : Result Content BookFault) × FieldsInto r c fields m o
-some_row r c [] m = (Ok m, refl)
-some_row r c (f ∷ fs) m =
-    let x = some_field r c f m in
-    let o = some_then x.0 (FieldsInto r (c + 1) fs) (some_row r (c + 1) fs) in
-    (o.0, (x.0, x.1, o.1))
-
-some_rows : (r : ℕ) (rows : List (List (List ℕ))) (m : Content) → (o : Result Content BookFault) × RowsInto r rows m o
-some_rows r [] m = (Ok m, refl)
-some_rows r (fs ∷ rows) m =
-    let x = some_row r 1 fs m in
-    let o = some_then x.0 (RowsInto (r + 1) rows) (some_rows (r + 1) rows) in
-    (o.0, (x.0, x.1, o.1))
-
-some_book : (rows : List (List (List ℕ))) → (o : Result Book BookFault) × InRows rows o
-some_book rows = let r = some_rows 1 rows empty in (r.0 >>= book_of, (r.0, r.1, refl))
-
-pub some_sheet : (bytes : List ℕ) → (o : Result Book BookFault) × BookOf bytes o
-some_sheet bytes = some_then (rows_of bytes) InRows some_book
+pub sheet_some : (bytes : List ℕ) → BookOf bytes (sheet_in bytes)
+sheet_some bytes = then_some (rows_of bytes) (λ rows. rows_in 1 rows empty >>= book_of) InRows book_some

@@ -1,7 +1,9 @@
 -- Which bytes are a sheet, and which book it is. Rows and columns are counted from 1.
-use Rattle.std.specs.Prelude.{ℕ, ℤ, ◌≡◌, ◌<◌, ◌≤◌, ◌+◌, ◌==◌, nat_lt, List, [], ◌∷◌, length, drop, slice_index, MatchBool, Result, Ok, Err, if◌then◌else◌}
+use Rattle.std.specs.Prelude.{ℕ, ℤ, pos, negsuc, Bool, ◌≡◌, ◌<◌, ◌≤◌, ◌+◌, ◌^◌, ◌==◌, ◌&&◌, nat_lt, List, [], ◌∷◌, length, drop, slice_index, MatchBool, Result, Ok, Err, if◌then◌else◌}
 use Rattle.std.specs.Str.{is_utf8}
-use Rattle.std.specs.List.{starts_with}
+use Rattle.std.specs.Char.{digit_value}
+use Rattle.std.specs.Str.Parse.{without_leading_sign, signed_digits_value}
+use Rattle.std.specs.List.{list_all, starts_with}
 use Rattle.std.specs.FinMap.{FinMap, insert, empty, entries}
 use Rattle.csv.specs.Reading.{default_config, records, strip_bom}
 use Rattle.carte_value.specs.declared.kind.Kind.TheVariants.{Sheet}
@@ -12,7 +14,7 @@ use Rattle.carte_value.specs.Names.{name_cmp}
 use Rattle.carte_value.specs.Reading.{IsNumberText}
 use Rattle.carte_tree.specs.Tree.{Tree}
 use Rattle.carte_tree.specs.declared.fault.FormulaFault.{FormulaFault}
-use Rattle.carte_formula.specs.Whole.{Reads, IsTold}
+use Rattle.carte_formula.specs.Whole.{Reads, IsTold, reading}
 use Rattle.carte_book.specs.Book.{Item, input, rule, Book, book_view}
 use Rattle.carte_book.specs.declared.book.Book.{Book as CodeBook}
 use Rattle.carte_book.specs.declared.fault.Which.TheVariants.{Bytes, Rows, Columns, Keys}
@@ -124,8 +126,40 @@ rows_of bytes = if nat_lt 16777216 (length bytes) then Err (Limit Bytes 16777216
 abbrev pub BookOf : List ℕ → Result Book BookFault → Type 0
 BookOf bytes o = Then (rows_of bytes) InRows o
 
--- what a reader answers: that, but that memory may run out
+-- ---- the same as functions
+
+-- digits behind a sign or none, whose value fits i64
+abbrev pub fits_i64 : ℤ → Bool
+fits_i64 (pos n) = nat_lt n (2 ^ 63)
+fits_i64 (negsuc n) = nat_lt n (2 ^ 63)
+
+abbrev pub is_number : List ℕ → Bool
+is_number text = (nat_lt 0 (length (without_leading_sign text)) && list_all (λ d. nat_lt (digit_value d) 10) (without_leading_sign text)) && fits_i64 (signed_digits_value 10 text)
+
+abbrev pub value_in : List ℕ → List ℕ → Result Item BookFault
+value_in k text = if is_number text then Ok (input (Number (signed_digits_value 10 text))) else (if nat_lt 65536 (length text) then Err (BadValue k) else Ok (input (Text text)))
+
+abbrev pub item_in : List ℕ → List ℕ → Result Item BookFault
+item_in k text = if slice_index text 0 == 61 then at_cell k (reading Sheet (drop 1 text)) else value_in k text
+
+abbrev pub field_in : ℕ → ℕ → List ℕ → Content → Result Content BookFault
+field_in r c [] m = Ok m
+field_in r c (b ∷ bs) m = cell_of r c >>= (λ k. text_of k (b ∷ bs) >>= (λ text. put k m (item_in k text)))
+
+abbrev pub fields_in : ℕ → ℕ → List (List ℕ) → Content → Result Content BookFault
+fields_in r c [] m = Ok m
+fields_in r c (f ∷ fs) m = field_in r c f m >>= fields_in r (c + 1) fs
+
+abbrev pub rows_in : ℕ → List (List (List ℕ)) → Content → Result Content BookFault
+rows_in r [] m = Ok m
+rows_in r (fs ∷ rows) m = fields_in r 1 fs m >>= rows_in (r + 1) rows
+
+abbrev pub sheet_in : List ℕ → Result Book BookFault
+sheet_in bytes = rows_of bytes >>= (λ rows. rows_in 1 rows empty >>= book_of)
+
+-- ---- what a reader answers: that, but that memory may run out for bytes that aren't too many
+
 abbrev pub IsRead : List ℕ → Result CodeBook BookFault → Type 0
 IsRead bytes (Ok b) = BookOf bytes (Ok (book_view b))
-IsRead bytes (Err NoMemory) = Unit {0}
+IsRead bytes (Err NoMemory) = length bytes ≤ 16777216
 IsRead bytes (Err fault) = BookOf bytes (Err fault)

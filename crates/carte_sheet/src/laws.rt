@@ -2,7 +2,7 @@
 ghost use Rattle.std.specs.Prelude.{◌≡◌, ℕ, List, Result, Err};
 ghost use Rattle.carte_book.specs.Book.{Book};
 ghost use Rattle.carte_book.specs.declared.fault.BookFault.{BookFault};
-ghost use Rattle.carte_sheet.specs.Reading.{BookOf};
+ghost use Rattle.carte_sheet.specs.Reading.{BookOf, sheet_in};
 ghost use Rattle.carte_sheet.specs.Steps.{IsOfBytes};
 
 /// Bytes are one book at most, or have one fault.
@@ -11,9 +11,10 @@ pub fn sheet_is_unique()
     ensures { (bytes : List ℕ) (r s : Result Book BookFault) → BookOf bytes r → BookOf bytes s → r ≡ s }
 {}
 
-/// Bytes are a book, or have a fault.
-pub fn sheet_is_told()
-    ensures { (bytes : List ℕ) → (r : Result Book BookFault) × BookOf bytes r }
+/// Each list of bytes is a book or has a fault: what the function `sheet_in` gives.
+#[tactic(auto, using(crate::proofs::Outcomes::sheet_some))]
+pub fn sheet_some()
+    ensures { (bytes : List ℕ) → BookOf bytes (sheet_in bytes) }
 {}
 
 /// The want of memory is never what bytes are, nor that in reading a formula.

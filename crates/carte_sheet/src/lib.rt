@@ -3,7 +3,7 @@
 //! Which records a text has, and which fields, is a definition of the crate `csv`; which book they are, or the first
 //! fault why they are none, is ours: it goes by the records in order, and by the fields of each. Since the reading of a
 //! formula and that of a number are relations, so is what comes of a field, and of the bytes as a whole; that bytes
-//! have one outcome, and one at most, are laws (`sheet_is_told`, `sheet_is_unique`). So each fault comes exactly where
+//! have one outcome, and one at most, are laws (`sheet_some`, `sheet_is_unique`). So each fault comes exactly where
 //! the definition gives it, and `NoMemory` alone is free: the definition gives it for no bytes (`fault_is_of_bytes`).
 //!
 //! Records are read one after the other, and none is kept: a text of 16 megabytes may have millions. The faults of all
@@ -25,5 +25,5 @@ mod sheet_rows;
 #[cfg(test)]
 mod tests;
 
-pub use laws::{fault_is_of_bytes, sheet_is_told, sheet_is_unique};
+pub use laws::{fault_is_of_bytes, sheet_is_unique, sheet_some};
 pub use read::read_sheet;

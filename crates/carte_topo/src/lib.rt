@@ -23,6 +23,7 @@
 //! come to by every path, of which there may be exponentially many; a sorted set of whole paths, which holds n paths of n names.
 #![tactic(auto)]
 
+mod building;
 mod dynamic_paths;
 mod plan;
 mod search;
@@ -30,5 +31,6 @@ mod search;
 mod tests;
 mod walk;
 
+pub use building::build;
 pub use dynamic_paths::dynamic_path;
 pub use plan::{PlanFault, order};

@@ -1,0 +1,6 @@
+pub mod Puts
+pub mod Cores
+pub mod Turning
+pub mod Places
+pub mod Ways
+pub mod Whys

@@ -1,0 +1,12 @@
+-- What a bench holds.
+use Rattle.std.specs.HashMap.{get}
+use Rattle.carte_value.specs.Names.{name_eq}
+use Rattle.carte_book.specs.Book.{Book, book_view}
+use Rattle.carte_bench.specs.declared.bench.Bench.{Bench}
+use Rattle.carte_bench.specs.Spots.{Spots}
+
+abbrev pub spots_of : {J : Type 0} → Bench J → Spots J
+spots_of b k = get name_eq b.slots k
+
+abbrev pub book_of : {J : Type 0} → Bench J → Book
+book_of b = book_view b.book.now

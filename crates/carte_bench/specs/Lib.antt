@@ -1,0 +1,6 @@
+pub mod Spots
+pub mod Steps
+pub mod Held
+pub mod Turns
+pub mod Waits
+pub mod Ended

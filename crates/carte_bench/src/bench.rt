@@ -1,0 +1,103 @@
+ghost use Rattle.std.specs.Prelude.{◌≡◌, Some, None, OnOk, OnErr, IfOk};
+ghost use Rattle.carte_book.specs.Book.{book_view};
+ghost use Rattle.carte_bench.specs.Held.{spots_of, book_of};
+ghost use Rattle.carte_bench.specs.Spots.{PutAt, IsSame, Takes, place_of, slot_after};
+ghost use Rattle.carte_bench.specs.declared.slot.Slot.TheVariants as slot;
+
+use crate::{Place, Slot};
+use carte_book::Book;
+use carte_effect::{Job, Made, Stuck};
+use carte_value::{Name, NoMemory};
+use indexmap::IndexMap;
+use std::alloc::Global;
+use std::mem;
+
+/// The jobs of a build, what is done, and who waits for whom. A scheduler takes jobs that are ready, drives each over the
+/// bench, and puts it back with what it came to.
+#[derive(Drop)]
+pub struct Bench<'b, J> {
+    pub(crate) book: &'b Book,
+    pub(crate) alloc: Global,
+    pub(crate) slots: IndexMap<Name, Slot<J>>,
+}
+
+impl<'b, J: Job + Drop> Bench<'b, J> {
+    /// A bench on which nothing was demanded. It takes no memory.
+    pub fn new(alloc: Global, book: &'b Book) -> Bench<'b, J>
+        ensures empty { IsSame (λ q. None) (spots_of result) }
+        ensures book { book_of result ≡ book_view book.now }
+    {
+        Bench {
+            book,
+            alloc,
+            slots: IndexMap::new(alloc),
+        }
+    }
+
+    /// Puts a job on the bench. Its key is a rule that the bench doesn't know. Where there is no memory the job is dropped.
+    pub fn demand(&mut self, job: J) -> Result<(), NoMemory>
+        requires unknown { spots_of self.old (J.name job) ≡ None }
+        ensures demanded { OnOk result (PutAt (spots_of self.old) (spots_of self.new) (J.name job) (slot.Ready job)) }
+        ensures refused { OnErr result (IsSame (spots_of self.old) (spots_of self.new)) }
+        ensures book { book_of self.new ≡ book_of self.old }
+    {
+        let name = job.key().copy(self.alloc)?;
+        match self.slots.insert(name, Slot::Ready(job)) {
+            Ok(_) => Ok(()),
+            Err(_) => Err(NoMemory),
+        }
+    }
+
+    /// Where a name stands.
+    pub fn place(&self, alloc: Global, name: &Name) -> Result<Place, NoMemory>
+        ensures { IfOk result (λ p. p ≡ place_of (spots_of self.now) (spots_of self.now name.now)) }
+    {
+        match self.slots.get(name) {
+            None => Ok(Place::Unknown),
+            Some(Slot::Ready(_)) => Ok(Place::Ready),
+            Some(Slot::Out) => Ok(Place::Out),
+            Some(Slot::Done(_)) => Ok(Place::Done),
+            Some(Slot::Stopped(_, at)) => {
+                if self.is_done(at) {
+                    Ok(Place::Ready)
+                } else {
+                    Ok(Place::WaitsFor(at.copy(alloc)?))
+                }
+            }
+        }
+    }
+
+    /// Takes a job that is ready: one that wasn't driven yet, or whose stop is done by now.
+    pub fn take(&mut self, name: &Name) -> Option<J>
+        ensures takes { Takes (spots_of self.old) (spots_of self.new) name.now result }
+        ensures book { book_of self.new ≡ book_of self.old }
+    {
+        if !self.is_ready(name) {
+            return None;
+        }
+        match self.slots.get_mut(name) {
+            Some(slot) => match mem::replace(slot, Slot::Out) {
+                Slot::Ready(job) => Some(job),
+                Slot::Stopped(job, _) => Some(job),
+                _ => unreachable!(),
+            },
+            None => unreachable!(),
+        }
+    }
+
+    /// Puts a job back that was taken, with what its drive came to over the book's inputs and any part of what is done.
+    /// It takes no memory.
+    pub fn put_back(&mut self, job: J, outcome: Result<Made, Stuck>)
+        requires out { spots_of self.old (J.name job) ≡ Some slot.Out }
+        ensures put { PutAt (spots_of self.old) (spots_of self.new) (J.name job) (slot_after job outcome) }
+        ensures book { book_of self.new ≡ book_of self.old }
+    {
+        if let Some(slot) = self.slots.get_mut(job.key()) {
+            *slot = match outcome {
+                Ok(made) => Slot::Done(made),
+                Err(Stuck::NotDone(name)) => Slot::Stopped(job, name),
+                Err(Stuck::Missing(name)) => Slot::Stopped(job, name),
+            };
+        }
+    }
+}

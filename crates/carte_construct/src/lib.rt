@@ -1,0 +1,88 @@
+//! Constructive traces: a key has the result of any earlier trace whose links are those that the needs have now.
+//!
+//! The job is that of all rebuilders which compare needs (`Tries`): here it gets the checks of all traces of the key whose
+//! result is in the store, the newest first. So a key whose inputs are set back has its old result again, and needs no
+//! entry for it. Of traces with the same names one alone can hold; so which is compared first is a matter of cost, and the
+//! newest is the likeliest.
+//!
+//! Turned down: one look-up by the digest of all links, which finds a trace in one step, but only once each need has its
+//! value, and so has to know the needs before it looks.
+#![tactic(auto)]
+
+ghost use Rattle.std.specs.Prelude.{◌≡◌, option_map, IfOk};
+ghost use Rattle.carte_record.specs.Kept.{kept_view};
+ghost use Rattle.carte_record.specs.declared.way.Way.TheVariants.{Constructive};
+ghost use Rattle.carte_rebuild.specs.Traced.{AreTried};
+
+use carte_book::Book;
+use carte_note::{Finished, Method, note_finished};
+use carte_rebuild::{Rebuilder, Tries, checks_of};
+use carte_record::{Batch, Kept, Way};
+use carte_task::Check;
+use carte_value::{Name, NoMemory};
+use std::alloc::Global;
+
+/// Reuses the result of any trace of a key whose links still have their digests.
+#[derive(Clone, Copy, Debug)]
+pub struct Construct;
+
+// The checks of all traces of the key.
+fn kept_checks(alloc: Global, kept: &Kept, key: &Name) -> Result<Vec<Check>, NoMemory>
+    ensures { IfOk result (λ checks. AreTried Constructive (kept_view kept.now) key.now checks.items) }
+{
+    checks_of(alloc, &kept.constructive, &kept.values, key, None)
+}
+
+impl Rebuilder for Construct {
+    ghost use Rattle.carte_sound.specs.Held.{tracing};
+    ghost use Rattle.carte_rebuild.specs.Traced.{IsTracedJob};
+    ghost use Rattle.carte_rebuild.proofs.TracedJobs.{traced_fits, traced_goes};
+    ghost use Rattle.carte_rebuild.proofs.TracedChecks.{of_constructive};
+
+    type Job = Tries;
+
+    ghost how = { λ r. tracing Constructive };
+
+    ghost begun = { λ r K b t k p. IsTracedJob Constructive K b t k p };
+
+    fn start(
+        &self,
+        alloc: Global,
+        kept: &Kept,
+        book: &Book,
+        key: &Name,
+    ) -> Result<Tries, NoMemory> {
+        let checks = kept_checks(alloc, kept, key)?;
+        Tries::of(alloc, book, key, checks)
+    }
+
+    fn note(
+        &self,
+        alloc: Global,
+        kept: &Kept,
+        book: &Book,
+        finished: &Finished,
+        batch: &mut Batch,
+    ) -> Result<(), NoMemory> {
+        note_finished(
+            alloc,
+            Method::Tracing(Way::Constructive),
+            kept,
+            book,
+            finished,
+            batch,
+        )
+    }
+
+    fn looks_beneath(&self) -> bool {
+        true
+    }
+
+    fn gathers_beneath(&self) -> bool {
+        false
+    }
+
+    ghost fits = { λ r K b H t k p base job. traced_fits Constructive of_constructive K b H base t k p job };
+
+    ghost goes_on = { λ r K b H t k p part a step q base job grown is_part gives. traced_goes Constructive of_constructive K b H base t k p job part grown is_part a step q gives };
+}

@@ -1,0 +1,3 @@
+pub mod Schedulers
+pub mod Answers
+pub mod Building

@@ -1,0 +1,32 @@
+use carte_book::Reason;
+use carte_record::Batch;
+use carte_value::{Names, Values};
+
+/// What a build has made.
+#[derive(Debug, Drop)]
+pub struct Built {
+    /// The targets' values, in the order of the targets.
+    pub values: Values,
+    /// The rules whose tasks ran, in name order.
+    pub ran: Names,
+    /// How many tasks were started and didn't end.
+    pub given_up: u64,
+    /// How many rules were finished without a run.
+    pub reused: u64,
+}
+
+/// How a build comes out.
+#[derive(Debug, Drop)]
+pub enum Answer {
+    Built(Built),
+    /// Some target has no value, for this reason.
+    Refused(Reason),
+}
+
+/// A build that was worked out and not committed yet.
+#[derive(Drop)]
+pub struct Plan {
+    /// What it brings to the state; empty where it changes nothing.
+    pub batch: Batch,
+    pub answer: Answer,
+}

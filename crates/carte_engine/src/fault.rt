@@ -1,0 +1,30 @@
+use carte_book::Reason;
+use thiserror::Error;
+
+/// Why a build has no values to show.
+#[derive(Debug, Drop, Error)]
+pub enum BuildFault {
+    /// Some target has no value. What was finished is kept.
+    #[error("the build is refused")]
+    Refused(Reason),
+    /// A call of the disk failed, and the disk counted it. The engine is broken.
+    #[error("the state's device failed")]
+    DiskFault,
+    /// The state would need more bytes than its limit. Nothing has changed.
+    #[error("state full: {needed} bytes needed, limit {limit}")]
+    StateFull { needed: u64, limit: u64 },
+    /// There was no memory. Nothing has changed.
+    #[error("out of memory")]
+    NoMemory,
+}
+
+impl From<carte_value::NoMemory> for BuildFault {
+    ghost use Rattle.std.specs.Prelude.{◌≡◌};
+    ghost use Rattle.carte_engine.specs.declared.fault.BuildFault.TheVariants.{NoMemory as OutOfMemory};
+
+    ghost from_gives = { λ _ fault. fault ≡ OutOfMemory };
+
+    fn from(_: carte_value::NoMemory) -> BuildFault {
+        BuildFault::NoMemory
+    }
+}

@@ -1,0 +1,8 @@
+/// The order in which a build works out its rules.
+#[derive(Clone, Copy, Debug, PartialEq, Eq)]
+pub enum Scheduler {
+    /// Each rule behind those that its formula refers to. Formulas that choose what they refer to are refused.
+    Topological,
+    /// The targets one after another; a rule that needs another one waits until that is done.
+    Suspending,
+}

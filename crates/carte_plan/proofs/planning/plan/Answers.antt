@@ -1,0 +1,30 @@
+use Rattle.std.proofs.Common.{◌≡◌, ℕ, List, Result, Ok, Err}
+use Rattle.std.specs.Prelude.{IfOk}
+use Rattle.carte_book.specs.Book.{book_view}
+use Rattle.carte_record.specs.declared.batch.Batch.{Batch}
+use Rattle.carte_record.specs.Kept.{SomeKept}
+use Rattle.carte_sound.specs.Treated.{IsDoneInOrder, IsDoneSuspending}
+use Rattle.carte_plan.proofs.Leading.{leads_by}
+use Rattle.carte_plan.proofs.planning.plan.Goals as goal
+
+if_ok : {A E : Type 0} {P Q : A → Type 0} (r : Result A E) → ((x : A) → P x → Q x) → IfOk r P → IfOk r Q
+if_ok (Ok x) f p = f x p
+if_ok (Err e) f p = p
+
+pub returns-clause-in_order : goal.returns-clause-in_order
+returns-clause-in_order g c K targets begins built =
+    let h = g.R.Rebuilder.how c.args.rebuilder.now in
+    let b = book_view c.args.book.now in
+    if_ok c.made.result (λ B plans. leads_by h (λ (M : SomeKept) (k : List ℕ). IsDoneInOrder b targets k) K b c.args.begun.now.marks c.args.finished.now B begins.marked plans built) (c.made.ensures.plans K begins)
+
+pub returns-clause-suspending : goal.returns-clause-suspending
+returns-clause-suspending g c K targets begins built =
+    let h = g.R.Rebuilder.how c.args.rebuilder.now in
+    let b = book_view c.args.book.now in
+    if_ok c.made.result (λ B plans. leads_by h (λ (M : SomeKept) (k : List ℕ). IsDoneSuspending h M b targets k) K b c.args.begun.now.marks c.args.finished.now B begins.marked plans built) (c.made.ensures.plans K begins)
+
+pub returns-clause-refused : goal.returns-clause-refused
+returns-clause-refused g c K begins built =
+    let h = g.R.Rebuilder.how c.args.rebuilder.now in
+    let b = book_view c.args.book.now in
+    if_ok c.made.result (λ B plans. leads_by h (λ (M : SomeKept) (k : List ℕ). ⊥) K b c.args.begun.now.marks c.args.finished.now B begins.marked plans built) (c.made.ensures.plans K begins)

@@ -1,0 +1,133 @@
+ghost use Rattle.std.specs.Prelude.{◌≡◌, ◌∷◌, ◌++◌, [], ℕ, List, IfOk, OnOk, is_none, length, not, ◌&&◌, ◌==◌, if◌then◌else◌};
+ghost use Rattle.carte_book.specs.Book.{book_view};
+ghost use Rattle.carte_book.specs.Digest.{rules_digest_of};
+ghost use Rattle.carte_record.specs.declared.start.Start.TheVariants.{GoOn, Anew};
+ghost use Rattle.carte_record.specs.Kept.{SomeKept, kept_view};
+ghost use Rattle.carte_sound.specs.LeadsTo.{LeadsInOrder, LeadsRefused, LeadsSuspending, marks_left};
+ghost use Rattle.carte_sound.specs.Begun.{begin};
+ghost use Rattle.carte_sound.specs.Treated.{IsDoneInOrder, IsDoneSuspending};
+ghost use Rattle.carte_note.specs.Lists.{finished_of};
+ghost use Rattle.carte_note.specs.Notes.{AreUnmarked};
+ghost use Rattle.carte_note.specs.Right.{finishes_of};
+ghost use Rattle.carte_mark.specs.Bases.{BeginsWith};
+ghost use Rattle.carte_plan.specs.Planned.{IsBuilt, NotesAll, Plans, opening};
+
+use carte_book::Book;
+use carte_mark::Begun;
+use carte_note::FinishedList;
+use carte_rebuild::Rebuilder;
+use carte_record::{Batch, Kept, Start};
+use carte_value::{Digest, Name, Names, NoMemory};
+use std::alloc::Global;
+
+/// The batch of a build. `rules` is the digest of the book's rules.
+pub fn plan<R: Rebuilder>(
+    alloc: Global,
+    rebuilder: &R,
+    begun: &Begun<'_>,
+    rules: Digest,
+    book: &Book,
+    finished: &FinishedList,
+) -> Result<Batch, NoMemory>
+    requires { rules ≡ rules_digest_of (book_view book.now) }
+    ensures unmarked { IfOk result (λ batch. AreUnmarked batch.entries) }
+    ensures in_order { let b = book_view book.now in let h = R.how rebuilder.now in (K : SomeKept) (targets : List (List ℕ)) → BeginsWith K b begun.now → IsBuilt h K b begun.now.marks (IsDoneInOrder b targets) finished.now → IfOk result (LeadsInOrder h K b targets) }
+    ensures suspending { let b = book_view book.now in let h = R.how rebuilder.now in (K : SomeKept) (targets : List (List ℕ)) → BeginsWith K b begun.now → IsBuilt h K b begun.now.marks (IsDoneSuspending h (begin K b begun.now.marks) b targets) finished.now → IfOk result (LeadsSuspending h K b targets) }
+    ensures refused { let b = book_view book.now in let h = R.how rebuilder.now in (K : SomeKept) → BeginsWith K b begun.now → IsBuilt h K b begun.now.marks (λ k. ⊥) finished.now → IfOk result (LeadsRefused h K b) }
+    // The same for whatever else may be done, as lemmas go on from it.
+    ensures plans { let b = book_view book.now in let h = R.how rebuilder.now in (K : SomeKept) → BeginsWith K b begun.now → IfOk result (Plans h K b begun.now.marks finished.now) }
+{
+    made(alloc, rebuilder, begun, rules, book, finished)
+}
+
+fn made<R: Rebuilder>(
+    alloc: Global,
+    rebuilder: &R,
+    begun: &Begun<'_>,
+    rules: Digest,
+    book: &Book,
+    finished: &FinishedList,
+) -> Result<Batch, NoMemory>
+    requires { rules ≡ rules_digest_of (book_view book.now) }
+    ensures unmarked { IfOk result (λ batch. AreUnmarked batch.entries) }
+    ensures plans { let b = book_view book.now in let h = R.how rebuilder.now in (K : SomeKept) → BeginsWith K b begun.now → IfOk result (Plans h K b begun.now.marks finished.now) }
+{
+    if brings_nothing(begun, finished) {
+        return Ok(Batch::new(alloc));
+    }
+    let mut batch = opened(alloc, begun, rules, finished)?;
+    note_all(alloc, rebuilder, begun.base.kept(), book, finished, &mut batch)?;
+    Ok(batch)
+}
+
+/// Whether nothing was finished under other rules.
+fn brings_nothing(begun: &Begun<'_>, finished: &FinishedList) -> bool
+    ensures { result ≡ (not begun.now.same && (length finished.now == 0)) }
+{
+    !begun.same && finished.is_empty()
+}
+
+/// The batch with its start and its marks.
+fn opened(
+    alloc: Global,
+    begun: &Begun<'_>,
+    rules: Digest,
+    finished: &FinishedList,
+) -> Result<Batch, NoMemory>
+    ensures { IfOk result (λ batch. batch ≡ opening (if begun.now.same then GoOn else Anew rules) (marks_left (finishes_of finished.now) begun.now.marks)) }
+{
+    let mut batch = Batch::new(alloc);
+    batch.start = start(begun.same, rules);
+    batch.stale = marks_left(alloc, &begun.marks, finished)?;
+    Ok(batch)
+}
+
+fn start(same: bool, rules: Digest) -> Start
+    ensures { result ≡ (if same then GoOn else Anew rules) }
+{
+    if same {
+        Start::GoOn
+    } else {
+        Start::Anew(rules)
+    }
+}
+
+fn marks_left(alloc: Global, marks: &Names, finished: &FinishedList) -> Result<Names, NoMemory>
+    ensures { IfOk result (λ left. left ≡ marks_left (finishes_of finished.now) marks.now) }
+{
+    let mut left = Names::new(alloc);
+    for mark in marks.as_slice() {
+        add_left(alloc, finished, mark, &mut left)?;
+    }
+    Ok(left)
+}
+
+fn add_left(
+    alloc: Global,
+    finished: &FinishedList,
+    mark: &Name,
+    left: &mut Names,
+) -> Result<(), NoMemory>
+    ensures { OnOk result (left.new ≡ (if is_none (finished_of finished.now mark.now) then left.old ++ mark.now ∷ [] else left.old)) }
+{
+    if finished.find(mark).is_some() {
+        return Ok(());
+    }
+    left.push(mark.copy(alloc)?)
+}
+
+fn note_all<R: Rebuilder>(
+    alloc: Global,
+    rebuilder: &R,
+    kept: &Kept,
+    book: &Book,
+    finished: &FinishedList,
+    batch: &mut Batch,
+) -> Result<(), NoMemory>
+    ensures { OnOk result (NotesAll (R.how rebuilder.now) (kept_view kept.now) (book_view book.now) finished.now batch.old batch.new) }
+{
+    for one in finished.as_slice() {
+        rebuilder.note(alloc, kept, book, one, batch)?;
+    }
+    Ok(())
+}

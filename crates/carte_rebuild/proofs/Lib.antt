@@ -1,0 +1,15 @@
+pub mod Behind
+pub mod Trials
+pub mod Parting
+pub mod Comparing
+pub mod TaskRuns
+pub mod TaskAlone
+pub mod Wholes
+pub mod TracedChecks
+pub mod TracedJobs
+pub mod TracesOf
+pub mod Starting
+pub mod Finishing
+pub mod Often
+mod Collecting
+mod Driven

@@ -1,0 +1,32 @@
+-- The checks of the traces of a key.
+use Rattle.std.specs.Prelude.{ℕ, Bool, true, List, [], ◌∷◌, ◌++◌, Option, Some, None, if◌then◌else◌}
+use Rattle.carte_value.specs.declared.digest.Digest.{Digest}
+use Rattle.carte_value.specs.declared.value.Value.{Value}
+use Rattle.carte_task.specs.Checking.{Checking}
+use Rattle.carte_record.specs.declared.trace.Trace.{Trace}
+use Rattle.carte_record.specs.Lookups.{digest_eq, is_trace_of, first_value}
+
+-- the check of a trace that tells of this value
+abbrev pub check_of : List ℕ → Trace → Value → Checking
+check_of k t v = record { earlier = record { key = k; value = v; links = t.links }; at = 0 }
+
+abbrev pub check_at : Option Value → List ℕ → Trace → List Checking
+check_at None k t = []
+check_at (Some v) k t = check_of k t v ∷ []
+
+abbrev pub is_wanted : Option Digest → Digest → Bool
+is_wanted None d = true
+is_wanted (Some e) d = digest_eq e d
+
+-- of a trace with a result that is wanted and has a value
+abbrev pub checks_for : Option Digest → List Value → List ℕ → Trace → List Checking
+checks_for wanted vs k t = if is_wanted wanted t.result then check_at (first_value vs t.result) k t else []
+
+abbrev pub checks_if : Option Digest → List Value → List ℕ → Option Trace → List Checking
+checks_if wanted vs k None = []
+checks_if wanted vs k (Some t) = checks_for wanted vs k t
+
+-- of each such trace of the key, in their order
+abbrev pub checks_in : Option Digest → List Value → List ℕ → List Trace → List Checking
+checks_in wanted vs k [] = []
+checks_in wanted vs k (t ∷ ts) = (if is_trace_of k t then checks_for wanted vs k t else []) ++ checks_in wanted vs k ts

@@ -1,0 +1,53 @@
+ghost use Rattle.std.specs.Prelude.{◌≡◌, [], None};
+ghost use Rattle.carte_effect.specs.Ledger.{no_runs};
+
+use carte_book::Reason;
+use carte_effect::Runs;
+use carte_note::FinishedList;
+use carte_value::Names;
+use std::alloc::Global;
+use thiserror::Error;
+
+/// What a build has done.
+#[derive(Drop)]
+pub struct Work {
+    /// The keys that it finished, in that order.
+    pub finished: FinishedList,
+    /// The tasks that it started, and those that it ended.
+    pub runs: Runs,
+    /// The new chain, where the scheduler makes one.
+    pub chain: Option<Names>,
+}
+
+impl Work {
+    /// Nothing is done yet. It takes no memory.
+    pub fn new(alloc: Global) -> Work
+        ensures finished { result.finished ≡ [] }
+        ensures runs { result.runs ≡ no_runs }
+        ensures chain { result.chain ≡ None }
+    {
+        Work {
+            finished: FinishedList::new(alloc),
+            runs: Runs::new(alloc),
+            chain: None,
+        }
+    }
+}
+
+/// How a build came to its end.
+#[derive(Drop)]
+pub enum WorkEnd {
+    /// Each target has its value.
+    All(Work),
+    /// Some target has none, for this reason; what was done stands.
+    Refused(Work, Reason),
+}
+
+/// Why a build has no work to show.
+#[derive(Debug, Drop, Error)]
+pub enum PlanFault {
+    #[error("the rules have no order")]
+    Refused(Reason),
+    #[error("out of memory")]
+    NoMemory,
+}

@@ -1,0 +1,6 @@
+//! The suspending scheduler.
+#![tactic(auto)]
+
+mod building;
+
+pub use building::build;

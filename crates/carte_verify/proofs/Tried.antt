@@ -1,0 +1,31 @@
+-- The checks of traces with the result of the key's entry are those of all traces that may be reused.
+use Rattle.std.proofs.Common.{◌≡◌, ℕ, true, List, [], Option, Some, None, refl, ap, sym, ◌∙◌, subst}
+use Rattle.carte_task.specs.Checking.{Checking}
+use Rattle.carte_record.specs.declared.entry.Entry.{Entry}
+use Rattle.carte_record.specs.declared.kept.Kept.{Kept}
+use Rattle.carte_record.specs.declared.trace.Trace.{Trace}
+use Rattle.carte_record.specs.declared.way.Way.TheVariants.{Verifying}
+use Rattle.carte_record.specs.Lookups.{first_entry, digest_eq}
+use Rattle.carte_record.specs.Kept.{kept_view}
+use Rattle.carte_sound.specs.Held.{IsTrusted}
+use Rattle.carte_sound.proofs.Tests.{same_digest, digest_self}
+use Rattle.carte_rebuild.specs.Earlier.{checks_in}
+use Rattle.carte_rebuild.specs.Traced.{AreTried}
+use Rattle.carte_rebuild.proofs.Starting.{collected_tried}
+
+pub with_entry : (K : Kept) (k : List ℕ) (e : Entry) (cs : List Checking) → first_entry K.entries k ≡ Some e → cs ≡ checks_in (Some e.result) K.values k K.verifying → AreTried Verifying (kept_view K) k cs
+with_entry K k e cs found is = subst (AreTried Verifying (kept_view K) k) (sym is) (collected_tried Verifying (kept_view K) k (Some e.result) K.values K.verifying refl refl
+    (λ t wanted. (e, found, same_digest e.result t.result wanted))
+    (λ t trusted. wants t trusted))
+  where
+    wants : (t : Trace) → IsTrusted Verifying (kept_view K) k t → digest_eq e.result t.result ≡ true
+    wants t (d, kept, same) =
+        let both : Some e ≡ Some d = sym found ∙ kept in
+        let one : e ≡ d = cc in
+        subst (λ x. digest_eq e.result x ≡ true) (ap (λ (x : Entry). x.result) one ∙ same) (digest_self e.result)
+
+pub without_entry : (K : Kept) (k : List ℕ) (cs : List Checking) → first_entry K.entries k ≡ None → cs ≡ [] → AreTried Verifying (kept_view K) k cs
+without_entry K k cs none is = subst (AreTried Verifying (kept_view K) k) (sym is) (record {
+  only = λ c has. absurd has;
+  each = λ t v has trusted stored. (let both : Some trusted.0 ≡ None = sym trusted.1 ∙ none in cc);
+})

@@ -1,0 +1,100 @@
+//! Verifying traces: a key's old result is given again where a trace of that result has the links that the needs have now.
+//!
+//! The job is that of all rebuilders which compare needs (`Tries`): here it gets the checks of those traces whose result
+//! is the one that the key's entry has, the newest first. So at most one result comes into question, and a key that has no
+//! entry just runs its task. What a check looks up a run would look up too, since a trace's names are compared in the order in
+//! which the task asked for them, and only as far as they are the same.
+//!
+//! Turned down: looking through all traces for those of the key (they are found by the key), and comparing the links of a
+//! trace before it is known that its result is still kept.
+#![tactic(auto)]
+
+ghost use Rattle.std.specs.Prelude.{◌≡◌, option_map, IfOk};
+ghost use Rattle.carte_record.specs.Kept.{kept_view};
+ghost use Rattle.carte_record.specs.declared.way.Way.TheVariants.{Verifying};
+ghost use Rattle.carte_rebuild.specs.Traced.{AreTried};
+
+#[cfg(test)]
+mod tests;
+
+use carte_book::Book;
+use carte_note::{Finished, Method, note_finished};
+use carte_rebuild::{Rebuilder, Tries, checks_of};
+use carte_record::{Batch, Kept, Way};
+use carte_task::Check;
+use carte_value::{Name, NoMemory};
+use std::alloc::Global;
+
+/// Reuses the result that a key has at last, where a trace with this result verifies it.
+#[derive(Clone, Copy, Debug)]
+pub struct Verify;
+
+// The checks of the key's traces with the result of its entry.
+fn kept_checks(alloc: Global, kept: &Kept, key: &Name) -> Result<Vec<Check>, NoMemory>
+    ensures { IfOk result (λ checks. AreTried Verifying (kept_view kept.now) key.now checks.items) }
+{
+    match kept.entries.find(key) {
+        Some(entry) => checks_of(
+            alloc,
+            &kept.verifying,
+            &kept.values,
+            key,
+            Some(&entry.result),
+        ),
+        None => Ok(Vec::new(alloc)),
+    }
+}
+
+impl Rebuilder for Verify {
+    ghost use Rattle.carte_sound.specs.Held.{tracing};
+    ghost use Rattle.carte_rebuild.specs.Traced.{IsTracedJob};
+    ghost use Rattle.carte_rebuild.proofs.TracedJobs.{traced_fits, traced_goes};
+    ghost use Rattle.carte_rebuild.proofs.TracedChecks.{of_verifying};
+
+    type Job = Tries;
+
+    ghost how = { λ r. tracing Verifying };
+
+    ghost begun = { λ r K b t k p. IsTracedJob Verifying K b t k p };
+
+    fn start(
+        &self,
+        alloc: Global,
+        kept: &Kept,
+        book: &Book,
+        key: &Name,
+    ) -> Result<Tries, NoMemory> {
+        let checks = kept_checks(alloc, kept, key)?;
+        Tries::of(alloc, book, key, checks)
+    }
+
+    fn note(
+        &self,
+        alloc: Global,
+        kept: &Kept,
+        book: &Book,
+        finished: &Finished,
+        batch: &mut Batch,
+    ) -> Result<(), NoMemory> {
+        note_finished(
+            alloc,
+            Method::Tracing(Way::Verifying),
+            kept,
+            book,
+            finished,
+            batch,
+        )
+    }
+
+    fn looks_beneath(&self) -> bool {
+        true
+    }
+
+    fn gathers_beneath(&self) -> bool {
+        false
+    }
+
+    ghost fits = { λ r K b H t k p base job. traced_fits Verifying of_verifying K b H base t k p job };
+
+    ghost goes_on = { λ r K b H t k p part a step q base job grown is_part gives. traced_goes Verifying of_verifying K b H base t k p job part grown is_part a step q gives };
+}
