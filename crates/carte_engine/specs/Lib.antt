@@ -1,3 +1,4 @@
 pub mod Schedulers
 pub mod Answers
 pub mod Building
+pub mod Clearing

@@ -9,7 +9,9 @@ ghost use Rattle.carte_record.specs.Bodies.{IsUnmarked};
 ghost use Rattle.carte_record.specs.Empty.{is_empty};
 ghost use Rattle.carte_state.specs.Folding.{Keeps, IsBadState};
 ghost use Rattle.carte_state.specs.States.{HasRoom, IsAfter, IsKeptOn, IsLoaded, calls_for, kept_in, needs_for, step_for};
+ghost use Rattle.carte_record.specs.Kept.{nothing_kept};
 ghost use Rattle.carte_engine.specs.Answers.{IsPlan, Under};
+ghost use Rattle.carte_engine.specs.Clearing.{clearing};
 
 use crate::{Plan, Scheduler};
 use carte_book::Book;
@@ -114,5 +116,29 @@ impl Engine {
             (D.story disk.old) (D.story disk.new) }
     {
         self.state.apply(alloc, disk, batch)
+    }
+
+    /// Empties the state: commits a batch that clears it, or nothing where nothing is kept.
+    pub fn clean<D: Disk>(&mut self, _alloc: Global, _disk: &mut D) -> Result<(), ApplyFault>
+        requires whole { self.old.journal.broken ≡ false }
+        ensures cleaned { OnOk result (kept_in self.new ≡ nothing_kept) }
+        ensures empty { is_empty (clearing self.old) ≡ true → (result ≡ Ok tt) × (self.new ≡ self.old) × (_disk.new ≡ _disk.old) }
+        ensures full { (needed limit : ℕ) → result ≡ Err (ApplyFault.Full needed limit)
+            → (needed ≡ needs_for self.old (clearing self.old)) × (limit ≡ self.old.journal.limit) × (limit < needed) × (self.new ≡ self.old) × (_disk.new ≡ _disk.old) }
+        ensures over { is_empty (clearing self.old) ≡ false → self.old.journal.limit < needs_for self.old (clearing self.old)
+            → (result ≡ Err (ApplyFault.Full (needs_for self.old (clearing self.old)) self.old.journal.limit)) ⊎ (result ≡ Err ApplyFault.NoMemory) }
+        ensures room { OnOk result (HasRoom self.old (clearing self.old)) }
+        ensures no_memory { result ≡ Err ApplyFault.NoMemory → (self.new ≡ self.old) × (_disk.new ≡ _disk.old) }
+        ensures broken { IsTrue self.new.journal.broken ↔ (result ≡ Err ApplyFault.DiskFault) }
+        ensures cause { HasCauseOf ApplyFault.DiskFault (D.faults _disk.old) (D.faults _disk.new) result }
+        ensures place { OnOk result (IsAfter (clearing self.old) self.old self.new) }
+        ensures limit { self.new.journal.limit ≡ self.old.journal.limit }
+        ensures calls { D.tells → OnOk result ((D.story _disk.new).now.passed ≡ (D.story _disk.old).now.passed + calls_for self.old.journal (clearing self.old)) }
+        ensures rest { D.tells → IsKeptOn self.old (D.story _disk.old) → OnOk result (IsKeptOn self.new (D.story _disk.new)) }
+        ensures any_moment { D.tells → IsKeptOn self.old (D.story _disk.old)
+            → StepsThrough (Keeps self.old.journal.limit) (kept_in self.old) (step_for self.old.journal (kept_in self.old) (clearing self.old))
+            (D.story _disk.old) (D.story _disk.new) }
+    {
+        Err(ApplyFault::NoMemory)
     }
 }

@@ -11,9 +11,9 @@ pub enum WordsFault {
     /// They are no words of the command: one is missing or too many, an option isn't known or stands twice, or its
     /// value is none of those that it may have.
     Words,
-    /// There is no key to build or to explain.
+    /// There is no key to build.
     NoTarget,
-    /// There are keys where `session` or `clean` takes none.
+    /// There are keys where `clean` takes none.
     TargetsNotTaken,
     /// The first target that is no name of the book's kind.
     BadTarget(Word),

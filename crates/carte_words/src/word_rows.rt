@@ -3,8 +3,6 @@
 pub(crate) const ROWS: &str = r#"build|book|s|a -> Build book s Rules Suspending Verifying false a
 build|book|s|a|b/c|d.e_9 -> Build book s Rules Suspending Verifying false a b/c d.e_9
 build|book|s|a|a -> Build book s Rules Suspending Verifying false a a
-explain|book|s|a|b|a -> Explain book s Rules Suspending Verifying false a b a
-session|book|s -> Session book s Rules Suspending Verifying false
 clean|book|s -> Clean book s Rules Suspending Verifying false
 build|my book|/tmp/a state|a -> Build my book /tmp/a state Rules Suspending Verifying false a
 build|build|clean|session -> Build build clean Rules Suspending Verifying false session
@@ -13,7 +11,7 @@ build|build|clean|session -> Build build clean Rules Suspending Verifying false 
 build -> Words
 build|book -> Words
 clean -> Words
-session|book -> Words
+session|book|s -> Words
 book|s|a -> Words
 |book|s|a -> Words
 Build|book|s|a -> Words
@@ -24,13 +22,11 @@ generate|book|s|1|2 -> Words
 help -> Words
 help|book|s|a -> Words
 build|book|s -> NoTarget
-explain|book|s -> NoTarget
 build|book|s|--list -> NoTarget
 build|book|s|-- -> NoTarget
-session|book|s|a -> TargetsNotTaken
 clean|book|s|a -> TargetsNotTaken
 clean|book|s|Not a name -> TargetsNotTaken
-session|book|s|--|-x -> TargetsNotTaken
+clean|book|s|--|-x -> TargetsNotTaken
 build|book|s|A1 -> BadTarget [A1]
 build|book|s| -> BadTarget []
 build|book|s|a b -> BadTarget [a b]
@@ -38,7 +34,7 @@ build|book|s|a|Bad|Worse -> BadTarget [Bad]
 build|book|s|9a -> BadTarget [9a]
 build|book|s|a=b -> BadTarget [a=b]
 build|book|s|ä -> BadTarget [ä]
-explain|book|s|a| b -> BadTarget [ b]
+build|book|s|a| b -> BadTarget [ b]
 build|book|s|a23456789012345678901234567890123456789012345678901234567890abcd -> Build book s Rules Suspending Verifying false a23456789012345678901234567890123456789012345678901234567890abcd
 build|book|s|a23456789012345678901234567890123456789012345678901234567890abcde -> BadTarget [a23456789012345678901234567890123456789012345678901234567890abcde]
 build|p.csv|s|B2 -> Build p.csv s Sheet Suspending Verifying false B2
@@ -59,14 +55,14 @@ build|p.csv|s|A01 -> BadTarget [A01]
 build|p.csv|s|AAA1 -> BadTarget [AAA1]
 build|p.csv|s|A10000 -> BadTarget [A10000]
 build|p.csv|s|$A$1 -> BadTarget [$A$1]
-session|p.csv|s -> Session p.csv s Sheet Suspending Verifying false
+clean|p.csv|s -> Clean p.csv s Sheet Suspending Verifying false
 build|p.csv|s|a|--kind|rules -> Build p.csv s Rules Suspending Verifying false a
 build|p.csv|s|a|--kind=rules -> Build p.csv s Rules Suspending Verifying false a
 build|book|s|--kind|sheet|a1 -> Build book s Sheet Suspending Verifying false A1
 build|--kind=sheet|book|s|a1 -> Build book s Sheet Suspending Verifying false A1
 clean|p.csv|s|--kind=sheet -> Clean p.csv s Sheet Suspending Verifying false
 build|book|s|--kind|sheet|a -> BadTarget [a]
-explain|p.csv|s|--kind=rules|A1 -> BadTarget [A1]
+build|p.csv|s|--kind=rules|A1 -> BadTarget [A1]
 build|book|s|a|--kind=table -> Words
 build|book|s|a|--kind=Rules -> Words
 build|book|s|a|--kind= -> Words
@@ -77,7 +73,7 @@ build|book|s|--list|a -> Build book s Rules Suspending Verifying true a
 build|--list|book|s|a -> Build book s Rules Suspending Verifying true a
 --list|build|book|s|a -> Build book s Rules Suspending Verifying true a
 build|book|s|a|--list|b -> Build book s Rules Suspending Verifying true a b
-session|book|s|--list -> Session book s Rules Suspending Verifying true
+clean|book|s|--list -> Clean book s Rules Suspending Verifying true
 build|book|s|a|--list|--list -> Words
 build|book|s|a|--list=true -> Words
 build|book|s|a|--list= -> Words
@@ -130,4 +126,4 @@ build|-book|s|a -> Words
 build|book|s|Bad|--nope -> Words
 build|book|s|--nope -> Words
 build|book|s|--scheduler=nope -> Words
-session|book|s|a|--nope -> Words"#;
+clean|book|s|a|--nope -> Words"#;

@@ -5,8 +5,6 @@ use carte_value::{Kind, Names};
 #[derive(Clone, Copy, Debug, PartialEq, Eq)]
 pub enum Command {
     Build,
-    Session,
-    Explain,
     Clean,
 }
 
@@ -45,6 +43,6 @@ pub struct Words {
     pub rebuilder: Rebuilder4,
     /// Whether the rules that were run are listed.
     pub list: bool,
-    /// The keys that are to be built or explained, in their order.
+    /// The keys that are to be built, in their order.
     pub targets: Names,
 }
