@@ -134,9 +134,6 @@ impl Engine {
         ensures limit { self.new.journal.limit ≡ self.old.journal.limit }
         ensures calls { D.tells → OnOk result ((D.story _disk.new).now.passed ≡ (D.story _disk.old).now.passed + calls_for self.old.journal (clearing self.old)) }
         ensures rest { D.tells → IsKeptOn self.old (D.story _disk.old) → OnOk result (IsKeptOn self.new (D.story _disk.new)) }
-        ensures any_moment { D.tells → IsKeptOn self.old (D.story _disk.old)
-            → StepsThrough (Keeps self.old.journal.limit) (kept_in self.old) (step_for self.old.journal (kept_in self.old) (clearing self.old))
-            (D.story _disk.old) (D.story _disk.new) }
     {
         Err(ApplyFault::NoMemory)
     }
