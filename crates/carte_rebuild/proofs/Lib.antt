@@ -9,6 +9,7 @@ pub mod TracedChecks
 pub mod TracedJobs
 pub mod TracesOf
 pub mod Starting
+pub mod Gathered
 pub mod Finishing
 pub mod Often
 mod Collecting

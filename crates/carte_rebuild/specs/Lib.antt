@@ -9,3 +9,4 @@ pub mod TryingFits
 pub mod Drives
 pub mod Finishes
 pub mod Ends
+pub mod Gathering

@@ -12,6 +12,9 @@
 //! One job serves all rebuilders that compare the needs of a key (`Tries`): checks of earlier ends, then the task. Its
 //! meaning is one computation, what it still asks for, and a drive leads from what was left to what is left.
 //!
+//! A finished key gets the inputs beneath it, where the rebuilder gathers these, from its links alone: those beneath the
+//! rules among them were gathered as these were finished, so nothing walks over the book.
+//!
 //! Turned down:
 //! - A meaning of "held" for each rebuilder: what a build leaves would be proved once for each.
 //! - `Job::fits` alone: it knows no kept information, so it can't say that exactly what is held is reused.
@@ -21,6 +24,7 @@
 
 mod checks;
 mod earlier;
+mod gather;
 mod laws;
 mod made;
 mod rebuilder;

@@ -1,8 +1,10 @@
-ghost use Rattle.std.specs.Prelude.{◌≡◌, [], false, IfOk};
+ghost use Rattle.std.specs.Prelude.{◌≡◌, [], IfOk, if◌then◌else◌};
 ghost use Rattle.carte_book.specs.Book.{book_view};
 ghost use Rattle.carte_rebuild.specs.Finishes.{FinishesRight};
+ghost use Rattle.carte_rebuild.specs.Gathering.{beneath_made as beneath};
 
 use crate::Rebuilder;
+use crate::gather::beneath_made;
 use carte_book::Book;
 use carte_effect::Made;
 use carte_note::{Finished, FinishedList};
@@ -22,17 +24,22 @@ pub fn finish<R: Rebuilder>(
     ensures right { IfOk result (FinishesRight (R.how rebuilder.now) (book_view book.now) before.now made) }
 {
     let gathers = rebuilder.gathers_beneath();
-    let beneath = beneath_of(alloc, gathers)?;
+    let beneath = beneath_of(alloc, gathers, book, before, &made)?;
     Ok(Finished { made, beneath })
 }
 
-// The inputs beneath links, where they are wanted.
-fn beneath_of(alloc: Global, wanted: bool) -> Result<Links, NoMemory>
-    ensures wanted { IfOk result (λ beneath. wanted ≡ false) }
-    ensures none { IfOk result (λ beneath. beneath ≡ []) }
+// The inputs beneath a made key, where they are wanted.
+fn beneath_of(
+    alloc: Global,
+    wanted: bool,
+    book: &Book,
+    before: &FinishedList,
+    made: &Made,
+) -> Result<Links, NoMemory>
+    ensures { IfOk result (λ links. links ≡ (if wanted then beneath (book_view book.now) before.now made.now else [])) }
 {
     if wanted {
-        return Err(NoMemory);
+        return beneath_made(alloc, book, before, made);
     }
     Ok(Links::new(alloc))
 }
