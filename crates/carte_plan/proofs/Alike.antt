@@ -1,5 +1,5 @@
 -- Batches that carry the same difference have the same values, inputs and entries, if in another order.
-use Rattle.std.proofs.Common.{◌≡◌, ◌⊎◌, ℕ, Bool, true, false, cond, List, [], ◌∷◌, Option, Some, None, option_map, map, find, refl, ap, sym, ◌∙◌, subst, inl, inr}
+use Rattle.std.proofs.Common.{◌≡◌, ℕ, Bool, true, false, cond, List, [], ◌∷◌, Option, Some, None, option_map, map, find, refl, ap, sym, ◌∙◌, subst, inl, inr}
 use Rattle.std.specs.List.{sum_by}
 use Rattle.std.specs.Option.{option_or}
 use Rattle.carte_value.specs.declared.digest.Digest.{Digest}
@@ -13,7 +13,7 @@ use Rattle.carte_book.specs.Book.{Book}
 use Rattle.carte_record.specs.declared.batch.Batch.{Batch}
 use Rattle.carte_record.specs.declared.entry.Entry.{Entry}
 use Rattle.carte_record.specs.Kept.{SomeKept}
-use Rattle.carte_record.specs.Lookups.{digest_in, digest_eq, entry_in, find_last, first_value, is_entry_of, is_link_of, is_value_of, link_in}
+use Rattle.carte_record.specs.Lookups.{digest_in, digest_eq, entry_in, find_last, first_value, is_link_of, is_value_of, link_in}
 use Rattle.carte_record.proofs.Names.{name_eq_is, name_eq_self}
 use Rattle.carte_sound.specs.Carries.{Carries}
 use Rattle.carte_sound.specs.Lists.{EachOnce}

@@ -1,20 +1,19 @@
 -- Finished keys noted one after the other.
-use Rattle.std.proofs.Common.{◌≡◌, ℕ, List, [], ◌∷◌, ◌++◌, refl, ap, sym, ◌∙◌, subst, append-nil, append_assoc}
-use Rattle.carte_value.specs.Truths.{Among, NoneTwice}
+use Rattle.std.proofs.Common.{◌≡◌, List, [], ◌∷◌, ◌++◌, refl, ap, sym, ◌∙◌, subst, append-nil, append_assoc}
+use Rattle.carte_value.specs.Truths.{Among}
 use Rattle.carte_book.specs.Book.{Book}
 use Rattle.carte_record.specs.declared.batch.Batch.{Batch}
-use Rattle.carte_record.specs.declared.way.Way.{Way}
 use Rattle.carte_record.specs.Folds.{batch_traces}
 use Rattle.carte_record.specs.Kept.{SomeKept}
 use Rattle.carte_sound.specs.Carries.{Carries}
 use Rattle.carte_sound.specs.Held.{How}
 use Rattle.carte_sound.specs.LeadsTo.{traces_made}
-use Rattle.carte_sound.specs.Left.{add, add_all, keys_of}
+use Rattle.carte_sound.specs.Left.{add_all}
 use Rattle.carte_sound.proofs.Assembled.{traces_end}
 use Rattle.carte_sound.proofs.Finishing.{adds_end}
 use Rattle.carte_note.specs.declared.finished.Finished.{Finished}
 use Rattle.carte_note.specs.Notes.{AreUnmarked, Notes, Noted, trace_made}
-use Rattle.carte_note.specs.Right.{IsRightFinished, finishes_of, has_run, key_of, keys_in}
+use Rattle.carte_note.specs.Right.{finishes_of, has_run, key_of}
 use Rattle.carte_plan.specs.Planned.{AreGiven, NotesAll}
 use Rattle.carte_plan.proofs.Lists.{finishes_end, keys_same, once_front, others_stay, right_front}
 

@@ -1,14 +1,12 @@
 -- From the batch of a build to what it leads to.
-use Rattle.std.proofs.Common.{◌≡◌, ◌⊎◌, ℕ, Bool, true, false, cond, List, [], ◌∷◌, ◌++◌, refl, ap, sym, ◌∙◌, subst, inl, inr}
+use Rattle.std.proofs.Common.{◌≡◌, ℕ, Bool, true, false, cond, List, [], ◌∷◌, ◌++◌, refl, ap, sym, ◌∙◌, subst, inl, inr}
 use Rattle.std.specs.Prelude.{if◌then◌else◌, ◌==◌, length, not, ◌&&◌}
 use Rattle.carte_value.specs.declared.digest.Digest.{Digest}
 use Rattle.carte_record.specs.Empty.{is_empty}
-use Rattle.carte_value.specs.Lists.{Has}
 use Rattle.carte_value.specs.Truths.{Among, NoneTwice}
 use Rattle.carte_book.specs.Book.{Book}
 use Rattle.carte_book.specs.Digest.{rules_digest_of}
 use Rattle.carte_record.specs.declared.batch.Batch.{Batch}
-use Rattle.carte_record.specs.declared.entry.Entry.{Entry}
 use Rattle.carte_record.specs.declared.start.Start.{Start}
 use Rattle.carte_record.specs.declared.start.Start.TheVariants.{GoOn, Anew}
 use Rattle.carte_record.specs.declared.way.Way.{Way}
@@ -19,12 +17,12 @@ use Rattle.carte_record.proofs.Found.{or_none}
 use Rattle.carte_sound.specs.Begun.{AreMarks, begin, has_rules_of}
 use Rattle.carte_sound.specs.Carries.{Carries}
 use Rattle.carte_sound.specs.Held.{How}
-use Rattle.carte_sound.specs.LeadsTo.{LeadsTo, chain_stays, empty_batch, marks_left, traces_made}
-use Rattle.carte_sound.specs.Left.{add_all, keys_of}
+use Rattle.carte_sound.specs.LeadsTo.{LeadsTo, chain_stays, marks_left, traces_made}
+use Rattle.carte_sound.specs.Left.{keys_of}
 use Rattle.carte_sound.proofs.Assembled.{brings_by}
 use Rattle.carte_note.specs.declared.finished.Finished.{Finished}
 use Rattle.carte_note.specs.Notes.{AreUnmarked}
-use Rattle.carte_note.specs.Right.{AreRight, finishes_of, keys_in}
+use Rattle.carte_note.specs.Right.{finishes_of}
 use Rattle.carte_plan.specs.Planned.{AreGiven, IsBuilt, IsPlanOf, NotesAll, Plans, opening}
 use Rattle.carte_mark.specs.declared.base.Begun.{Begun}
 use Rattle.carte_mark.specs.Bases.{base_view, BeginsWith}

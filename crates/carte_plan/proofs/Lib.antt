@@ -5,3 +5,4 @@ pub mod Sums
 pub mod Alike
 pub mod Orders
 pub mod OneSize
+pub mod Lengths

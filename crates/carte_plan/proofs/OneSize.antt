@@ -1,11 +1,11 @@
 -- All batches that lead from one kept information to one end have the same items, if in another order: so whatever is counted of each, as the bytes of its spelling, the sums are the same.
-use Rattle.std.proofs.Common.{◌≡◌, ◌⊎◌, ℕ, Bool, true, false, not, cond, List, [], ◌∷◌, Option, Some, None, unwrap_or, filter, is_eq, refl, ap, sym, ◌∙◌, subst, inl, inr}
+use Rattle.std.proofs.Common.{◌≡◌, ℕ, Bool, true, false, not, cond, List, [], ◌∷◌, Option, Some, None, unwrap_or, filter, is_eq, refl, ap, sym, ◌∙◌, subst, inl, inr}
 use Rattle.std.specs.List.{sum_by, AllByRecursion}
 use Rattle.std.specs.List.Sorted.{IsStrictlySortedBy}
 use Rattle.std.specs.declared.cmp.Ordering.TheVariants.{Less}
 use Rattle.carte_value.specs.Lists.{Has}
 use Rattle.carte_value.specs.Names.{name_cmp}
-use Rattle.carte_value.specs.Truths.{Among, NoneTwice}
+use Rattle.carte_value.specs.Truths.{Among}
 use Rattle.carte_book.specs.Book.{Book}
 use Rattle.carte_record.specs.declared.batch.Batch.{Batch}
 use Rattle.carte_record.specs.declared.trace.Trace.{Trace}
@@ -13,7 +13,7 @@ use Rattle.carte_record.specs.declared.way.Way.{Way}
 use Rattle.std.specs.Ordering.{eq_by_cmp}
 use Rattle.std.specs.Cmp.{eq_by_cmp_equiv}
 use Rattle.std.proofs.lemmas.Cmp.{nat_list_cmp_total}
-use Rattle.carte_record.specs.Folds.{apply, batch_traces, is_among}
+use Rattle.carte_record.specs.Folds.{apply, is_among}
 use Rattle.carte_record.specs.Kept.{SomeKept}
 use Rattle.carte_sound.specs.Begun.{AreMarks, begin, has_rules_of}
 use Rattle.carte_sound.specs.Carries.{Carries}
@@ -22,7 +22,6 @@ use Rattle.carte_sound.specs.Held.{How}
 use Rattle.carte_sound.specs.LeadsTo.{Brings, Chaining, marks_left, traces_made}
 use Rattle.carte_sound.specs.Left.{Finishes, keys_of, left}
 use Rattle.carte_sound.specs.Lists.{EachOnce}
-use Rattle.carte_sound.specs.True.{trace_of}
 use Rattle.carte_plan.specs.Sizes.{SameSizes}
 use Rattle.carte_plan.proofs.Alike.{entries_sum, seen_sum, values_sum}
 use Rattle.carte_plan.proofs.Orders.{begins_alike, finished_into, marks_into, tests_alike, there_traces, traces_once, traces_there}

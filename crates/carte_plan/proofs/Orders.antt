@@ -1,5 +1,5 @@
 -- Builds that begin with the same and do the same, in whatever order.
-use Rattle.std.proofs.Common.{◌≡◌, ◌⊎◌, ℕ, Bool, true, false, not, ◌&&◌, cond, List, [], ◌∷◌, Option, Some, None, option_map, filter, refl, ap, sym, ◌∙◌, subst, inl, inr}
+use Rattle.std.proofs.Common.{◌≡◌, ℕ, Bool, true, false, ◌&&◌, cond, List, [], ◌∷◌, Option, option_map, refl, ap, sym, ◌∙◌, subst, inl, inr}
 use Rattle.std.proofs.Math.Path.{fun_ext}
 use Rattle.carte_value.specs.Lists.{Has}
 use Rattle.carte_value.specs.Truths.{Among, NoneTwice}
@@ -7,7 +7,7 @@ use Rattle.carte_book.specs.Book.{Book}
 use Rattle.carte_record.specs.declared.entry.Entry.{Entry}
 use Rattle.carte_record.specs.declared.trace.Trace.{Trace}
 use Rattle.carte_record.specs.declared.way.Way.{Way}
-use Rattle.carte_record.specs.Folds.{is_among, with_marks}
+use Rattle.carte_record.specs.Folds.{is_among}
 use Rattle.carte_record.specs.Kept.{SomeKept, nothing_kept, staled}
 use Rattle.carte_sound.specs.Begun.{AreMarks, begin, has_rules_of}
 use Rattle.carte_sound.specs.Finished.{AreFinished, IsFinishing, RanOrHeld}

@@ -1,5 +1,5 @@
 -- Lists of the same items, each once: whatever is counted of each, the sums are the same.
-use Rattle.std.proofs.Common.{◌≡◌, ◌⊎◌, ℕ, ◌+◌, List, [], ◌∷◌, ◌++◌, refl, ap, sym, ◌∙◌, subst, inl, inr, arith}
+use Rattle.std.proofs.Common.{◌≡◌, ◌⊎◌, ℕ, ◌+◌, List, [], ◌∷◌, refl, ap, sym, ◌∙◌, subst, inl, inr, arith}
 use Rattle.std.specs.List.{sum_by}
 use Rattle.std.proofs.lemmas.List.Sums.{sum_by-cons}
 use Rattle.carte_value.specs.Lists.{Has}
@@ -65,12 +65,12 @@ same_sums {A = A} (x ∷ xs) ys once once' into back f =
     let others = p.once once' in
     sum_by-cons f x xs
     ∙ (ap (λ n. f x + n) (same_sums xs p.others once.1 others.0
-        (λ z there. elim (p.has z (into z (inr there))) [
-          | inl same ↦ absurd (once.0 (subst (Has xs) same there))
-          | inr other ↦ other
-        ])
-        (λ z there. elim (back z (p.back z there)) [
-          | inl same ↦ absurd (others.1 (subst (Has p.others) same there))
-          | inr other ↦ other
-        ]) f)
+    (λ z there. elim (p.has z (into z (inr there))) [
+      | inl same ↦ absurd (once.0 (subst (Has xs) same there))
+      | inr other ↦ other
+    ])
+    (λ z there. elim (back z (p.back z there)) [
+      | inl same ↦ absurd (others.1 (subst (Has p.others) same there))
+      | inr other ↦ other
+    ]) f)
     ∙ sym (p.sums f))

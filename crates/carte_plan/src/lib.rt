@@ -13,6 +13,10 @@
 //! any property of what is done, which is of a higher universe than a contract may have.
 #![tactic(auto)]
 
+mod laws;
 mod planning;
+#[cfg(test)]
+mod tests;
 
+pub use laws::batches_have_one_length;
 pub use planning::plan;

@@ -56,7 +56,14 @@ fn made<R: Rebuilder>(
         return Ok(Batch::new(alloc));
     }
     let mut batch = opened(alloc, begun, rules, finished)?;
-    note_all(alloc, rebuilder, begun.base.kept(), book, finished, &mut batch)?;
+    note_all(
+        alloc,
+        rebuilder,
+        begun.base.kept(),
+        book,
+        finished,
+        &mut batch,
+    )?;
     Ok(batch)
 }
 

@@ -1,4 +1,4 @@
-use Rattle.std.proofs.Common.{◌≡◌, sym, ◌∙◌}
+use Rattle.std.proofs.Common.{sym, ◌∙◌}
 use Rattle.std.specs.Prelude.{if◌then◌else◌}
 use Rattle.carte_book.specs.Book.{book_view}
 use Rattle.carte_record.specs.declared.start.Start.TheVariants.{GoOn, Anew}

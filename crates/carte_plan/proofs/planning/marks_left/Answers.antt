@@ -1,6 +1,5 @@
-use Rattle.std.proofs.Common.{◌≡◌, ◌<◌, ◌≤◌, ℕ, List, [], ◌∷◌, ◌++◌, length, take, ap, sym, ◌∙◌, subst, rules, refl}
+use Rattle.std.proofs.Common.{◌<◌, [], ◌∷◌, ◌++◌, length, take, ap, sym, ◌∙◌, rules, refl}
 use Rattle.std.proofs.lemmas.List.{take_more}
-use Rattle.carte_record.proofs.Fronts.{take_whole}
 use Rattle.carte_sound.specs.LeadsTo.{marks_left}
 use Rattle.carte_note.specs.Right.{finishes_of}
 use Rattle.carte_note.specs.Lists.{finished_of}

@@ -1,7 +1,6 @@
-use Rattle.std.proofs.Common.{◌≡◌, ℕ, List, Result, Ok, Err}
+use Rattle.std.proofs.Common.{ℕ, List, Result, Ok, Err}
 use Rattle.std.specs.Prelude.{IfOk}
 use Rattle.carte_book.specs.Book.{book_view}
-use Rattle.carte_record.specs.declared.batch.Batch.{Batch}
 use Rattle.carte_record.specs.Kept.{SomeKept}
 use Rattle.carte_sound.specs.Treated.{IsDoneInOrder, IsDoneSuspending}
 use Rattle.carte_plan.proofs.Leading.{leads_by}
