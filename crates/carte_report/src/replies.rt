@@ -1,20 +1,112 @@
-ghost use Rattle.std.specs.Prelude.{◌≡◌, IfOk, string_bytes};
-ghost use Rattle.carte_report.specs.Reply.{reply};
+ghost use Rattle.std.specs.Prelude.{◌≡◌, ◌++◌, ◌∷◌, [], codes, IfOk, OnOk, string_bytes};
+ghost use Rattle.std.specs.Fmt.{decimal};
+ghost use Rattle.carte_report.specs.Reply.{reply, target_line, target_lines, ran_lines, listed_lines, counts_line};
 
-use carte_value::{Names, NoMemory, Values};
+use carte_value::{Name, Names, NoMemory, Value, Values};
 use std::alloc::Global;
 
 /// The reply of a build: the targets with their values, the rules that ran where they are to be listed, and the counts.
 pub fn reply(
-    _alloc: Global,
-    _targets: &Names,
-    _values: &Values,
-    _list: bool,
-    _ran: &Names,
-    _given_up: u64,
-    _reused: u64,
+    alloc: Global,
+    targets: &Names,
+    values: &Values,
+    list: bool,
+    ran: &Names,
+    given_up: u64,
+    reused: u64,
 ) -> Result<String, NoMemory>
-    ensures { IfOk result (λ text. string_bytes text ≡ reply _targets.now _values.now _list _ran.now _given_up _reused) }
+    ensures { IfOk result (λ text. string_bytes text ≡ reply targets.now values.now list ran.now given_up reused) }
 {
-    Err(NoMemory)
+    let mut text = String::new(alloc);
+    push_targets(alloc, &mut text, targets.as_slice(), values.as_slice())?;
+    push_listed(&mut text, list, ran.as_slice())?;
+    push_counts(alloc, &mut text, ran.len() as u64, given_up, reused)?;
+    Ok(text)
+}
+
+fn push_targets(
+    alloc: Global,
+    text: &mut String,
+    targets: &[Name],
+    values: &[Value],
+) -> Result<(), NoMemory>
+    ensures { OnOk result (string_bytes text.new ≡ string_bytes text.old ++ target_lines targets.now values.now) }
+{
+    let mut left = values;
+    for target in targets {
+        let [value, rest @ ..] = left else {
+            break;
+        };
+        push_target(alloc, text, target, value)?;
+        left = rest;
+    }
+    Ok(())
+}
+
+fn push_target(
+    alloc: Global,
+    text: &mut String,
+    target: &Name,
+    value: &Value,
+) -> Result<(), NoMemory>
+    ensures { OnOk result (string_bytes text.new ≡ string_bytes text.old ++ target_line target.now value.now) }
+{
+    let value = value.print(alloc)?;
+    text.push_str(target.text())?;
+    text.push_str(" = ")?;
+    text.push_str(value.as_str())?;
+    text.push_str("\n")?;
+    Ok(())
+}
+
+fn push_listed(text: &mut String, list: bool, ran: &[Name]) -> Result<(), NoMemory>
+    ensures { OnOk result (string_bytes text.new ≡ string_bytes text.old ++ listed_lines list ran.now) }
+{
+    if list {
+        push_ran(text, ran)?;
+    }
+    Ok(())
+}
+
+fn push_ran(text: &mut String, ran: &[Name]) -> Result<(), NoMemory>
+    ensures { OnOk result (string_bytes text.new ≡ string_bytes text.old ++ ran_lines ran.now) }
+{
+    for name in ran {
+        push_line(text, "ran ", name.text())?;
+    }
+    Ok(())
+}
+
+fn push_line(text: &mut String, front: &str, name: &str) -> Result<(), NoMemory>
+    ensures { OnOk result (string_bytes text.new ≡ string_bytes text.old ++ (front.now ++ (name.now ++ 10 ∷ []))) }
+{
+    text.push_str(front)?;
+    text.push_str(name)?;
+    text.push_str("\n")?;
+    Ok(())
+}
+
+fn push_counts(
+    alloc: Global,
+    text: &mut String,
+    ran: u64,
+    given_up: u64,
+    reused: u64,
+) -> Result<(), NoMemory>
+    ensures { OnOk result (string_bytes text.new ≡ string_bytes text.old ++ counts_line ran given_up reused) }
+{
+    push_count(alloc, text, "ran ", ran)?;
+    push_count(alloc, text, ", given up ", given_up)?;
+    push_count(alloc, text, ", reused ", reused)?;
+    text.push_str("\n")?;
+    Ok(())
+}
+
+fn push_count(alloc: Global, text: &mut String, front: &str, count: u64) -> Result<(), NoMemory>
+    ensures { OnOk result (string_bytes text.new ≡ string_bytes text.old ++ (front.now ++ decimal count)) }
+{
+    let count = count.to_string(alloc)?;
+    text.push_str(front)?;
+    text.push_str(count.as_str())?;
+    Ok(())
 }
