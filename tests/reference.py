@@ -1,7 +1,8 @@
 #!/usr/bin/env python3
 """What `carte build` answers, worked out by other means, to be compared with the proved program.
 
-reference.py BOOK TARGET..   writes the reply or the error line, and ends with the status
+reference.py BOOK TARGET..   writes the reply or the error line of a build over nothing kept, and ends with the status;
+                             among the targets may stand `--scheduler topological`
 reference.py --check         compares each expected output under tests/books/ with what this file says
 reference.py --write         writes each expected output anew
 
@@ -174,7 +175,13 @@ def compute(inputs, rules, values, target):
             waiting[stuck.args[0]] = None
 
 
-def check_words(targets):
+def read_words(words):
+    """The targets, and whether rules are ordered before any is worked out."""
+    options = [at for at, word in enumerate(words) if word == b"--scheduler"]
+    named = words[options[0] + 1:][:1] if options else []
+    targets = words[:options[0]] + words[options[0] + 2:] if options else words
+    if len(options) > 1 or (options and named not in ([b"topological"], [b"suspending"])):
+        raise Fault("the words are no command")
     if any(word.startswith(b"-") for word in targets):
         raise Fault("the words are no command")
     if not targets:
@@ -182,10 +189,12 @@ def check_words(targets):
     for word in targets:
         if not NAME.fullmatch(word):
             raise Fault(f"bad target {quoted(word).decode()}")
+    return targets, named == [b"topological"]
 
 
-def reply(inputs, rules, targets):
-    refuse_dynamic(rules, targets)
+def reply(inputs, rules, targets, ordered):
+    if ordered:
+        refuse_dynamic(rules, targets)
     values = dict(inputs)
     for target in targets:
         compute(inputs, rules, values, target)
@@ -193,14 +202,14 @@ def reply(inputs, rules, targets):
     return b"".join(found) + b"ran %d, given up 0, reused 0\n" % (len(values) - len(inputs))
 
 
-def build(data, targets):
+def build(data, words):
     """The exit status, and what stands on standard output and on standard error."""
     try:
-        check_words(targets)
+        targets, ordered = read_words(words)
     except Fault as fault:
         return 2, b"", b"carte: usage: " + str(fault).encode() + b"\n"
     try:
-        return 0, reply(*read_book(data), targets), b""
+        return 0, reply(*read_book(data), targets, ordered), b""
     except Fault as fault:
         return 1, b"", b"carte: book refused: " + str(fault).encode() + b"\n"
     except Refused as refused:
@@ -218,8 +227,8 @@ def book_of(case):
 
 def stored(case):
     """What a case's output file has to hold: the status, then standard output, then standard error."""
-    targets = [word.encode() for word in shlex.split(case.read_text())]
-    status, out, err = build(book_of(case), targets)
+    words = [word.encode() for word in shlex.split(case.read_text())]
+    status, out, err = build(book_of(case), words)
     return b"%d\n" % status + out + err
 
 
