@@ -1,5 +1,6 @@
 ghost use Rattle.std.specs.Prelude.{◌≡◌, [], None};
 ghost use Rattle.carte_effect.specs.Ledger.{no_runs};
+ghost use Rattle.carte_rebuild.specs.declared.work.PlanFault.TheVariants.{NoMemory};
 
 use carte_book::Reason;
 use carte_effect::Runs;
@@ -50,4 +51,12 @@ pub enum PlanFault {
     Refused(Reason),
     #[error("out of memory")]
     NoMemory,
+}
+
+impl From<carte_value::NoMemory> for PlanFault {
+    ghost from_gives = { λ _ e. e ≡ NoMemory };
+
+    fn from(_: carte_value::NoMemory) -> PlanFault {
+        PlanFault::NoMemory
+    }
 }

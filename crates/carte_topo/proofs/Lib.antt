@@ -13,3 +13,6 @@ pub mod First
 pub mod Linked
 pub mod Loops
 pub mod Picking
+pub mod Finishing
+pub mod Treating
+pub mod Treated

@@ -9,8 +9,8 @@ use Rattle.carte_book.specs.Book.{input, rule, Book, content}
 use Rattle.carte_book.specs.Needs.{IsReachedRule}
 use Rattle.carte_book.specs.Reason.{AllClean}
 use Rattle.carte_book.specs.Dynamic.{NoDynamicPath, IsOrderReason}
-use Rattle.carte_topo.specs.declared.plan.PlanFault.{PlanFault}
-use Rattle.carte_topo.specs.declared.plan.PlanFault.TheVariants.{Refused, NoMemory}
+use Rattle.carte_rebuild.specs.declared.work.PlanFault.{PlanFault}
+use Rattle.carte_rebuild.specs.declared.work.PlanFault.TheVariants.{Refused, NoMemory}
 
 -- a name that a rule may use by now: an input, or one of the rules before
 abbrev pub IsReady : Book → List (List ℕ) → List ℕ → Type 0

@@ -2,33 +2,15 @@ ghost use Rattle.std.specs.Prelude.{◌≡◌, IfOk};
 ghost use Rattle.carte_book.specs.Book.{book_view};
 ghost use Rattle.carte_topo.specs.Orders.{Orders};
 ghost use Rattle.carte_topo.specs.Between.{Walks, IsStop};
-ghost use Rattle.carte_topo.specs.declared.plan.PlanFault.TheVariants.{NoMemory};
 
 use crate::dynamic_paths::dynamic_path;
 use crate::walk::{Stop, Walk};
 use carte_book::{Book, Reason};
+use carte_rebuild::PlanFault;
 use carte_value::{Name, Names, NoMemory};
 use indexmap::IndexSet;
 use std::alloc::Global;
 use std::collections::VecDeque;
-use thiserror::Error;
-
-/// Why there is no order.
-#[derive(Debug, Drop, Error)]
-pub enum PlanFault {
-    #[error("the rules have no order")]
-    Refused(Reason),
-    #[error("out of memory")]
-    NoMemory,
-}
-
-impl From<carte_value::NoMemory> for PlanFault {
-    ghost from_gives = { λ _ e. e ≡ NoMemory };
-
-    fn from(_: carte_value::NoMemory) -> PlanFault {
-        PlanFault::NoMemory
-    }
-}
 
 /// The rules that the targets reach, each behind those that it refers to, or why there is no such order: for a rule
 /// whose references can't be told, or else for the first target without a clean value.

@@ -5,7 +5,10 @@ ghost use Rattle.carte_book.specs.Book.{book_view};
 use crate::*;
 use carte_book::{Book, Reason};
 use carte_formula::read;
+use carte_rebuild::{Rebuilder, Work, WorkEnd};
+use carte_record::{Batch, Kept};
 use carte_value::{Kind, Name, Names, Value};
+use carte_verify::Verify;
 use std::alloc::Global;
 use std::rt::HostRuntime;
 use std::test::Fail;
@@ -64,14 +67,45 @@ fn listed(alloc: Global, word: &str, names: &Names) -> Result<String, Fail> {
     Ok(text)
 }
 
+fn told(alloc: Global, reason: &Reason) -> Result<String, Fail> {
+    match reason {
+        Reason::Cycle(path) => listed(alloc, "cycle", path),
+        Reason::Missing(path) => listed(alloc, "missing", path),
+        Reason::Dynamic(path) => listed(alloc, "dynamic", path),
+    }
+}
+
 fn ordered(alloc: Global, book: &Book, targets: &Names) -> Result<String, Fail> {
     match order(alloc, book, targets) {
         Ok(names) => listed(alloc, "order", &names),
-        Err(PlanFault::Refused(Reason::Cycle(path))) => listed(alloc, "cycle", &path),
-        Err(PlanFault::Refused(Reason::Missing(path))) => listed(alloc, "missing", &path),
-        Err(PlanFault::Refused(Reason::Dynamic(path))) => listed(alloc, "dynamic", &path),
+        Err(PlanFault::Refused(reason)) => told(alloc, &reason),
         Err(PlanFault::NoMemory) => Err("no memory".into()),
     }
+}
+
+/// What is kept once the batch of these finished keys was applied.
+fn kept_after(alloc: Global, mut kept: Kept, book: &Book, work: &Work) -> Result<Kept, Fail> {
+    let mut batch = Batch::new(alloc);
+    for finished in work.finished.as_slice() {
+        Verify.note(alloc, &kept, book, finished, &mut batch)?;
+    }
+    kept.apply(&batch)?;
+    Ok(kept)
+}
+
+/// The runs of a build over nothing, and of one more over what that left; or why the first is refused.
+fn built_twice(alloc: Global, book: &Book, targets: &Names) -> Result<String, Fail> {
+    let kept = Kept::empty(alloc);
+    let work = match build(alloc, &Verify, &kept, book, targets)? {
+        WorkEnd::All(work) => work,
+        WorkEnd::Refused(_, reason) => return told(alloc, &reason),
+    };
+    let kept = kept_after(alloc, kept, book, &work)?;
+    let mut text = listed(alloc, "ran", work.runs.ended())?;
+    if let WorkEnd::All(again) = build(alloc, &Verify, &kept, book, targets)? {
+        text.push_str(listed(alloc, " then", again.runs.ended())?.as_str())?;
+    }
+    Ok(text)
 }
 
 const DIAMOND: &str = "base: x + y; left: base + x; right: y + base; top: left + right";
@@ -157,6 +191,23 @@ fn first_dynamic_paths(rt: HostRuntime) -> Result<(), Fail> {
             Some(path) => listed(alloc, "path", &path)?,
             None => String::from_str(alloc, "none")?,
         };
+        assert_eq!(rt; text.as_str(), want, "{targets} in {rules}");
+    }
+    Ok(())
+}
+
+/// Worked out by hand: over nothing each rule runs, behind those that it refers to, and over what was kept none does.
+#[test]
+fn builds_and_builds_again(rt: HostRuntime) -> Result<(), Fail> {
+    let alloc = rt.alloc();
+    let rows = [
+        ("high: low + x; low: x + y", "high", "ran low high then"),
+        (DYNAMIC, "gone", "dynamic gone way pick"),
+        (STUCK, "good both", "cycle both self self"),
+    ];
+    for (rules, targets, want) in rows {
+        let book = book_of(alloc, rules)?;
+        let text = built_twice(alloc, &book, &names_of(alloc, targets)?)?;
         assert_eq!(rt; text.as_str(), want, "{targets} in {rules}");
     }
     Ok(())

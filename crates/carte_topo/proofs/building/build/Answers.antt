@@ -1,0 +1,23 @@
+use Rattle.std.proofs.Common.{ℕ, List, subst}
+use Rattle.carte_value.specs.Truths.{Among}
+use Rattle.carte_book.specs.Book.{book_view}
+use Rattle.carte_record.specs.Kept.{kept_view}
+use Rattle.carte_rebuild.specs.Ends.{IsWork}
+use Rattle.carte_topo.proofs.Treated.{done_in_order}
+use Rattle.carte_topo.proofs.building.build.Goals as goal
+
+pub returns-in-Ok-treat_all : goal.returns-in-Ok-treat_all
+returns-in-Ok-treat_all g c =
+    let h = g.R.Rebuilder.how c.args.rebuilder.now in
+    let K = kept_view c.args.kept.now in
+    let b = book_view c.args.book.now in
+    let work = c.in-Ok-treat_all.work in
+    let order = c.in-Ok.ensures in
+    let treated = c.in-Ok-treat_all.ensures {u = tt} in (
+      treated.0,
+      order.no_dynamic,
+      order.all_clean,
+      λ given.
+          let done = treated.1 given in
+          (done_in_order h K b c.args.targets.now c.in-Ok.names work order (subst (λ (l : List (List ℕ)). IsWork h K b (Among l) work) c.as_slice.ensures done.0), done.1),
+    )
