@@ -1,1 +1,5 @@
-
+pub mod Puts
+pub mod Standings
+pub mod Opened
+pub mod Turned
+pub mod Measures
