@@ -3,3 +3,8 @@ pub mod Standings
 pub mod Opened
 pub mod Turned
 pub mod Measures
+pub mod Seeing
+pub mod Listing
+pub mod Ledgers
+pub mod Goings
+pub mod Turning

@@ -36,7 +36,7 @@ module _ {J : Type 0} where
   undone_none (Some (Done m)) is = cc
 
   pub not_both : (o : Option (Slot J)) → is_done o ≡ true → is_done o ≡ false → ⊥
-  not_both o yes never = let both : true ≡ false = sym yes ∙ never in cc
+  not_both o is never = let both : true ≡ false = sym is ∙ never in cc
 
   -- what stands at another name than where it was put stood there before
   pub stood_before : (s d : Spots J) (k : List ℕ) (x : Slot J) (q : List ℕ) (y : Option (Slot J)) → PutAt s d k x → ¬ (k ≡ q) → d q ≡ y → s q ≡ y

@@ -132,3 +132,11 @@ module _ {J : Type 0} (name : J → List ℕ) (started : J → Bool) (gives : Gi
       ]),
       (λ (v, given). let both : Some v ≡ None = sym (sees_inputs b turned.mid (name_of x) v given) ∙ stop_none x turned in cc),
     )
+
+    -- so the path is halted there
+    pub turn_halts : (ks : List (List ℕ)) (x : Stuck) (n : List ℕ) → IsStanding name b old (k ∷ ks) → TurnedTo name started gives b old new r r' k (Err x) → WaitsAt new k n → IsHalted name b new (k ∷ ks) n
+    turn_halts ks x n standing turned ((p, is), undone) =
+        let put = turn_put (Err x) turned in
+        let both : Some (Stopped turned.after (name_of x)) ≡ Some (Stopped p n) = sym (put_here old new k (Stopped turned.after (name_of x)) put) ∙ is in
+        let same : name_of x ≡ n = cc in
+        stands_stopped name b old new k ks standing turned.after n (subst (λ i. PutAt old new k (Stopped turned.after i)) same put) turned.named undone (subst (λ i. ¬ (IsInput b i)) same (stop_waits x turned).1)

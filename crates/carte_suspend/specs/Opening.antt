@@ -9,11 +9,12 @@ use Rattle.carte_rebuild.specs.Finishes.{FinishesRight}
 use Rattle.carte_bench.specs.declared.slot.Slot.{Slot}
 use Rattle.carte_bench.specs.declared.slot.Slot.TheVariants.{Ready, Stopped}
 use Rattle.carte_bench.specs.Spots.{Spots, PutAt, IsSame, is_done}
+use Rattle.carte_suspend.specs.Standing.{IsDemanded}
 
 -- a rule that wasn't demanded
 abbrev pub IsFreshRule : {J : Type 0} → Book → Spots J → List ℕ → Bool → Type 0
 IsFreshRule b s n true = IsRule b n × (s n ≡ None)
-IsFreshRule {J = J} b s n false = IsRule b n → (x : Slot J) × (s n ≡ Some x)
+IsFreshRule b s n false = IsRule b n → IsDemanded s n
 
 -- a new job of it stands on the bench, and it goes before the path
 pub record Demands {J : Type 0} (name : J → List ℕ) (started : J → Bool) (begins : List ℕ → J → Type 0) (b : Book) (old new : Spots J) (path path' : List (List ℕ)) (n : List ℕ) : Type 0 where

@@ -46,9 +46,13 @@ pub record IsHalted {J : Type 0} (name : J → List ℕ) (b : Book) (s : Spots J
   pub behind : Behind s n path
   pub waits : (q : List ℕ) → Among path q → (is_done (s n) ≡ false) × ¬ (IsInput b n)
 
+-- it was demanded
+abbrev pub IsDemanded : {J : Type 0} → Spots J → List ℕ → Type 0
+IsDemanded {J = J} s k = (x : Slot J) × (s k ≡ Some x)
+
 -- what was demanded stays
 abbrev pub StaysKnown : {J : Type 0} → Spots J → Spots J → Type 0
-StaysKnown {J = J} old new = (q : List ℕ) (x : Slot J) → old q ≡ Some x → (y : Slot J) × (new q ≡ Some y)
+StaysKnown {J = J} old new = (q : List ℕ) (x : Slot J) → old q ≡ Some x → IsDemanded new q
 
 -- how many of these names weren't demanded
 abbrev pub unknown_in : {J : Type 0} → Spots J → List (List ℕ × Item) → ℕ

@@ -5,9 +5,8 @@ ghost use Rattle.carte_book.specs.Needs.{IsRule};
 ghost use Rattle.carte_record.specs.Kept.{kept_view};
 ghost use Rattle.carte_rebuild.specs.Ends.{EndsSuspending};
 ghost use Rattle.carte_bench.specs.Held.{spots_of, book_of};
-ghost use Rattle.carte_bench.specs.declared.slot.Slot.{Slot as SomeSlot};
 ghost use Rattle.carte_suspend.specs.Going.{GoesOn};
-ghost use Rattle.carte_suspend.specs.Standing.{IsStanding, StaysKnown};
+ghost use Rattle.carte_suspend.specs.Standing.{IsStanding, IsDemanded, StaysKnown};
 
 use crate::opening::open;
 use crate::reasons::first_reason;
@@ -54,7 +53,7 @@ fn treat_all<R: Rebuilder>(
     ensures book { OnOk result (book_of bench.new ≡ book_view book.now) }
     ensures standing { OnOk result (IsStanding R.Job.name (book_view book.now) (spots_of bench.new) []) }
     ensures goes { OnOk result (GoesOn R.Job.started R.Job.fits (R.begun rebuilder.now (kept_view kept.now) (book_view book.now)) (R.how rebuilder.now) (kept_view kept.now) (book_view book.now) targets.now (spots_of bench.old) (spots_of bench.new) work.old work.new) }
-    ensures demanded { OnOk result ((t : List ℕ) → Among targets.now t → IsRule (book_view book.now) t → (x : SomeSlot R.Job) × (spots_of bench.new t ≡ Some x)) }
+    ensures demanded { OnOk result ((t : List ℕ) → Among targets.now t → IsRule (book_view book.now) t → IsDemanded (spots_of bench.new) t) }
     ensures chain { OnOk result (work.new.chain ≡ work.old.chain) }
 {
     for at in 0..targets.len() {
@@ -80,7 +79,7 @@ fn treat<R: Rebuilder>(
     ensures standing { OnOk result (IsStanding R.Job.name (book_view book.now) (spots_of bench.new) []) }
     ensures goes { OnOk result ((ts : List (List ℕ)) → Among ts target.now → GoesOn R.Job.started R.Job.fits (R.begun rebuilder.now (kept_view kept.now) (book_view book.now)) (R.how rebuilder.now) (kept_view kept.now) (book_view book.now) ts (spots_of bench.old) (spots_of bench.new) work.old work.new) }
     ensures known { OnOk result (StaysKnown (spots_of bench.old) (spots_of bench.new)) }
-    ensures demanded { OnOk result (IsRule (book_view book.now) target.now → (x : SomeSlot R.Job) × (spots_of bench.new target.now ≡ Some x)) }
+    ensures demanded { OnOk result (IsRule (book_view book.now) target.now → IsDemanded (spots_of bench.new) target.now) }
     ensures chain { OnOk result (work.new.chain ≡ work.old.chain) }
 {
     let mut path = VecDeque::new(alloc);

@@ -7,7 +7,7 @@ ghost use Rattle.carte_suspend.specs.Opening.{EndsKey, WaitsAt};
 ghost use Rattle.carte_suspend.specs.Standing.{IsStanding, StaysKnown, turns_left};
 
 use crate::opening::{open, push};
-use carte_bench::{Bench, Place};
+use carte_bench::{turn_keeps, Bench, Place};
 use carte_book::Book;
 use carte_effect::{Job, Made};
 use carte_rebuild::{finish, Rebuilder, Work};
@@ -37,6 +37,7 @@ pub(crate) fn turn<R: Rebuilder>(
     ensures known { OnOk result (StaysKnown (spots_of bench.old) (spots_of bench.new)) }
     ensures chain { OnOk result (work.new.chain ≡ work.old.chain) }
 {
+    turn_keeps::<R::Job>();
     match bench.turn(alloc, &name, &mut work.runs)? {
         Some(made) => end(alloc, rebuilder, book, work, made),
         None => {

@@ -1,0 +1,2 @@
+use Rattle.carte_suspend.proofs.building.treat.Goals as goal
+
