@@ -32,7 +32,6 @@ use Rattle.carte_suspend.proofs.Ledgers.{counted_demand}
 -- what a scheduler knows of jobs
 pub record Laws {J : Type 0} (name : J → List ℕ) (started : J → Bool) (fits : FitsOf J) (gives : GivesOf J) (begun : Truth → List ℕ → J → Type 0) (h : How) (K : SomeKept) (b : Book) : Type 0 where
   pub keeps : (old new : Spots J) (r t : Ledger) (k : List ℕ) (m : Option Made) → Turned name started gives b old new r t k m → IsCore fits b old → IsCore fits b new
-  pub fit : (t : Truth) (k : List ℕ) (j : J) → begun t k j → fits j (clean b) k (clean b k) (needs b k) (may_ask h b k)
   pub goes_on : (t : Truth) (k : List ℕ) (p : J) (part : Truth) (further : Answers) (step : Step) (q : J) → begun t k p → Extends t part → IsPart b part → gives p part further step q → GoesOver h K b k part (λ u j. begun u k j) step q
 
 module _ {J : Type 0} (fits : FitsOf J) (begun : Truth → List ℕ → J → Type 0) (h : How) (K : SomeKept) (b : Book) (targets : List (List ℕ)) where
@@ -115,7 +114,7 @@ going_none started fits begun h K b targets s none = record {
   };
 }
 
-module _ {J : Type 0} (name : J → List ℕ) (started : J → Bool) (fits : FitsOf J) (gives : GivesOf J) (begun : Truth → List ℕ → J → Type 0) (h : How) (K : SomeKept) (b : Book) (targets : List (List ℕ)) (laws : Laws name started fits gives begun h K b) (s d : Spots J) (n : List ℕ) (fs : List Finished) (r : Ledger) (going : IsGoing started fits begun h K b targets s fs r) where
+module _ {J : Type 0} (name : J → List ℕ) (started : J → Bool) (fits : FitsOf J) (begun : Truth → List ℕ → J → Type 0) (h : How) (K : SomeKept) (b : Book) (targets : List (List ℕ)) (fit : (t : Truth) (k : List ℕ) (j : J) → begun t k j → fits j (clean b) k (clean b k) (needs b k) (may_ask h b k)) (s d : Spots J) (n : List ℕ) (fs : List Finished) (r : Ledger) (going : IsGoing started fits begun h K b targets s fs r) where
   -- nothing changed
   going_same : IsSame s d → IsGoing started fits begun h K b targets d fs r
   going_same same = record {
@@ -154,7 +153,7 @@ module _ {J : Type 0} (name : J → List ℕ) (started : J → Bool) (fits : Fit
   going_demand path path' treated demands = record {
     known = known_at fits begun h K b targets s d n (Ready demands.job) demands.put undone going.known (record {
       is_rule = demands.fresh.0;
-      fit = (may_ask h b n, laws.fit (λ q. None) n demands.job demands.begun);
+      fit = (may_ask h b n, fit (λ q. None) n demands.job demands.begun);
       jobs = λ j is. (let same : demands.job ≡ j = cc in ((λ q. None), (λ i v has. cc), subst (begun (λ q. None) n) same demands.begun));
       treated = treated;
       stops = λ m p is. cc;

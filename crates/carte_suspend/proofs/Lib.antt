@@ -8,3 +8,5 @@ pub mod Listing
 pub mod Ledgers
 pub mod Goings
 pub mod Turning
+pub mod Whys
+pub mod Ending
