@@ -131,7 +131,7 @@ module _ {J : Type 0} (name : J → List ℕ) (b : Book) (s : Spots J) (standing
       where
         at : IsAside b s [] j → IsDemanded s k
         at (p, n, stop, left) =
-            let none = elim left [
+            let none : clean b n ≡ None = elim left [
               | inl nothing ↦ lost_none n (inl nothing)
               | inr is_open ↦ lost_none n (inr is_open.0)
             ] in

@@ -1,12 +1,26 @@
 -- The first target that has a reason.
-use Rattle.std.proofs.Common.{◌≡◌, ℕ, suc, ◌+◌, ◌<◌, ◌≤◌, List, [], ◌∷◌, ◌++◌, length, take, drop, get_or, Option, Some, None, refl, ap, sym, ◌∙◌, subst, inl, inr, ◌⊎◌, arith}
+use Rattle.std.proofs.Common.{◌≡◌, ℕ, zero, suc, ◌+◌, ◌<◌, ◌≤◌, List, [], ◌∷◌, ◌++◌, length, take, drop, get_or, Option, Some, None, refl, ap, sym, ◌∙◌, subst, inl, inr, ◌⊎◌, arith}
+use Rattle.std.proofs.lemmas.List.{take_more}
 use Rattle.carte_value.specs.Truths.{Among}
+use Rattle.carte_value.proofs.Members.{among_right}
 use Rattle.carte_book.specs.Book.{Book}
 use Rattle.carte_book.specs.Reason.{IsClean, AllClean, Begins, IsReason}
 use Rattle.carte_book.specs.declared.reason.Reason.{Reason}
 use Rattle.carte_book.specs.declared.reason.Reason.TheVariants.{Cycle, Missing, Dynamic}
 use Rattle.carte_bench.specs.Waits.{Onward, WaitsAs}
 use Rattle.carte_suspend.specs.Reasons.{HaveNone, FirstReason}
+
+-- the item at an index
+pub parted : (ts : List (List ℕ)) (at : ℕ) (t : List ℕ) → at < length ts → t ≡ get_or ts at t → (after : List (List ℕ)) × (ts ≡ take at ts ++ t ∷ after)
+parted [] at t below is = absurd (omega arith)
+parted (i ∷ ts) zero t below is = (ts, ap (λ x. x ∷ ts) (sym is))
+parted (i ∷ ts) (suc at) t below is = let p = parted ts at t (omega arith) is in (p.0, ap (λ xs. i ∷ xs) p.1)
+
+pub one_more : (ts : List (List ℕ)) (at : ℕ) (t : List ℕ) → at < length ts → t ≡ get_or ts at t → take (at + 1) ts ≡ take at ts ++ t ∷ []
+one_more ts at t below is = take_more ts at t below ∙ ap (λ x. take at ts ++ x ∷ []) (sym is)
+
+pub item_among : (ts : List (List ℕ)) (at : ℕ) (t : List ℕ) → at < length ts → t ≡ get_or ts at t → Among ts t
+item_among ts at t below is = let p = parted ts at t below is in subst (λ xs. Among xs t) (sym p.1) (among_right (take at ts) (t ∷ p.0) t (inl refl))
 
 pub none_end : (f : List ℕ → Onward) (ts : List (List ℕ)) (t : List ℕ) → HaveNone f ts → WaitsAs f t None → HaveNone f (ts ++ t ∷ [])
 none_end f [] t none one = (one, tt)

@@ -18,9 +18,8 @@ pub(crate) fn first_reason<J: Job + Drop>(
     ensures { IfOk result (FirstReason (onward (book_of bench.now) (spots_of bench.now)) targets.now) }
 {
     for at in 0..targets.len() {
-        let reason = bench.reason(alloc, &targets[at])?;
-        if reason.is_some() {
-            return Ok(reason);
+        if let Some(reason) = bench.reason(alloc, &targets[at])? {
+            return Ok(Some(reason));
         }
     }
     Ok(None)
