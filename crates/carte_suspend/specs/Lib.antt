@@ -1,1 +1,4 @@
-
+pub mod Standing
+pub mod Opening
+pub mod Going
+pub mod Reasons

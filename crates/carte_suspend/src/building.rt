@@ -1,24 +1,92 @@
-ghost use Rattle.std.specs.Prelude.{IfOk};
+ghost use Rattle.std.specs.Prelude.{◌≡◌, ℕ, List, [], ◌∷◌, ◌<◌, length, IfOk, OnOk};
+ghost use Rattle.carte_value.specs.Truths.{Among};
 ghost use Rattle.carte_book.specs.Book.{book_view};
+ghost use Rattle.carte_book.specs.Needs.{IsRule};
 ghost use Rattle.carte_record.specs.Kept.{kept_view};
 ghost use Rattle.carte_rebuild.specs.Ends.{EndsSuspending};
+ghost use Rattle.carte_bench.specs.Held.{spots_of, book_of};
+ghost use Rattle.carte_suspend.specs.Going.{GoesOn};
+ghost use Rattle.carte_suspend.specs.Standing.{IsStanding, IsDemanded, StaysKnown};
 
+use crate::opening::open;
+use crate::reasons::first_reason;
+use crate::turns::turn;
+use carte_bench::Bench;
 use carte_book::Book;
-use carte_rebuild::{Rebuilder, WorkEnd};
+use carte_rebuild::{Rebuilder, Work, WorkEnd};
 use carte_record::Kept;
-use carte_value::{Names, NoMemory};
+use carte_value::{Name, Names, NoMemory};
 use std::alloc::Global;
+use std::collections::VecDeque;
 
 /// Builds the targets, one after another: a key that asks for a rule without a value waits until that rule has one.
 /// `kept` is what the build begins with, after the marking.
 pub fn build<R: Rebuilder>(
-    _alloc: Global,
-    _rebuilder: &R,
-    _kept: &Kept,
-    _book: &Book,
-    _targets: &Names,
+    alloc: Global,
+    rebuilder: &R,
+    kept: &Kept,
+    book: &Book,
+    targets: &Names,
 ) -> Result<WorkEnd, NoMemory>
-    ensures { IfOk result (EndsSuspending (R.how _rebuilder.now) (kept_view _kept.now) (book_view _book.now) _targets.now) }
+    ensures { IfOk result (EndsSuspending (R.how rebuilder.now) (kept_view kept.now) (book_view book.now) targets.now) }
 {
-    Err(NoMemory)
+    let mut bench = Bench::new(alloc, book);
+    let mut work = Work::new(alloc);
+    treat_all(alloc, rebuilder, kept, book, &mut bench, &mut work, targets.as_slice())?;
+    match first_reason(alloc, &bench, targets.as_slice())? {
+        None => Ok(WorkEnd::All(work)),
+        Some(reason) => Ok(WorkEnd::Refused(work, reason)),
+    }
+}
+
+fn treat_all<R: Rebuilder>(
+    alloc: Global,
+    rebuilder: &R,
+    kept: &Kept,
+    book: &Book,
+    bench: &mut Bench<'_, R::Job>,
+    work: &mut Work,
+    targets: &[Name],
+) -> Result<(), NoMemory>
+    requires book { book_of bench.old ≡ book_view book.now }
+    requires standing { IsStanding R.Job.name (book_view book.now) (spots_of bench.old) [] }
+    ensures book { OnOk result (book_of bench.new ≡ book_view book.now) }
+    ensures standing { OnOk result (IsStanding R.Job.name (book_view book.now) (spots_of bench.new) []) }
+    ensures goes { OnOk result (GoesOn R.Job.started R.Job.fits (R.begun rebuilder.now (kept_view kept.now) (book_view book.now)) (R.how rebuilder.now) (kept_view kept.now) (book_view book.now) targets.now (spots_of bench.old) (spots_of bench.new) work.old work.new) }
+    ensures demanded { OnOk result ((t : List ℕ) → Among targets.now t → IsRule (book_view book.now) t → IsDemanded (spots_of bench.new) t) }
+    ensures chain { OnOk result (work.new.chain ≡ work.old.chain) }
+{
+    for at in 0..targets.len() {
+        treat(alloc, rebuilder, kept, book, bench, work, &targets[at])?;
+    }
+    Ok(())
+}
+
+/// Demands a target that the bench doesn't know, and gives turns to what it needs and to it until it is done, or no turn
+/// helps.
+fn treat<R: Rebuilder>(
+    alloc: Global,
+    rebuilder: &R,
+    kept: &Kept,
+    book: &Book,
+    bench: &mut Bench<'_, R::Job>,
+    work: &mut Work,
+    target: &Name,
+) -> Result<(), NoMemory>
+    requires book { book_of bench.old ≡ book_view book.now }
+    requires standing { IsStanding R.Job.name (book_view book.now) (spots_of bench.old) [] }
+    ensures book { OnOk result (book_of bench.new ≡ book_view book.now) }
+    ensures standing { OnOk result (IsStanding R.Job.name (book_view book.now) (spots_of bench.new) []) }
+    ensures goes { OnOk result ((ts : List (List ℕ)) → Among ts target.now → GoesOn R.Job.started R.Job.fits (R.begun rebuilder.now (kept_view kept.now) (book_view book.now)) (R.how rebuilder.now) (kept_view kept.now) (book_view book.now) ts (spots_of bench.old) (spots_of bench.new) work.old work.new) }
+    ensures known { OnOk result (StaysKnown (spots_of bench.old) (spots_of bench.new)) }
+    ensures demanded { OnOk result (IsRule (book_view book.now) target.now → IsDemanded (spots_of bench.new) target.now) }
+    ensures chain { OnOk result (work.new.chain ≡ work.old.chain) }
+{
+    let mut path = VecDeque::new(alloc);
+    let name = target.copy(alloc)?;
+    open(alloc, rebuilder, kept, book, bench, &mut path, name)?;
+    'turns: while let Some(name) = path.pop_front() {
+        turn(alloc, rebuilder, kept, book, bench, work, &mut path, name)?;
+    }
+    Ok(())
 }

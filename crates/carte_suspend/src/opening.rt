@@ -1,0 +1,72 @@
+ghost use Rattle.std.specs.Prelude.{◌≡◌, ◌∷◌, ℕ, List, None, true, is_none, IfOk, OnOk};
+ghost use Rattle.carte_book.specs.Book.{book_view};
+ghost use Rattle.carte_record.specs.Kept.{kept_view};
+ghost use Rattle.carte_bench.specs.Held.{spots_of, book_of};
+ghost use Rattle.carte_suspend.specs.Opening.{IsFreshRule, Opens};
+
+use carte_bench::{Bench, Place};
+use carte_book::{Book, Looked};
+use carte_effect::Job;
+use carte_rebuild::Rebuilder;
+use carte_record::Kept;
+use carte_value::{Name, NoMemory};
+use std::alloc::Global;
+use std::collections::VecDeque;
+
+/// Demands a rule that the bench doesn't know and puts it before the path. A path that waits for any other name is dropped:
+/// that one has nothing, or no turn helps it.
+pub(crate) fn open<R: Rebuilder>(
+    alloc: Global,
+    rebuilder: &R,
+    kept: &Kept,
+    book: &Book,
+    bench: &mut Bench<'_, R::Job>,
+    path: &mut VecDeque<Name>,
+    name: Name,
+) -> Result<(), NoMemory>
+    ensures book { book_of bench.new ≡ book_of bench.old }
+    ensures opens { OnOk result (Opens R.Job.name R.Job.started (λ k j. R.begun rebuilder.now (kept_view kept.now) (book_view book.now) (λ q. None) k j) (book_view book.now) (spots_of bench.old) (spots_of bench.new) path.old.items path.new.items name) }
+{
+    if !is_fresh(alloc, book, bench, &name)? {
+        path.clear();
+        return Ok(());
+    }
+    let job = rebuilder.start(alloc, kept, book, &name)?;
+    bench.demand(job)?;
+    push(path, name)
+}
+
+/// Whether a name is a rule that the bench doesn't know.
+fn is_fresh<J: Job + Drop>(
+    alloc: Global,
+    book: &Book,
+    bench: &Bench<'_, J>,
+    name: &Name,
+) -> Result<bool, NoMemory>
+    ensures { IfOk result (IsFreshRule (book_view book.now) (spots_of bench.now) name.now) }
+{
+    match book.lookup(name) {
+        Looked::Rule(_) => is_unknown(alloc, bench, name),
+        _ => Ok(false),
+    }
+}
+
+fn is_unknown<J: Job + Drop>(
+    alloc: Global,
+    bench: &Bench<'_, J>,
+    name: &Name,
+) -> Result<bool, NoMemory>
+    ensures { IfOk result (λ unknown. unknown ≡ is_none (spots_of bench.now name.now)) }
+{
+    Ok(matches!(bench.place(alloc, name)?, Place::Unknown))
+}
+
+/// Puts a name before a path.
+pub(crate) fn push(path: &mut VecDeque<Name>, name: Name) -> Result<(), NoMemory>
+    ensures { OnOk result (path.new.items ≡ name ∷ path.old.items) }
+{
+    match path.push_front(name) {
+        Ok(()) => Ok(()),
+        Err(_) => Err(NoMemory),
+    }
+}
