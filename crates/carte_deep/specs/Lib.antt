@@ -1,0 +1,4 @@
+pub mod Holding
+pub mod Work
+pub mod Jobs
+pub mod Laws

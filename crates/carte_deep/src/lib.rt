@@ -1,11 +1,37 @@
-//! Deep traces.
+//! Deep traces: a key has the result of any earlier trace whose inputs, those beneath the key, have the values of then.
+//!
+//! Whether such a trace holds is known before anything is worked out, since the book has the inputs. So `start` compares
+//! the links of the key's traces with the book, the newest trace first, and the job of a held key has its result from the
+//! start: it asks for nothing, and no task is made for it. Each other key runs its task. A name that is no input of the
+//! book, a digest that differs, and a result that the store lacks each count as a difference. The needs of a held key
+//! aren't looked into, so a build that changes nothing looks at its targets alone.
+//!
+//! The price is in the links. A trace links all inputs beneath its key, so the traces of a chain of rules, each with an
+//! input of its own, grow with the product of the chain and its inputs: a hundred rules over a hundred inputs leave about
+//! five thousand links. And nothing is cut off early: where an input changes, all rules above it run, though the values
+//! between are the same as before.
+//!
+//! Turned down:
+//! - A check in the job, which asks for the inputs: over a part of the values that lacks one it would stop at a name that
+//!   the key may not need, so a job would stop at names that nobody works out.
+//! - `Tries`, whose checks ask for the needs of the key alone, for the same reason.
+//! - One look-up by a digest of all links: the names must be known before, and they differ from trace to trace.
 #![tactic(auto)]
 
+mod held;
+mod job;
+#[cfg(test)]
+mod tests;
+
+ghost use Rattle.std.specs.Prelude.{◌≡◌, IfOk};
+
+use crate::held::held;
 use carte_book::Book;
 use carte_note::{Finished, Method, note_finished};
-use carte_rebuild::{Rebuilder, Tries};
+use carte_rebuild::Rebuilder;
 use carte_record::{Batch, Kept, Way};
 use carte_value::{Name, NoMemory};
+pub use job::DeepJob;
 use std::alloc::Global;
 
 /// Reuses the result of any trace of a key whose inputs beneath it still have their digests.
@@ -15,21 +41,24 @@ pub struct Deep;
 impl Rebuilder for Deep {
     ghost use Rattle.carte_record.specs.declared.way.Way.TheVariants.{Deep as InDepth};
     ghost use Rattle.carte_sound.specs.Held.{tracing};
+    ghost use Rattle.carte_deep.specs.Jobs.{IsDeepJob};
+    ghost use Rattle.carte_deep.specs.Laws.{deep_fits, deep_goes};
 
-    type Job = Tries;
+    type Job = DeepJob;
 
     ghost how = { λ r. tracing InDepth };
 
-    ghost begun = { λ r K b t k p. ⊥ };
+    ghost begun = { λ r K b t k p. IsDeepJob K b t k p };
 
     fn start(
         &self,
-        _alloc: Global,
-        _kept: &Kept,
-        _book: &Book,
-        _key: &Name,
-    ) -> Result<Tries, NoMemory> {
-        Err(NoMemory)
+        alloc: Global,
+        kept: &Kept,
+        book: &Book,
+        key: &Name,
+    ) -> Result<DeepJob, NoMemory> {
+        let earlier = held(alloc, kept, book, key)?;
+        DeepJob::of(alloc, book, key, earlier)
     }
 
     fn note(
@@ -58,7 +87,7 @@ impl Rebuilder for Deep {
         true
     }
 
-    ghost fits = { λ r K b H t k p base job. absurd job };
+    ghost fits = { λ r K b H t k p base job. deep_fits K b H base t k p job };
 
-    ghost goes_on = { λ r K b H t k p part a step q base job grown is_part gives. absurd job };
+    ghost goes_on = { λ r K b H t k p part a step q base job grown is_part gives. deep_goes K b H base t k p job part grown is_part a step q gives };
 }
