@@ -2,6 +2,7 @@
 #![tactic(auto)]
 
 mod answer;
+mod build;
 mod clear;
 mod engine;
 mod fault;
