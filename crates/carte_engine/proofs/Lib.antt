@@ -6,3 +6,4 @@ pub mod Keeping
 pub mod Enduring
 pub mod Committing
 pub mod Emptying
+pub mod Faulting

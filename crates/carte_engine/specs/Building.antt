@@ -41,6 +41,11 @@ abbrev pub KeepsStation : Scheduler → How → Book → List (List ℕ) → Sta
 KeepsStation s h b targets old file = Keeps old.journal.limit (kept_in old) file
     ⊎ ((B : Batch) × (a : Answer) × Leads s h (kept_in old) b targets a B × Keeps old.journal.limit (apply B (kept_in old)) file)
 
+-- an answer as a result
+abbrev pub answered : Answer → Result Built BuildFault
+answered (answer.Built built) = Ok built
+answered (answer.Refused reason) = Err (fault.Refused reason)
+
 -- what holds of the answer that a build gave, where it gave one
 abbrev pub OnAnswer : Result Built BuildFault → (Answer → Type 0) → Type 0
 OnAnswer (Ok built) P = P (answer.Built built)
