@@ -2,7 +2,7 @@
 """Compares a program with the second reading on random small books: random_books.py PROGRAM COUNT SEED
 
 Most books are whole; some have a broken formula, another fault, a cycle, a missing name or a dynamic rule.
-The first difference is printed with its book. At the end stands how many books ended with each status.
+Each is built by the topological scheduler over a new state. The first difference is printed with its book. At the end stands how many books ended with each status.
 """
 import collections
 import pathlib
@@ -115,7 +115,8 @@ def toml(value):
 
 def run(program, folder, book, targets):
     (folder / "book.toml").write_bytes(book)
-    done = subprocess.run([program, "build", "book.toml", "state", *targets], cwd=folder, stdin=subprocess.DEVNULL,
+    (folder / "state").unlink(missing_ok=True)
+    done = subprocess.run([program, "build", "book.toml", "state", "--scheduler=topological", *targets], cwd=folder, stdin=subprocess.DEVNULL,
                           timeout=120, capture_output=True)
     return done.returncode, done.stdout, done.stderr
 

@@ -1,25 +1,45 @@
 //! The program: makes the real files and streams, and leaves all else to the top call.
+//!
+//! What the words name is opened in `files`, and nothing is where they are no command. What can't be opened as it has to
+//! be is handed in as a file whose every call fails, so opening has no status of its own. No proof can say what a file
+//! holds, or that it was the right one: what is proved is that the program's status is that of the top call over these
+//! words (`Ends`), and what `files` says of the ways in which files are opened. The rest is shown by `tests/program.py`.
+//!
+//! Turned down: buffers in front of the files, which would keep a fault from the call that it belongs to; and reading the
+//! words in one place alone, which would leave the top call, whose theorem begins with the words, without them.
 #![tactic(auto)]
 
-use carte_io::{Absent, ReadSource, Source, WriteSink};
-use carte_top::{Status, Word, book_word, carte, out_of_memory};
+mod descriptors;
+mod files;
+
+ghost use Rattle.std.specs.Prelude.{◌≡◌};
+ghost use Rattle.std.specs.Process.{exit_status};
+ghost use Rattle.carte_report.specs.Status.{code_of};
+ghost use Rattle.carte_report.specs.declared.status.Status.TheVariants as status;
+ghost use Rattle.carte_top.specs.Around.{over_source, over_disk};
+ghost use Rattle.carte.specs.Ends.{Ends, OverFiles, OverBook, OverBoth};
+
+use carte_io::{Absent, Disk, FileDisk, ReadSource, Source, WriteSink};
+use carte_top::{Status, Word, carte, out_of_memory};
 use carte_value::NoMemory;
+use files::Files;
+use std::env;
 use std::fs::File;
 use std::io::ErrorKind;
 use std::process::ExitCode;
-use std::{env, fs};
 
 fn main(rt: HostRuntime) -> ExitCode {
     let status = match words(&rt) {
         Ok(words) => run(&rt, words.as_slice()),
         Err(NoMemory) => give_up(&rt),
     };
-    ExitCode::from(status.code())
+    exit_code(&status)
 }
 
-// There was no memory for what the top call takes.
-fn give_up(rt: &HostRuntime) -> Status {
-    out_of_memory(&mut WriteSink::of(rt.stderr()))
+fn exit_code(status: &Status) -> ExitCode
+    ensures { exit_status result ≡ code_of status.now }
+{
+    ExitCode::from(status.code())
 }
 
 // The words behind the program's name. Where one isn't UTF-8 there are none, which is no command.
@@ -28,49 +48,63 @@ fn words(rt: &HostRuntime) -> Result<Vec<Word>, NoMemory> {
     match env::args(rt) {
         Ok(all) => {
             for text in all.skip(1) {
-                let word = Word::of(rt.alloc(), text.as_str())?;
-                if let Err(_) = words.push(word) {
-                    return Err(NoMemory);
-                }
+                words.push(Word::of(rt.alloc(), text.as_str())?)?;
             }
             Ok(words)
         }
-        Err(error) => {
-            if error.kind() == ErrorKind::InvalidData {
-                Ok(words)
-            } else {
-                Err(NoMemory)
-            }
-        }
+        Err(error) if error.kind() == ErrorKind::InvalidData => Ok(words),
+        Err(_) => Err(NoMemory),
     }
 }
 
-// The book's file, where the words are a command and it can be opened for reading.
-fn open(rt: &HostRuntime, words: &[Word]) -> Result<Option<File>, NoMemory> {
-    match book_word(rt.alloc(), words) {
-        Ok(Some(word)) => match fs::open(rt, word.text()) {
-            Ok(file) => Ok(Some(file)),
-            Err(error) if error.kind() == ErrorKind::OutOfMemory => Err(NoMemory),
-            Err(_) => Ok(None),
-        },
-        Ok(None) => Ok(None),
-        Err(refused) => Err(refused),
-    }
+// There was no memory for what the top call takes.
+fn give_up(rt: &HostRuntime) -> Status
+    ensures { result ≡ status.NoMemory }
+{
+    out_of_memory(&mut WriteSink::of(rt.stderr()))
 }
 
-fn run(rt: &HostRuntime, words: &[Word]) -> Status {
-    match open(rt, words) {
-        Ok(Some(file)) => {
-            let mut book = ReadSource::of(file);
-            build(rt, words, &mut book)
-        }
-        Ok(None) => build(rt, words, &mut Absent::of()),
+fn run(rt: &HostRuntime, words: &[Word]) -> Status
+    ensures { Ends words.now result }
+{
+    match files::open(rt, words) {
+        Ok(files) => over_files(rt, words, files),
         Err(NoMemory) => give_up(rt),
     }
 }
 
-fn build<B: Source>(rt: &HostRuntime, words: &[Word], book: &mut B) -> Status {
+fn over_files(rt: &HostRuntime, words: &[Word], files: Files) -> Status
+    ensures { OverFiles words.now result }
+{
+    match files.book {
+        Some(file) => over_book(rt, words, &mut ReadSource::of(file), files.state),
+        None => over_book(rt, words, &mut Absent::of(), files.state),
+    }
+}
+
+fn over_book<B: Source>(
+    rt: &HostRuntime,
+    words: &[Word],
+    book: &mut B,
+    state: Option<File>,
+) -> Status
+    ensures { OverBook words.now (over_source B.tells B.state book.old book.new) result }
+{
+    match state {
+        Some(file) => over_both(rt, words, book, &mut FileDisk::of(file)),
+        None => over_both(rt, words, book, &mut Absent::of()),
+    }
+}
+
+fn over_both<B: Source, D: Disk>(
+    rt: &HostRuntime,
+    words: &[Word],
+    book: &mut B,
+    state: &mut D,
+) -> Status
+    ensures { OverBoth words.now (over_source B.tells B.state book.old book.new) (over_disk D.tells D.story D.faults state.old state.new) result }
+{
     let mut out = WriteSink::of(rt.stdout());
     let mut err = WriteSink::of(rt.stderr());
-    carte(rt.alloc(), words, book, &mut out, &mut err)
+    carte(rt.alloc(), words, book, state, &mut out, &mut err)
 }

@@ -12,6 +12,7 @@ build -> Words
 build|book -> Words
 clean -> Words
 session|book|s -> Words
+explain|book|s|a -> Words
 book|s|a -> Words
 |book|s|a -> Words
 Build|book|s|a -> Words
