@@ -1,7 +1,6 @@
 -- Lists of finished keys with one key more at their end, and what is found in them.
 use Rattle.std.proofs.Common.{◌≡◌, ℕ, Bool, true, false, cond, not, ◌&&◌, List, [], ◌∷◌, ◌++◌, Some, Ok, refl, ap, sym, ◌∙◌, subst, inl, inr, ◌⊎◌}
 use Rattle.std.specs.Cmp.Lexicographic.{bytes_decides}
-use Rattle.carte_value.specs.Names.{name_eq}
 use Rattle.carte_value.specs.Truths.{Among, NoneTwice}
 use Rattle.carte_value.proofs.Members.{same_or_not, name_apart}
 use Rattle.carte_effect.specs.declared.look.Stuck.{Stuck}

@@ -1,11 +1,10 @@
 -- One rule of an order more is treated.
-use Rattle.std.proofs.Common.{◌≡◌, ℕ, Bool, true, false, cond, List, [], ◌∷◌, ◌++◌, Option, Some, None, Result, Ok, Err, refl, ap, sym, ◌∙◌, subst, inl, inr, ◌⊎◌}
+use Rattle.std.proofs.Common.{◌≡◌, ℕ, Bool, false, cond, List, [], ◌∷◌, ◌++◌, Option, Some, None, Result, Ok, Err, refl, ap, sym, ◌∙◌, subst, inl, inr, ◌⊎◌}
 use Rattle.carte_value.specs.declared.value.Value.{Value}
 use Rattle.carte_value.specs.Once.{Answers}
 use Rattle.carte_value.specs.Truths.{Truth, Extends, Among, HasValue}
 use Rattle.carte_value.proofs.Members.{same_or_not}
 use Rattle.carte_tree.specs.Formula.{refs_of}
-use Rattle.carte_tree.specs.Meaning.{fetched}
 use Rattle.carte_tree.proofs.StaticRuns.{static_fetched}
 use Rattle.carte_effect.specs.declared.look.Stuck.{Stuck}
 use Rattle.carte_effect.specs.declared.outcome.Made.{Made}

@@ -1,6 +1,6 @@
 -- The search for a dynamic rule: what it has met, by which paths, and what it answers.
 use Rattle.std.specs.Prelude.{ℕ, ◌≡◌, ◌≤◌, ◌+◌, ◌++◌, ◌⊎◌, true, false, List, [], ◌∷◌, length, map, slice_get, slice_index_or, Option, Some, None, if◌then◌else◌}
-use Rattle.std.specs.BTreeSet.{BTreeSet, contains, IsOrdered}
+use Rattle.std.specs.BTreeSet.{contains, IsOrdered}
 use Rattle.std.specs.Ordering.{eq_by_cmp}
 use Rattle.carte_value.specs.Names.{name_cmp}
 use Rattle.carte_value.specs.Truths.{Among}
