@@ -1,5 +1,5 @@
 -- The name of a job as it is begun.
-use Rattle.std.proofs.Common.{◌≡◌, ℕ, List, [], Option, Some, None, refl, sym, ap, ◌∙◌}
+use Rattle.std.proofs.Common.{◌≡◌, ℕ, List, Option, Some, None, refl, ap, ◌∙◌}
 use Rattle.std.proofs.lemmas.Result.{IfOk-weaker}
 use Rattle.std.specs.Prelude.{Result, IfOk}
 use Rattle.carte_book.specs.Book.{Book}
@@ -8,7 +8,6 @@ use Rattle.carte_record.specs.Kept.{SomeKept}
 use Rattle.carte_deep.specs.declared.job.DeepJob.{DeepJob}
 use Rattle.carte_deep.specs.Holding.{Finds}
 use Rattle.carte_deep.specs.Work.{name_in, key_or, Starts}
-use Rattle.carte_deep.specs.Jobs.{IsDeepJob}
 use Rattle.carte_deep.specs.Laws.{given_is}
 
 -- what is found has the key

@@ -5,7 +5,7 @@ use Rattle.carte_value.specs.declared.link.Link.{Link}
 use Rattle.carte_value.specs.declared.value.Value.{Value}
 use Rattle.carte_value.specs.Lists.{Has}
 use Rattle.carte_value.specs.Truths.{Truth, Extends}
-use Rattle.carte_value.specs.Asks.{Asks, done, run}
+use Rattle.carte_value.specs.Asks.{Asks, done}
 use Rattle.carte_value.specs.Once.{Answers}
 use Rattle.carte_value.proofs.Members.{among_left}
 use Rattle.carte_tree.specs.Tree.{Tree}

@@ -6,10 +6,10 @@
 //! book, a digest that differs, and a result that the store lacks each count as a difference. The needs of a held key
 //! aren't looked into, so a build that changes nothing looks at its targets alone.
 //!
-//! The price is in the links. A trace links all inputs beneath its key, so the traces of a chain of rules, each with an
-//! input of its own, grow with the product of the chain and its inputs: a hundred rules over a hundred inputs leave about
-//! five thousand links. And nothing is cut off early: where an input changes, all rules above it run, though the values
-//! between are the same as before.
+//! The price is in the links. A trace links all inputs beneath its key, and its entry names them, so those of a chain of
+//! rules, each with an input of its own, grow with the product of the chain and its inputs: a hundred rules over a hundred
+//! inputs leave about five thousand links. And nothing is cut off early: where an input changes, all rules above it run,
+//! though the values between are the same as before.
 //!
 //! Turned down:
 //! - A check in the job, which asks for the inputs: over a part of the values that lacks one it would stop at a name that

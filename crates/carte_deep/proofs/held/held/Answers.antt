@@ -1,4 +1,4 @@
-use Rattle.std.proofs.Common.{◌≡◌, ◌<◌, ◌≤◌, ◌-◌, ap, sym, ◌∙◌, length, arith}
+use Rattle.std.proofs.Common.{◌<◌, ◌≤◌, ◌-◌, ap, sym, ◌∙◌, length, arith}
 use Rattle.carte_book.specs.Book.{book_view}
 use Rattle.carte_record.specs.Lookups.{first_value}
 use Rattle.carte_deep.specs.Holding.{given_by}
