@@ -10,18 +10,28 @@ use std::test::Fail;
 /// The rule `s2`, which needs another one: its value is 1 + 2 + 2.
 const BOOK: &[u8] = b"[inputs]\na = 1\nb = 2\n[rules]\ns1 = 'a + b'\ns2 = 's1 + b'\n";
 
-/// A build of `s2` over the disk, from loading on: its value, how many rules ran, and how many were reused.
+/// A build of `s2` over the disk, from loading on.
+fn run(
+    alloc: Global,
+    disk: &mut MemDisk,
+    limit: u32,
+    scheduler: Scheduler,
+) -> Result<Result<Built, BuildFault>, Fail> {
+    let book = read_rules(alloc, BOOK)?;
+    let mut targets = Names::new(alloc);
+    targets.push(Name::rule(alloc, "s2")?)?;
+    let mut engine = Engine::load(alloc, disk, limit as u64)?;
+    Ok(engine.build(alloc, disk, &book, &Verify, scheduler, &targets))
+}
+
+/// Its value, how many rules ran, and how many were reused.
 fn built(
     alloc: Global,
     disk: &mut MemDisk,
     limit: u32,
     scheduler: Scheduler,
 ) -> Result<String, Fail> {
-    let book = read_rules(alloc, BOOK)?;
-    let mut targets = Names::new(alloc);
-    targets.push(Name::rule(alloc, "s2")?)?;
-    let mut engine = Engine::load(alloc, disk, limit as u64)?;
-    let built = engine.build(alloc, disk, &book, &Verify, scheduler, &targets)?;
+    let built = run(alloc, disk, limit, scheduler)??;
     let value = match built.values.get(0) {
         Some(value) => value.print(alloc)?,
         None => String::new(alloc),
@@ -54,13 +64,12 @@ fn one_byte_below_is_full(rt: HostRuntime) -> Result<(), Fail> {
     let mut exact = MemDisk::of(alloc, &[], &[])?;
     let _ = built(alloc, &mut exact, needed, Scheduler::Topological)?;
     let mut short = MemDisk::of(alloc, &[], &[])?;
-    let full = built(
-        alloc,
-        &mut short,
-        needed.saturating_sub(1),
-        Scheduler::Topological,
-    );
-    assert!(rt; full.is_err());
+    let most = needed.saturating_sub(1);
+    let full = match run(alloc, &mut short, most, Scheduler::Topological)? {
+        Err(BuildFault::StateFull { needed, limit }) => (needed, limit),
+        _ => (0, 0),
+    };
+    assert_eq!(rt; full, (needed as u64, most as u64));
     assert_eq!(rt; short.passed(), 0);
     Ok(())
 }
