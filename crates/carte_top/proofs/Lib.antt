@@ -1,7 +1,1 @@
-pub mod Parts
-pub mod Evaluating
-pub mod Built
-pub mod Loading
-pub mod WordsRead
-pub mod Outcomes
-pub mod Dues
+
