@@ -4,9 +4,7 @@ ghost use Rattle.carte_codec.specs.Each.{EachFits};
 ghost use Rattle.carte_book.specs.Book.{book_view};
 ghost use Rattle.carte_record.specs.Bodies.{IsUnmarked};
 ghost use Rattle.carte_state.specs.States.{IsLoaded, kept_in};
-ghost use Rattle.carte_engine.specs.Answers.{IsPlan, Under};
 ghost use Rattle.carte_top.specs.Around.{over_source, over_disk, over_sink};
-ghost use Rattle.carte_top.specs.Chosen.{scheduler_of, how_of};
 ghost use Rattle.carte_top.specs.Found.{reply_to};
 ghost use Rattle.carte_top.specs.Running.{Builds, BuildsOver, BuildsWith, Settles};
 
@@ -75,33 +73,10 @@ fn build_with<D: Disk, O: Sink>(
         (over_sink O.tells O.state out.old out.new)
         result }
 {
-    match plan(alloc, asked, engine, book) {
-        Ok(plan) => carry_out(alloc, asked, book, plan, engine, state, out),
-        Err(_) => Status::NoMemory,
-    }
-}
-
-// The reply's text is made before the commit, so want of memory comes before it.
-fn carry_out<D: Disk, O: Sink>(
-    alloc: Global,
-    asked: &Words,
-    _book: &Book,
-    plan: Plan,
-    engine: &mut Engine,
-    state: &mut D,
-    out: &mut O,
-) -> Status
-    requires loaded { D.tells → IsLoaded engine.old (D.story state.old).now.reads }
-    requires whole { engine.old.journal.broken ≡ false }
-    requires unmarked { EachFits IsUnmarked plan.batch.entries }
-    requires plans { Under (kept_in engine.old) (book_view _book.now)
-        (IsPlan (scheduler_of asked.now.scheduler) (how_of asked.now.rebuilder) (kept_in engine.old) (book_view _book.now) asked.now.targets plan) }
-    ensures { BuildsWith engine.old.journal.limit asked.now (book_view _book.now) (kept_in engine.old)
-        (over_disk D.tells D.story D.faults state.old state.new)
-        (over_sink O.tells O.state out.old out.new)
-        result }
-{
-    let Plan { batch, answer } = plan;
+    let Plan { batch, answer } = match plan(alloc, asked, engine, book) {
+        Ok(plan) => plan,
+        Err(_) => return Status::NoMemory,
+    };
     match answer {
         Answer::Built(built) => settle(alloc, asked, &built, &batch, engine, state, out),
         Answer::Refused(reason) => match commit(alloc, engine, state, &batch) {
@@ -111,7 +86,7 @@ fn carry_out<D: Disk, O: Sink>(
     }
 }
 
-// The text of the reply, then the commit, then the reply.
+// The reply's text is made before the commit, so want of memory comes before it.
 fn settle<D: Disk, O: Sink>(
     alloc: Global,
     asked: &Words,
