@@ -1,6 +1,7 @@
 pub mod Putting
 pub mod Keeping
 pub mod Clearing
+pub mod Cleaning
 pub mod Building
 pub mod Opening
 pub mod Books

@@ -47,6 +47,7 @@ module _ (limit : ℕ) (o : OverDisk) (m : Story) (f : ℕ) (q : Type 0) (e : o.
   commits_from w b K a c = record { batch = c.batch; answers = c.answers; put = put_from K c.batch c.put }
 
   replies_from : (w : Asked) (b : Book) (K : SomeKept) (k : OverSink) (Takes : OverSink → List ℕ → Type 0) → Replies limit w (loaded_from o m f q) k Takes b K → Replies limit w o k Takes b K
+  unfolding commits_from
   replies_from w b K k Takes r = record { built = r.built; commits = commits_from w b K (answer.Built r.built) r.commits; keeps = r.keeps; takes = r.takes }
 
   overfills_from : (w : Asked) (b : Book) (K : SomeKept) (needed most : ℕ) → Overfills limit w (loaded_from o m f q) needed most b K → Overfills limit w o needed most b K

@@ -75,8 +75,8 @@ pub stays_kept : (limit : ℕ) (K : SomeKept) (s u : Story) (P : List ℕ → Ty
 stays_kept limit K s u P keeps settled same f = leaves_none s u P same (λ file image. f file (subst (Keeps limit K) (sym (settled_image s.now file settled image)) keeps))
 
 not_true : (b : Bool) → ¬ (b ≡ true) → b ≡ false
-not_true true no = absurd (no refl)
-not_true false no = refl
+not_true true never = absurd (never refl)
+not_true false never = refl
 
 -- why a batch wasn't put in
 module _ (e : Stand) (d : OverDisk) (B : Batch) (loaded : d.tells → IsLoaded e d.old.now.reads) where

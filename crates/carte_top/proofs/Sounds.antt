@@ -46,6 +46,6 @@ cleaned_sound limit d stays told settled H (K, keeps, sound) distinct =
 
 pub sound_run : (limit : ℕ) (words : List (List ℕ)) (s : OverSource) (d : OverDisk) → Visits limit words s d → IsSoundRun limit words s d
 sound_run limit words s d (inl unvisited) = ([], tt, unvisited_sound limit d unvisited)
-sound_run limit words s d (inr (w, asked, inl (is_build, bytes, was, b, is_book, stays))) =
-    (b ∷ [], (w, asked, is_build, (bytes, was, b, is_book, refl)), built_sound limit w b d stays)
+sound_run limit words s d (inr (w, asked, inl (is_build, holds))) =
+    (holds.2 ∷ [], (w, asked, (is_build, (holds.0, holds.1, holds.2, holds.3, refl))), built_sound limit w holds.2 d holds.4)
 sound_run limit words s d (inr (w, asked, inr (is_clean, stays))) = ([], tt, cleaned_sound limit d stays)
