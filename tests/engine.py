@@ -2,13 +2,14 @@
 
 It shares no code with the program. `build` gives the reply or the refusal, the rules that ran, and what is kept
 afterwards, for the schedulers `topological` and `suspending` and the rebuilders `dirty`, `verifying`,
-`constructive` and `deep`. A book is its inputs and its rules, as `reference.read_book` gives them.
+`constructive` and `deep`. A book is its inputs and its rules, as `reference.read_book` or `sheets.read_sheet` gives
+them; in a sheet every other cell is an input that is empty.
 """
 import copy
 import hashlib
 from dataclasses import dataclass, field
 
-from formulas import Bad, evaluate, printed
+from formulas import EMPTY, Bad, cell_name, evaluate, printed, rule_name
 from reference import Refused, Stuck, refs, refuse_dynamic
 
 CODES = {Bad.DIV0: 1, Bad.VALUE: 2, Bad.REF: 3, Bad.NUM: 4, Bad.LEN: 5}
@@ -16,6 +17,8 @@ WAYS = ("verifying", "constructive", "deep")
 
 
 def spelling(value):
+    if value is EMPTY:
+        return b"\0"
     if isinstance(value, Bad):
         return bytes([3, CODES[value]])
     if isinstance(value, bytes):
@@ -51,14 +54,20 @@ class Kept:
 class Book:
     """Clean values and needs, each worked out once and afresh from the inputs."""
 
-    def __init__(self, inputs, rules):
-        self.inputs, self.rules = inputs, rules
+    def __init__(self, inputs, rules, is_sheet):
+        self.inputs, self.rules, self.is_sheet = inputs, rules, is_sheet
         self.values, self.needs, self.under_way = dict(inputs), {}, set()
+
+    def input(self, name):
+        """The value of a name that is no rule, or None."""
+        return None if name in self.rules else self.inputs.get(name, EMPTY if self.is_sheet else None)
 
     def clean(self, name):
         """The clean value of a name, or None."""
-        if name in self.values or name not in self.rules:
-            return self.values.get(name)
+        if name not in self.rules:
+            return self.input(name)
+        if name in self.values:
+            return self.values[name]
         if name in self.under_way:
             return None
         self.under_way.add(name)
@@ -73,7 +82,7 @@ class Book:
             return found
 
         try:
-            self.values[name] = evaluate(self.rules[name], look)
+            self.values[name] = evaluate(self.rules[name], look, cell_name if self.is_sheet else rule_name)
         except Stuck:
             self.values[name] = None
         self.under_way.discard(name)
@@ -86,7 +95,7 @@ class Book:
 
     def beneath(self, name):
         """The inputs met when needs are walked depth first, each at its first place."""
-        if name in self.inputs:
+        if self.input(name) is not None:
             return (name,)
         found = {}
         for need in self.needs_of(name):
@@ -111,10 +120,10 @@ class Book:
 
 def begin(kept, book):
     """What a build begins with: nothing under other rules, and else the stale entries marked."""
-    if kept.rules != book.rules:
+    if kept.rules != (book.is_sheet, book.rules):
         return Kept()
     begun = copy.deepcopy(kept)
-    changed = {name for name, seen in kept.seen.items() if name not in book.inputs or digest(book.inputs[name]) != seen}
+    changed = {name for name, seen in kept.seen.items() if book.input(name) is None or digest(book.input(name)) != seen}
     while True:
         more = {key for key, entry in kept.entries.items() if key not in changed and changed.intersection(entry.needs)}
         if not more:
@@ -127,7 +136,7 @@ def begin(kept, book):
 
 def now(book, way, name):
     """The digest that a link's name has now."""
-    value = book.inputs.get(name) if way == "deep" else book.clean(name)
+    value = book.input(name) if way == "deep" else book.clean(name)
     return None if value is None else digest(value)
 
 
@@ -163,7 +172,7 @@ def finish(rebuilder, left, begun, book, key, ran):
         new = Entry(result, book.beneath(key), shallow=True)
     if new != entry:
         left.entries[key] = new
-        left.seen.update((name, digest(book.inputs[name])) for name in new.needs if name in book.inputs)
+        left.seen.update((name, digest(book.input(name))) for name in new.needs if book.input(name) is not None)
     if ran:
         left.store.setdefault(result, book.clean(key))
     if ran and rebuilder in WAYS:
@@ -172,9 +181,9 @@ def finish(rebuilder, left, begun, book, key, ran):
         left.traces[rebuilder][key] = [(links, result)] + older
 
 
-def build(kept, inputs, rules, targets, scheduler="suspending", rebuilder="verifying", listed=False):
+def build(kept, inputs, rules, targets, scheduler="suspending", rebuilder="verifying", listed=False, is_sheet=False):
     """The reply or the reason with its path, the rules that ran, and what is kept afterwards."""
-    book = Book(inputs, rules)
+    book = Book(inputs, rules, is_sheet)
     begun = begin(kept, book)
     left = copy.deepcopy(begun)
     reason = None
@@ -191,8 +200,8 @@ def build(kept, inputs, rules, targets, scheduler="suspending", rebuilder="verif
     for key in done:
         finish(rebuilder, left, begun, book, key, key in ran)
     if done:
-        left.rules = rules
-    elif kept.rules != rules:
+        left.rules = (is_sheet, rules)
+    elif kept.rules != (is_sheet, rules):
         left = kept
     if reason:
         return reason, sorted(ran), left

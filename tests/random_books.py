@@ -36,10 +36,15 @@ class Maker:
         self.count = self.random.randint(2, 10)
         self.inputs = self.random.randint(1, self.count - 1)
 
+    strange = ["lost", "a/b", "k", "k1.", "k99"]
+
+    def key(self, number):
+        return f"k{number}"
+
     def name(self, before):
         if self.missing and self.random.random() < 0.15:
-            return self.random.choice(["lost", "a/b", "k", "k1.", "k99"])
-        return f"k{self.random.randrange(self.count if self.round else before)}"
+            return self.random.choice(self.strange)
+        return self.key(self.random.randrange(self.count if self.round else before))
 
     def leaf(self, before):
         kind = self.random.random()
@@ -88,7 +93,7 @@ class Maker:
     def rules(self):
         for key in range(self.inputs, self.count):
             text = self.formula(key, self.random.randint(0, 4))
-            yield f"k{key}", self.spoilt(text) if self.broken and self.random.random() < 0.4 else text
+            yield self.key(key), self.spoilt(text) if self.broken and self.random.random() < 0.4 else text
 
     def book(self):
         inputs = "".join(f"k{key} = {toml(self.random.choice(VALUES))}\n" for key in range(self.inputs))
@@ -100,8 +105,31 @@ class Maker:
         return "\n".join(tables)
 
     def targets(self):
-        chosen = [f"k{self.random.randrange(self.count)}" for _ in range(self.random.randint(1, 4))]
+        chosen = [self.key(self.random.randrange(self.count)) for _ in range(self.random.randint(1, 4))]
         return chosen + ["nowhere"] * (self.missing and self.random.random() < 0.2)
+
+
+class CellMaker(Maker):
+    """Makes one sheet, row by row over four columns."""
+    strange = ["Z9", "zz9999", "D9", "AA1"]
+
+    def key(self, number):
+        return f"{'ABCD'[number % 4]}{number // 4 + 1}"
+
+    def name(self, before):
+        name = super().name(before)
+        return name.lower() if self.random.random() < 0.1 else name
+
+    def leaf(self, before):
+        return super().leaf(before).replace("k1", "b1").replace("k2", "C1")
+
+    def call(self, before, depth):
+        if before and self.random.random() < 0.3:
+            corners = [self.key(self.random.randrange(self.count if self.round else before)) for _ in "ab"]
+            # A range of corners that come earlier may reach cells that come later, and so itself.
+            if self.round or corners[0][0] == corners[1][0] or corners[0][1:] == corners[1][1:]:
+                return f"{self.random.choice(MANY)}({':'.join(corners)},{self.leaf(before)})"
+        return super().call(before, depth)
 
 
 def toml(value):

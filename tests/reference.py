@@ -121,7 +121,9 @@ def parts(expr):
 
 def refs(expr):
     """The names written in a formula."""
-    return {expr[1]} if expr[0] == "ref" else set().union(*map(refs, parts(expr)))
+    if expr[0] in ("ref", "range"):
+        return {expr[1]} if expr[0] == "ref" else set(expr[1])
+    return set().union(*map(refs, parts(expr)))
 
 
 def is_dynamic(expr):

@@ -68,27 +68,31 @@ fn there<T: Drop>(opened: io::Result<T>) -> Result<Option<T>, NoMemory>
         Err(_) => Ok(None),
     }
 }
-/// The state's file, made empty where it isn't there. Nobody else has it, and it is settled on its device.
+
+/// The state's file, made empty where it isn't there. Nobody else has it, and it is settled on its device: a new one with
+/// its folder, since a run that made it may have been cut off before it was found there.
 ///
 /// It fails where another run has the file, where it is no regular one, and where it is the book's own and so short that
 /// it would be written over.
 fn open_state(rt: &HostRuntime, path: &str, book: &str) -> io::Result<File> {
-    let (file, is_made) = open_or_make(rt, path)?;
-    take(rt, &file, book)?;
+    let file = open_or_make(rt, path)?;
+    if !file.metadata()?.is_file() {
+        return Err(ErrorKind::InvalidInput.into());
+    }
+    file.try_lock()?;
     file.sync_all()?;
-    if is_made {
-        sync_folder_of(rt, path)?;
+    // Its length is looked at once nobody else writes it.
+    let state = file.metadata()?;
+    if is_new(&state) {
+        settle_new(rt, &state, path, book)?;
     }
     Ok(file)
 }
 
-fn open_or_make(rt: &HostRuntime, path: &str) -> io::Result<(File, bool)> {
+fn open_or_make(rt: &HostRuntime, path: &str) -> io::Result<File> {
     match state_options(false).open(rt, path) {
-        Ok(file) => Ok((file, false)),
-        Err(error) if error.kind() == ErrorKind::NotFound => {
-            Ok((state_options(true).open(rt, path)?, true))
-        }
-        Err(error) => Err(error),
+        Err(error) if error.kind() == ErrorKind::NotFound => state_options(true).open(rt, path),
+        opened => opened,
     }
 }
 
@@ -105,13 +109,11 @@ fn state_options(makes: bool) -> OpenOptions
     options
 }
 
-fn take(rt: &HostRuntime, file: &File, book: &str) -> io::Result<()> {
-    file.try_lock()?;
-    let state = file.metadata()?;
-    if !state.is_file() || (is_new(&state) && is_same(rt, &state, book)) {
+fn settle_new(rt: &HostRuntime, state: &Metadata, path: &str, book: &str) -> io::Result<()> {
+    if is_same(rt, state, book) {
         return Err(ErrorKind::InvalidInput.into());
     }
-    Ok(())
+    sync_folder_of(rt, path)
 }
 
 fn is_new(state: &Metadata) -> bool
