@@ -13,8 +13,8 @@
 //! first of all paths. Both take n log n steps for n references, and no recursion.
 //!
 //! The build works over any rebuilder: for each rule of the order a job is made, takes one turn on a bench, and what it made is
-//! finished. It looks into no job. By the laws of rebuilders alone a job has all of its needs when it takes its turn, so none
-//! stops, each is driven once, and a key runs exactly where it isn't held.
+//! finished. It looks into no job. Where what is kept may be relied on, each job has all of its needs when it takes its turn, by
+//! the laws of rebuilders alone: so none stops, each is driven once, and a key runs exactly where it isn't held.
 //!
 //! Turned down: counting for each rule the references that are still open and taking rules without any, which finds an order as
 //! fast but tells of a cycle only that some rules are left; a search for dynamic rules depth first, since a rule would be
