@@ -98,10 +98,14 @@ module _ {J : Type 0} (name : J → List ℕ) (b : Book) (s : Spots J) (standing
         blocked k (inl nothing) = inl nothing
         blocked k (inr is_open) =
             let there = aside k is_open in
-            inr (there.1, (going.known.core.slots k (Stopped there.0 there.1) there.2).1, elim there.3 [
-              | inl nothing ↦ inl nothing
-              | inr open_there ↦ inr open_there.0
-            ])
+            inr (
+              there.1,
+              (going.known.core.slots k (Stopped there.0 there.1) there.2).1,
+              elim there.3 [
+                | inl nothing ↦ inl nothing
+                | inr open_there ↦ inr open_there.0
+              ],
+            )
 
     open_or_done : (k : List ℕ) → IsDemanded s k → (is_done (s k) ≡ true) ⊎ IsOpen s k
     open_or_done k there = elim (cases_Bool (is_done (s k))) [

@@ -68,17 +68,23 @@ module _ (h : How) (K : SomeKept) (b : Book) where
 
   -- behind all that were finished before
   pub order_end : (before : List (List ℕ)) (fs : Finishes) (k : List ℕ) (ran : Bool) → AreFinished h b K before fs → ((ks : List (List ℕ)) → ((j : List ℕ) → Among before j ⊎ Among (keys_of fs) j → Among ks j) → IsFinishedAfter h b K ks k ran) → AreFinished h b K before (fs ++ (k, ran) ∷ [])
-  order_end before [] k ran order one = (one before (λ j here. elim here [
-    | inl there ↦ there
-    | inr never ↦ absurd never
-  ]), tt)
-  order_end before (f ∷ fs) k ran order one = (order.0, order_end (f.0 ∷ before) fs k ran order.1 (λ ks all. one ks (λ j here. all j (elim here [
-    | inl there ↦ inl (inr there)
-    | inr later ↦ elim later [
-      | inl same ↦ inl (inl same)
-      | inr rest ↦ inr rest
-    ]
-  ]))))
+  order_end before [] k ran order one = (
+    one before (λ j here. elim here [
+      | inl there ↦ there
+      | inr never ↦ absurd never
+    ]),
+    tt,
+  )
+  order_end before (f ∷ fs) k ran order one = (
+    order.0,
+    order_end (f.0 ∷ before) fs k ran order.1 (λ ks all. one ks (λ j here. all j (elim here [
+      | inl there ↦ inl (inr there)
+      | inr later ↦ elim later [
+        | inl same ↦ inl (inl same)
+        | inr rest ↦ inr rest
+      ]
+    ]))),
+  )
 
   -- a finished key is found, and is right
   pub found_right : (fs : List Finished) (k : List ℕ) → AreRight h K b fs → Among (keys_in fs) k → (f : Finished) × (finished_of fs k ≡ Some f) × IsRightFinished h K b k f

@@ -52,7 +52,7 @@ module _ {J : Type 0} (name : J → List ℕ) (b : Book) where
     }
       where
         moved : (q : List ℕ) → IsLeft b old path q → IsLeft b new (n ∷ path) q
-        moved q left = left_moves b old new path (n ∷ path) q (λ ((x, is), undone) off. (let apart : n ≡ q → ⊥ = λ same. (let both : None ≡ Some x = sym d.fresh.1 ∙ (subst (λ i. old i ≡ Some x) (sym same) is) in cc) in (put_apart old new n (Ready d.job) q apart d.put, λ here. elim here [ | inl same ↦ apart (sym same) | inr there ↦ off there ]))) left
+        moved q left = left_moves b old new path (n ∷ path) q (λ ((x, is), undone) off. (let apart : n ≡ q → ⊥ = λ same. (let both : None ≡ Some x = sym d.fresh.1 ∙ (subst (λ i. old i ≡ Some x) (sym same) is) in cc) in (put_apart old new n (Ready d.job) q apart d.put, λ here. elim here [ inl same ↦ apart (sym same) | inr there ↦ off there ]))) left
 
         aside : (q : List ℕ) → new q ≡ old q → IsAside b old path q → IsAside b new (n ∷ path) q
         aside q same (p, m, is, left) = (p, m, same ∙ is, moved m left)

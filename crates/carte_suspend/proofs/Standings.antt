@@ -38,11 +38,15 @@ module _ {J : Type 0} where
   behind_of s n [] q behind here = absurd here
   behind_of s n (j ∷ ks) q ((p, is), behind) (inl same) = (p, n, rw same is, inl refl)
   behind_of s n (j ∷ ks) q ((p, is), behind) (inr later) =
-      let rest = behind_of s j ks q behind later in
-      (rest.0, rest.1, rest.2, elim rest.3 [
-        | inl same ↦ inr (inl same)
-        | inr there ↦ inr (inr there)
-      ])
+      let rest = behind_of s j ks q behind later in (
+        rest.0,
+        rest.1,
+        rest.2,
+        elim rest.3 [
+          | inl same ↦ inr (inl same)
+          | inr there ↦ inr (inr there)
+        ],
+      )
 
   -- what is left stays so, where what is open there stays
   pub left_moves : (b : Book) (s d : Spots J) (path path' : List (List ℕ)) (n : List ℕ) → (IsOpen s n → ¬ (Among path n) → (d n ≡ s n) × ¬ (Among path' n)) → IsLeft b s path n → IsLeft b d path' n

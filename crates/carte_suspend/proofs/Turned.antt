@@ -126,10 +126,13 @@ module _ {J : Type 0} (name : J → List ℕ) (started : J → Bool) (gives : Gi
     -- nor is it done, or an input
     pub stop_waits : (x : Stuck) (turned : TurnedTo name started gives b old new r r' k (Err x)) → WaitsAt new k (name_of x) × ¬ (IsInput b (name_of x))
     stop_waits x turned = (
-      ((turned.after, put_here turned.mid new k (Stopped turned.after (name_of x)) turned.put), elim (same_or_not k (name_of x)) [
-        | inl same ↦ rw (← same, put_here turned.mid new k (Stopped turned.after (name_of x)) turned.put) refl
-        | inr other ↦ rw (put_apart turned.mid new k (Stopped turned.after (name_of x)) (name_of x) other turned.put) (none_undone turned.mid (name_of x) (λ y is. mid_rules (Err x) turned (name_of x) y is) (stop_none x turned))
-      ]),
+      (
+        (turned.after, put_here turned.mid new k (Stopped turned.after (name_of x)) turned.put),
+        elim (same_or_not k (name_of x)) [
+          | inl same ↦ rw (← same, put_here turned.mid new k (Stopped turned.after (name_of x)) turned.put) refl
+          | inr other ↦ rw (put_apart turned.mid new k (Stopped turned.after (name_of x)) (name_of x) other turned.put) (none_undone turned.mid (name_of x) (λ y is. mid_rules (Err x) turned (name_of x) y is) (stop_none x turned))
+        ],
+      ),
       (λ (v, given). let both : Some v ≡ None = sym (sees_inputs b turned.mid (name_of x) v given) ∙ stop_none x turned in cc),
     )
 

@@ -237,7 +237,7 @@ returns-in_ok-push-in-None-clause-goes g c =
     let fits = g.R.Job.Job.fits in
     on_ok_by c.open.result
     (λ o ts H base going.
-        let laws : Laws name started fits gives begun h K b = (record { keeps = λ s d l m i o turned core. c.turn_keeps.ensures.core b s d l m i o turned core; goes_on = λ t i p part further step q begun_so more is_part gave. g.met.R.Rebuilder.goes_on c.args.rebuilder.now K b H t i p part further step q base begun_so more is_part gave }) in
-        let stopped = going_stopped name started fits gives begun h K b ts laws old mid k c.args.work.now.finished r s going stop.0 turned in
-        going_opens name started fits begun h K b ts (λ t i j begun_so. g.met.R.Rebuilder.fits c.args.rebuilder.now K b H t i j base begun_so) mid new at c.args.work.now.finished s stopped (k ∷ ks) path (stop_treated fits begun h K b ts mid k at waits.0.0 stopped.known waits.0.1) o)
+    let laws : Laws name started fits gives begun h K b = (record { keeps = λ s d l m i o turned core. c.turn_keeps.ensures.core b s d l m i o turned core; goes_on = λ t i p part further step q begun_so more is_part gave. g.met.R.Rebuilder.goes_on c.args.rebuilder.now K b H t i p part further step q base begun_so more is_part gave }) in
+    let stopped = going_stopped name started fits gives begun h K b ts laws old mid k c.args.work.now.finished r s going stop.0 turned in
+    going_opens name started fits begun h K b ts (λ t i j begun_so. g.met.R.Rebuilder.fits c.args.rebuilder.now K b H t i j base begun_so) mid new at c.args.work.now.finished s stopped (k ∷ ks) path (stop_treated fits begun h K b ts mid k at waits.0.0 stopped.known waits.0.1) o)
     opens
