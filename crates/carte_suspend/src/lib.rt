@@ -21,6 +21,8 @@
 mod building;
 mod opening;
 mod reasons;
+#[cfg(test)]
+mod tests;
 mod turns;
 
 pub use building::build;
