@@ -1,18 +1,17 @@
 -- What stands once a name was demanded, or a path dropped.
-use Rattle.std.proofs.Common.{◌≡◌, ℕ, Bool, true, false, List, [], ◌∷◌, Option, Some, None, refl, ap, sym, ◌∙◌, subst, inl, inr, ◌⊎◌}
+use Rattle.std.proofs.Common.{◌≡◌, ℕ, Bool, List, [], ◌∷◌, Option, Some, None, refl, sym, ◌∙◌, subst, inl, inr, ◌⊎◌}
 use Rattle.carte_value.specs.Truths.{Among}
 use Rattle.carte_value.proofs.Members.{same_or_not}
 use Rattle.carte_book.specs.Book.{Item, input, rule, Book, content}
 use Rattle.carte_book.specs.Needs.{IsRule}
 use Rattle.carte_bench.specs.declared.slot.Slot.{Slot}
-use Rattle.carte_bench.specs.declared.slot.Slot.TheVariants.{Ready, Stopped, Out, Done}
-use Rattle.carte_bench.specs.Spots.{Spots, PutAt, IsSame, AreNamed, job_in, is_done, is_ready}
+use Rattle.carte_bench.specs.declared.slot.Slot.TheVariants.{Ready, Stopped}
+use Rattle.carte_bench.specs.Spots.{Spots, IsSame}
 use Rattle.carte_bench.specs.Ended.{IsOpen}
 use Rattle.carte_bench.proofs.Puts.{put_here, put_apart}
 use Rattle.carte_bench.proofs.Turning.{jobs_put}
-use Rattle.carte_suspend.specs.Standing.{Behind, IsLeft, IsAside, Stands, IsStanding, IsHalted, StaysKnown}
+use Rattle.carte_suspend.specs.Standing.{IsLeft, IsAside, IsStanding, IsHalted, StaysKnown}
 use Rattle.carte_suspend.specs.Opening.{Demands, Leaves, Opens}
-use Rattle.carte_suspend.proofs.Puts.{stood_before}
 use Rattle.carte_suspend.proofs.Standings.{rules_put, known_put, behind_put, behind_of, left_moves, open_before}
 
 module _ {J : Type 0} (name : J → List ℕ) (b : Book) where

@@ -1,4 +1,4 @@
-use Rattle.std.proofs.Common.{◌≡◌, ℕ, List, [], ◌∷◌, Option, Some, None, refl, sym, ◌∙◌, subst}
+use Rattle.std.proofs.Common.{ℕ, List, Some, None, refl, ◌∙◌, subst}
 use Rattle.carte_value.specs.Truths.{Among}
 use Rattle.carte_book.specs.Book.{Book, book_view}
 use Rattle.carte_book.specs.Needs.{IsRule}
@@ -6,10 +6,9 @@ use Rattle.carte_record.specs.Kept.{kept_view}
 use Rattle.carte_sound.specs.Base.{IsBase}
 use Rattle.carte_bench.specs.Held.{spots_of, book_of}
 use Rattle.carte_bench.specs.Waits.{onward}
-use Rattle.carte_suspend.specs.Going.{IsGoing, GoesOn}
+use Rattle.carte_suspend.specs.Going.{IsGoing}
 use Rattle.carte_suspend.specs.Reasons.{FirstReason}
-use Rattle.carte_suspend.specs.Standing.{IsStanding, IsDemanded}
-use Rattle.carte_suspend.proofs.Opened.{stands_none}
+use Rattle.carte_suspend.specs.Standing.{IsDemanded}
 use Rattle.carte_suspend.proofs.Goings.{going_none}
 use Rattle.carte_suspend.proofs.Ending.{is_work, nothing_given_up, targets_clean, targets_reason, each_clean}
 use Rattle.carte_suspend.proofs.building.build.Goals as goal

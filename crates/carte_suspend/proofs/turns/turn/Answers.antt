@@ -1,22 +1,17 @@
-use Rattle.std.proofs.Common.{◌≡◌, ℕ, List, ◌∷◌, Option, Some, None, Result, Ok, Err, sym, ◌∙◌, subst}
+use Rattle.std.proofs.Common.{ℕ, List, ◌∷◌, None, Result, Ok, Err, sym, subst}
 use Rattle.std.specs.Prelude.{OnOk}
-use Rattle.carte_value.specs.Truths.{Truth}
-use Rattle.carte_effect.specs.declared.look.Stuck.{Stuck}
-use Rattle.carte_effect.specs.declared.outcome.Made.{Made}
 use Rattle.carte_effect.specs.Ledger.{Ledger}
 use Rattle.carte_bench.specs.declared.slot.Slot.TheVariants.{Stopped, Done}
 use Rattle.carte_book.specs.Book.{Book, book_view}
 use Rattle.carte_record.specs.Kept.{kept_view}
-use Rattle.carte_sound.specs.Base.{IsBase}
-use Rattle.carte_bench.specs.Held.{spots_of, book_of}
+use Rattle.carte_bench.specs.Held.{spots_of}
 use Rattle.carte_bench.specs.Spots.{name_of}
-use Rattle.carte_bench.specs.Turns.{Turned, TurnedTo}
-use Rattle.carte_suspend.specs.Standing.{StaysKnown, IsStanding}
-use Rattle.carte_suspend.specs.Opening.{WaitsAt, Opens, EndsKey}
+use Rattle.carte_bench.specs.Turns.{TurnedTo}
+use Rattle.carte_suspend.specs.Opening.{Opens}
 use Rattle.carte_suspend.specs.Going.{IsGoing}
 use Rattle.carte_suspend.proofs.Standings.{known_put}
 use Rattle.carte_suspend.proofs.Opened.{stands_opens, known_opens}
-use Rattle.carte_suspend.proofs.Turned.{stands_ended, stands_stopped, turn_put, stop_waits, turn_halts}
+use Rattle.carte_suspend.proofs.Turned.{stands_ended, turn_put, stop_waits, turn_halts}
 use Rattle.carte_suspend.proofs.Measures.{ended_fewer, opened_fewer}
 use Rattle.carte_suspend.proofs.Goings.{Laws, going_opens}
 use Rattle.carte_suspend.proofs.Turning.{going_ended, going_stopped, stop_treated}
