@@ -1,10 +1,9 @@
 -- What a build has come to once all targets were treated.
-use Rattle.std.proofs.Common.{◌≡◌, ◌⊎◌, ℕ, Bool, true, false, List, [], ◌∷◌, Option, Some, None, refl, ap, sym, ◌∙◌, subst, inl, inr}
+use Rattle.std.proofs.Common.{◌≡◌, ◌⊎◌, ℕ, Bool, true, false, List, [], ◌∷◌, Option, Some, None, refl, sym, ◌∙◌, subst, inl, inr}
 use Rattle.std.proofs.lemmas.Bool.{cases_Bool}
 use Rattle.std.specs.Map.{lookup}
-use Rattle.carte_value.specs.declared.value.Value.{Value}
 use Rattle.carte_value.specs.Names.{name_eq}
-use Rattle.carte_value.specs.Truths.{Truth, Extends, Among, HasValue}
+use Rattle.carte_value.specs.Truths.{Truth, Among, HasValue}
 use Rattle.carte_effect.specs.Ledger.{Ledger}
 use Rattle.carte_book.specs.Book.{Item, input, rule, Book, content, clean}
 use Rattle.carte_book.specs.Needs.{IsRule, needs}
@@ -15,12 +14,9 @@ use Rattle.carte_book.specs.declared.reason.Reason.TheVariants.{Cycle, Missing, 
 use Rattle.carte_book.proofs.Clean.{clean_input}
 use Rattle.carte_book.proofs.Stuck.{no_clean_needs}
 use Rattle.carte_record.specs.Kept.{SomeKept}
-use Rattle.carte_sound.specs.Finished.{IsFinishing}
 use Rattle.carte_sound.specs.Held.{How, IsFollowed}
-use Rattle.carte_sound.specs.Left.{keys_of}
 use Rattle.carte_sound.specs.Treated.{IsTreated, IsDoneSuspending}
 use Rattle.carte_note.specs.declared.finished.Finished.{Finished}
-use Rattle.carte_note.specs.Right.{finishes_of, keys_in, ran_in}
 use Rattle.carte_rebuild.specs.declared.work.Work.{Work}
 use Rattle.carte_rebuild.specs.Ends.{IsWork, NothingGivenUp}
 use Rattle.carte_bench.specs.declared.slot.Slot.{Slot}
@@ -98,10 +94,14 @@ module _ {J : Type 0} (name : J → List ℕ) (b : Book) (s : Spots J) (standing
         blocked k (inl nothing) = inl nothing
         blocked k (inr is_open) =
             let there = aside k is_open in
-            inr (there.1, (going.known.core.slots k (Stopped there.0 there.1) there.2).1, elim there.3 [
-              | inl nothing ↦ inl nothing
-              | inr open_there ↦ inr open_there.0
-            ])
+            inr (
+              there.1,
+              (going.known.core.slots k (Stopped there.0 there.1) there.2).1,
+              elim there.3 [
+                | inl nothing ↦ inl nothing
+                | inr open_there ↦ inr open_there.0
+              ],
+            )
 
     open_or_done : (k : List ℕ) → IsDemanded s k → (is_done (s k) ≡ true) ⊎ IsOpen s k
     open_or_done k there = elim (cases_Bool (is_done (s k))) [

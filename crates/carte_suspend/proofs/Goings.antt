@@ -1,8 +1,7 @@
 -- What is known of a bench where a slot is put at a key that wasn't done.
-use Rattle.std.proofs.Common.{◌≡◌, ◌⊎◌, ℕ, Bool, true, false, cond, List, [], ◌∷◌, ◌++◌, Option, Some, None, refl, ap, sym, ◌∙◌, subst, inl, inr}
-use Rattle.carte_value.specs.declared.value.Value.{Value}
+use Rattle.std.proofs.Common.{◌≡◌, ℕ, Bool, true, false, List, [], Option, Some, None, refl, sym, ◌∙◌, subst, inl, inr}
 use Rattle.carte_value.specs.Once.{Answers}
-use Rattle.carte_value.specs.Truths.{Truth, Extends, Among, NoneTwice}
+use Rattle.carte_value.specs.Truths.{Truth, Extends}
 use Rattle.carte_value.proofs.Members.{same_or_not}
 use Rattle.carte_effect.specs.Jobs.{Step}
 use Rattle.carte_effect.specs.declared.outcome.Made.{Made}
@@ -17,14 +16,14 @@ use Rattle.carte_note.specs.Right.{ran_in}
 use Rattle.carte_effect.specs.Ledger.{Ledger}
 use Rattle.carte_rebuild.specs.Goes.{IsPart, may_ask, AreThere, AreThereBefore, GoesOver}
 use Rattle.carte_bench.specs.declared.slot.Slot.{Slot}
-use Rattle.carte_bench.specs.declared.slot.Slot.TheVariants.{Ready, Stopped, Out, Done}
-use Rattle.carte_bench.specs.Spots.{Spots, PutAt, IsSame, job_in, is_done, done_in, seen_in}
+use Rattle.carte_bench.specs.declared.slot.Slot.TheVariants.{Ready, Stopped}
+use Rattle.carte_bench.specs.Spots.{Spots, PutAt, IsSame, job_in, is_done, seen_in}
 use Rattle.carte_bench.specs.Steps.{FitsOf, GivesOf, FitsSlot, IsCore}
 use Rattle.carte_bench.proofs.Cores.{put_core, none_core, same_core}
 use Rattle.carte_bench.proofs.Puts.{put_here, put_apart}
 use Rattle.carte_bench.proofs.Turning.{jobs_put}
-use Rattle.carte_suspend.specs.Going.{IsBegun, IsKnown, AreListed, IsRunning, IsCounted, IsGoing}
-use Rattle.carte_suspend.specs.Opening.{Demands, Leaves, Opens}
+use Rattle.carte_suspend.specs.Going.{IsBegun, IsKnown, AreListed, IsGoing}
+use Rattle.carte_suspend.specs.Opening.{Demands, Opens}
 use Rattle.carte_suspend.proofs.Puts.{stood_before, undone_none}
 use Rattle.carte_suspend.proofs.Seeing.{there_more, before_more, seen_put}
 use Rattle.carte_suspend.proofs.Ledgers.{counted_demand}

@@ -1,18 +1,16 @@
 -- What the ledger says of what has run, and of what is running.
-use Rattle.std.proofs.Common.{◌≡◌, ◌⊎◌, ℕ, Bool, true, false, cond, not, ◌&&◌, List, [], ◌∷◌, ◌++◌, Option, Some, None, Result, Ok, Err, refl, ap, sym, ◌∙◌, subst, inl, inr}
+use Rattle.std.proofs.Common.{◌≡◌, ◌⊎◌, ℕ, Bool, true, false, cond, not, ◌&&◌, List, [], ◌∷◌, ◌++◌, Some, None, Ok, Err, refl, ap, sym, ◌∙◌, subst, inl, inr}
 use Rattle.std.proofs.lemmas.Bool.{cases_Bool}
 use Rattle.carte_value.specs.Truths.{Among, NoneTwice}
 use Rattle.carte_value.proofs.Members.{same_or_not, among_left, among_right, among_append}
-use Rattle.carte_effect.specs.declared.effect.Halt.{Halt}
-use Rattle.carte_effect.specs.declared.effect.Halt.TheVariants.{Stop}
 use Rattle.carte_effect.specs.declared.look.Stuck.{Stuck}
 use Rattle.carte_effect.specs.declared.outcome.Made.{Made}
 use Rattle.carte_effect.specs.declared.outcome.Made.TheVariants.{Ran, Reused}
-use Rattle.carte_effect.specs.Jobs.{Counted, IsStarted, ends_by}
+use Rattle.carte_effect.specs.Jobs.{Counted}
 use Rattle.carte_effect.specs.Ledger.{Ledger}
 use Rattle.carte_bench.specs.declared.slot.Slot.{Slot}
-use Rattle.carte_bench.specs.declared.slot.Slot.TheVariants.{Ready, Stopped, Out, Done}
-use Rattle.carte_bench.specs.Spots.{Spots, PutAt, job_in, name_of, slot_after}
+use Rattle.carte_bench.specs.declared.slot.Slot.TheVariants.{Ready, Stopped, Done}
+use Rattle.carte_bench.specs.Spots.{Spots, PutAt, job_in, name_of}
 use Rattle.carte_bench.specs.Turns.{halted}
 use Rattle.carte_bench.proofs.Puts.{put_here, put_apart}
 use Rattle.carte_suspend.specs.Going.{IsRunning, IsCounted}

@@ -1,16 +1,16 @@
 -- Lists of finished keys that grow at their end.
-use Rattle.std.proofs.Common.{◌≡◌, ◌⊎◌, ℕ, Bool, true, false, cond, List, [], ◌∷◌, ◌++◌, Option, Some, None, find, refl, ap, sym, ◌∙◌, subst, inl, inr}
+use Rattle.std.proofs.Common.{◌≡◌, ◌⊎◌, ℕ, Bool, true, false, cond, List, [], ◌∷◌, ◌++◌, Some, refl, ap, sym, subst, inl, inr}
 use Rattle.std.specs.Cmp.Lexicographic.{bytes_decides}
 use Rattle.carte_value.specs.Names.{name_eq}
 use Rattle.carte_value.specs.Truths.{Among, NoneTwice}
-use Rattle.carte_value.proofs.Members.{same_or_not, name_apart, among_left, among_right, among_append, apart_append}
+use Rattle.carte_value.proofs.Members.{same_or_not, name_apart, among_append, apart_append}
 use Rattle.carte_book.specs.Book.{Book}
 use Rattle.carte_record.specs.Kept.{SomeKept}
 use Rattle.carte_sound.specs.Finished.{IsFinishedAfter, AreFinished}
 use Rattle.carte_sound.specs.Held.{How}
 use Rattle.carte_sound.specs.Left.{Finishes, keys_of}
 use Rattle.carte_note.specs.declared.finished.Finished.{Finished}
-use Rattle.carte_note.specs.Lists.{finished_of, is_of_key}
+use Rattle.carte_note.specs.Lists.{finished_of}
 use Rattle.carte_note.specs.Right.{AreRight, IsRightFinished, finishes_of, has_run, key_of, keys_in, ran_in}
 
 pub finishes_end : (fs : List Finished) (f : Finished) → finishes_of (fs ++ f ∷ []) ≡ finishes_of fs ++ (key_of f, has_run f.made) ∷ []
@@ -68,17 +68,23 @@ module _ (h : How) (K : SomeKept) (b : Book) where
 
   -- behind all that were finished before
   pub order_end : (before : List (List ℕ)) (fs : Finishes) (k : List ℕ) (ran : Bool) → AreFinished h b K before fs → ((ks : List (List ℕ)) → ((j : List ℕ) → Among before j ⊎ Among (keys_of fs) j → Among ks j) → IsFinishedAfter h b K ks k ran) → AreFinished h b K before (fs ++ (k, ran) ∷ [])
-  order_end before [] k ran order one = (one before (λ j here. elim here [
-    | inl there ↦ there
-    | inr never ↦ absurd never
-  ]), tt)
-  order_end before (f ∷ fs) k ran order one = (order.0, order_end (f.0 ∷ before) fs k ran order.1 (λ ks all. one ks (λ j here. all j (elim here [
-    | inl there ↦ inl (inr there)
-    | inr later ↦ elim later [
-      | inl same ↦ inl (inl same)
-      | inr rest ↦ inr rest
-    ]
-  ]))))
+  order_end before [] k ran order one = (
+    one before (λ j here. elim here [
+      | inl there ↦ there
+      | inr never ↦ absurd never
+    ]),
+    tt,
+  )
+  order_end before (f ∷ fs) k ran order one = (
+    order.0,
+    order_end (f.0 ∷ before) fs k ran order.1 (λ ks all. one ks (λ j here. all j (elim here [
+      | inl there ↦ inl (inr there)
+      | inr later ↦ elim later [
+        | inl same ↦ inl (inl same)
+        | inr rest ↦ inr rest
+      ]
+    ]))),
+  )
 
   -- a finished key is found, and is right
   pub found_right : (fs : List Finished) (k : List ℕ) → AreRight h K b fs → Among (keys_in fs) k → (f : Finished) × (finished_of fs k ≡ Some f) × IsRightFinished h K b k f

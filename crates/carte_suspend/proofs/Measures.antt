@@ -1,5 +1,5 @@
 -- The turns that are left grow fewer.
-use Rattle.std.proofs.Common.{◌≡◌, ℕ, ◌+◌, ◌*◌, ◌<◌, ◌≤◌, true, false, cond, List, [], ◌∷◌, length, Option, Some, None, is_none, Bool, refl, sym, ◌∙◌, inl, inr, arith}
+use Rattle.std.proofs.Common.{◌≡◌, ℕ, ◌+◌, ◌<◌, ◌≤◌, true, false, cond, List, [], ◌∷◌, Option, Some, None, is_none, Bool, refl, sym, ◌∙◌, inl, inr, arith}
 use Rattle.std.specs.FinMap.{entries, find, get-entries}
 use Rattle.std.specs.Ordering.{eq_by_cmp}
 use Rattle.carte_value.specs.Names.{name_cmp}
@@ -8,7 +8,7 @@ use Rattle.carte_book.specs.Needs.{IsRule}
 use Rattle.carte_book.proofs.Clean.{rule_held, tied_name}
 use Rattle.carte_bench.specs.declared.slot.Slot.{Slot}
 use Rattle.carte_bench.specs.declared.slot.Slot.TheVariants.{Ready}
-use Rattle.carte_bench.specs.Spots.{Spots, PutAt}
+use Rattle.carte_bench.specs.Spots.{Spots}
 use Rattle.carte_bench.proofs.Puts.{put_here}
 use Rattle.carte_suspend.specs.Standing.{StaysKnown, unknown_in, turns_left}
 use Rattle.carte_suspend.specs.Opening.{Opens}

@@ -1,18 +1,17 @@
 -- What stands once a name was demanded, or a path dropped.
-use Rattle.std.proofs.Common.{◌≡◌, ℕ, Bool, true, false, List, [], ◌∷◌, Option, Some, None, refl, ap, sym, ◌∙◌, subst, inl, inr, ◌⊎◌}
+use Rattle.std.proofs.Common.{◌≡◌, ℕ, Bool, List, [], ◌∷◌, Option, Some, None, refl, sym, ◌∙◌, subst, inl, inr, ◌⊎◌}
 use Rattle.carte_value.specs.Truths.{Among}
 use Rattle.carte_value.proofs.Members.{same_or_not}
 use Rattle.carte_book.specs.Book.{Item, input, rule, Book, content}
 use Rattle.carte_book.specs.Needs.{IsRule}
 use Rattle.carte_bench.specs.declared.slot.Slot.{Slot}
-use Rattle.carte_bench.specs.declared.slot.Slot.TheVariants.{Ready, Stopped, Out, Done}
-use Rattle.carte_bench.specs.Spots.{Spots, PutAt, IsSame, AreNamed, job_in, is_done, is_ready}
+use Rattle.carte_bench.specs.declared.slot.Slot.TheVariants.{Ready, Stopped}
+use Rattle.carte_bench.specs.Spots.{Spots, IsSame}
 use Rattle.carte_bench.specs.Ended.{IsOpen}
 use Rattle.carte_bench.proofs.Puts.{put_here, put_apart}
 use Rattle.carte_bench.proofs.Turning.{jobs_put}
-use Rattle.carte_suspend.specs.Standing.{Behind, IsLeft, IsAside, Stands, IsStanding, IsHalted, StaysKnown}
+use Rattle.carte_suspend.specs.Standing.{IsLeft, IsAside, IsStanding, IsHalted, StaysKnown}
 use Rattle.carte_suspend.specs.Opening.{Demands, Leaves, Opens}
-use Rattle.carte_suspend.proofs.Puts.{stood_before}
 use Rattle.carte_suspend.proofs.Standings.{rules_put, known_put, behind_put, behind_of, left_moves, open_before}
 
 module _ {J : Type 0} (name : J → List ℕ) (b : Book) where
@@ -52,7 +51,7 @@ module _ {J : Type 0} (name : J → List ℕ) (b : Book) where
     }
       where
         moved : (q : List ℕ) → IsLeft b old path q → IsLeft b new (n ∷ path) q
-        moved q left = left_moves b old new path (n ∷ path) q (λ ((x, is), undone) off. (let apart : n ≡ q → ⊥ = λ same. (let both : None ≡ Some x = sym d.fresh.1 ∙ (subst (λ i. old i ≡ Some x) (sym same) is) in cc) in (put_apart old new n (Ready d.job) q apart d.put, λ here. elim here [ | inl same ↦ apart (sym same) | inr there ↦ off there ]))) left
+        moved q left = left_moves b old new path (n ∷ path) q (λ ((x, is), undone) off. (let apart : n ≡ q → ⊥ = λ same. (let both : None ≡ Some x = sym d.fresh.1 ∙ (subst (λ i. old i ≡ Some x) (sym same) is) in cc) in (put_apart old new n (Ready d.job) q apart d.put, λ here. elim here [ inl same ↦ apart (sym same) | inr there ↦ off there ]))) left
 
         aside : (q : List ℕ) → new q ≡ old q → IsAside b old path q → IsAside b new (n ∷ path) q
         aside q same (p, m, is, left) = (p, m, same ∙ is, moved m left)

@@ -1,12 +1,10 @@
 -- What is put at a name twice, and what a slot is.
-use Rattle.std.proofs.Common.{◌≡◌, ℕ, true, false, cond, List, Option, Some, None, refl, sym, ◌∙◌, subst, inl, inr}
+use Rattle.std.proofs.Common.{◌≡◌, ℕ, true, false, cond, List, Option, Some, None, refl, sym, ◌∙◌}
 use Rattle.carte_value.specs.Names.{name_eq}
-use Rattle.carte_value.specs.declared.value.Value.{Value}
-use Rattle.carte_value.proofs.Members.{same_or_not}
 use Rattle.carte_bench.specs.declared.slot.Slot.{Slot}
 use Rattle.carte_bench.specs.declared.slot.Slot.TheVariants.{Ready, Stopped, Out, Done}
 use Rattle.carte_bench.specs.Spots.{Spots, PutAt, job_in, is_done, is_ready, done_in}
-use Rattle.carte_bench.proofs.Puts.{put_here, put_apart}
+use Rattle.carte_bench.proofs.Puts.{put_apart}
 
 module _ {J : Type 0} where
   pub put_twice : (s t d : Spots J) (k : List ℕ) (x y : Slot J) → PutAt s t k x → PutAt t d k y → PutAt s d k y

@@ -1,11 +1,11 @@
 -- What a bench shows grows as rules are done.
-use Rattle.std.proofs.Common.{◌≡◌, ℕ, true, false, List, Option, Some, None, refl, sym, ◌∙◌, subst, inl, inr, ◌⊎◌}
+use Rattle.std.proofs.Common.{◌≡◌, ℕ, true, List, Option, Some, None, refl, sym, ◌∙◌, subst, inl, inr}
 use Rattle.carte_value.specs.declared.value.Value.{Value}
-use Rattle.carte_value.specs.Truths.{Truth, Extends, Among, HasValue}
+use Rattle.carte_value.specs.Truths.{Truth, Extends, HasValue}
 use Rattle.carte_value.proofs.Members.{same_or_not}
 use Rattle.carte_effect.specs.Sights.{value_seen}
 use Rattle.carte_book.specs.Book.{Item, input, rule, Book, content}
-use Rattle.carte_book.specs.Needs.{IsRule, needs}
+use Rattle.carte_book.specs.Needs.{IsRule}
 use Rattle.carte_book.specs.Reason.{IsClean}
 use Rattle.carte_effect.specs.Jobs.{outcome_of}
 use Rattle.carte_rebuild.specs.Goes.{AreThere, AreThereBefore}
@@ -13,7 +13,7 @@ use Rattle.carte_bench.specs.declared.slot.Slot.{Slot}
 use Rattle.carte_bench.specs.declared.slot.Slot.TheVariants.{Ready, Stopped, Out, Done}
 use Rattle.carte_bench.specs.Spots.{Spots, PutAt, is_done, done_in, sight_at, sight_of_rule, seen_in}
 use Rattle.carte_bench.specs.Steps.{FitsOf, IsCore}
-use Rattle.carte_bench.proofs.Puts.{put_here, put_apart}
+use Rattle.carte_bench.proofs.Puts.{put_apart}
 
 seen_at : (o : Option Item) (x y : Option Value) → ((v : Value) → x ≡ Some v → y ≡ Some v) → (v : Value) → value_seen (sight_at o x) ≡ Some v → value_seen (sight_at o y) ≡ Some v
 seen_at None x y more v is = is

@@ -1,15 +1,15 @@
 -- What stands on a bench where something is put at a name.
-use Rattle.std.proofs.Common.{◌≡◌, ℕ, true, false, List, [], ◌∷◌, Option, Some, None, refl, ap, sym, ◌∙◌, subst, inl, inr, ◌⊎◌}
-use Rattle.carte_value.specs.Truths.{Among, NoneTwice}
+use Rattle.std.proofs.Common.{◌≡◌, ℕ, List, [], ◌∷◌, Some, refl, sym, ◌∙◌, subst, inl, inr, ◌⊎◌}
+use Rattle.carte_value.specs.Truths.{Among}
 use Rattle.carte_value.proofs.Members.{same_or_not}
-use Rattle.carte_book.specs.Book.{Book, content}
+use Rattle.carte_book.specs.Book.{Book}
 use Rattle.carte_book.specs.Needs.{IsRule}
 use Rattle.carte_bench.specs.declared.slot.Slot.{Slot}
-use Rattle.carte_bench.specs.declared.slot.Slot.TheVariants.{Ready, Stopped, Out, Done}
-use Rattle.carte_bench.specs.Spots.{Spots, PutAt, IsSame, AreNamed, job_in, is_done, is_ready}
+use Rattle.carte_bench.specs.declared.slot.Slot.TheVariants.{Stopped}
+use Rattle.carte_bench.specs.Spots.{Spots, PutAt}
 use Rattle.carte_bench.specs.Ended.{IsOpen}
 use Rattle.carte_bench.proofs.Puts.{put_here, put_apart}
-use Rattle.carte_suspend.specs.Standing.{Behind, IsChain, IsLeft, IsAside, StaysKnown}
+use Rattle.carte_suspend.specs.Standing.{Behind, IsLeft, StaysKnown}
 use Rattle.carte_suspend.proofs.Puts.{stood_before}
 
 -- a member of what stands behind another name is apart from it
@@ -38,11 +38,15 @@ module _ {J : Type 0} where
   behind_of s n [] q behind here = absurd here
   behind_of s n (j ∷ ks) q ((p, is), behind) (inl same) = (p, n, rw same is, inl refl)
   behind_of s n (j ∷ ks) q ((p, is), behind) (inr later) =
-      let rest = behind_of s j ks q behind later in
-      (rest.0, rest.1, rest.2, elim rest.3 [
-        | inl same ↦ inr (inl same)
-        | inr there ↦ inr (inr there)
-      ])
+      let rest = behind_of s j ks q behind later in (
+        rest.0,
+        rest.1,
+        rest.2,
+        elim rest.3 [
+          | inl same ↦ inr (inl same)
+          | inr there ↦ inr (inr there)
+        ],
+      )
 
   -- what is left stays so, where what is open there stays
   pub left_moves : (b : Book) (s d : Spots J) (path path' : List (List ℕ)) (n : List ℕ) → (IsOpen s n → ¬ (Among path n) → (d n ≡ s n) × ¬ (Among path' n)) → IsLeft b s path n → IsLeft b d path' n

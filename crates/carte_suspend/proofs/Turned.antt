@@ -1,28 +1,28 @@
 -- What stands after a turn of the first name of a path.
-use Rattle.std.proofs.Common.{◌≡◌, ℕ, Bool, true, false, List, [], ◌∷◌, Option, Some, None, Result, Ok, Err, refl, ap, sym, ◌∙◌, subst, inl, inr, ◌⊎◌}
+use Rattle.std.proofs.Common.{◌≡◌, ℕ, Bool, false, List, [], ◌∷◌, Option, Some, None, Result, Err, refl, sym, ◌∙◌, subst, inl, inr, ◌⊎◌}
 use Rattle.carte_value.specs.Truths.{Among}
 use Rattle.carte_value.proofs.Members.{same_or_not}
 use Rattle.carte_effect.specs.declared.look.Stuck.{Stuck}
 use Rattle.carte_effect.specs.declared.look.Stuck.TheVariants.{NotDone, Missing}
 use Rattle.carte_effect.specs.declared.outcome.Made.{Made}
 use Rattle.carte_effect.specs.Ledger.{Ledger}
-use Rattle.carte_effect.specs.Sights.{Sight, IsStuck, value_seen}
-use Rattle.carte_book.specs.Book.{Item, input, rule, Book, content}
+use Rattle.carte_effect.specs.Sights.{Sight, IsStuck}
+use Rattle.carte_book.specs.Book.{Book}
 use Rattle.carte_book.specs.Edits.{IsInput}
 use Rattle.carte_book.specs.Needs.{IsRule}
 use Rattle.carte_bench.specs.declared.slot.Slot.{Slot}
 use Rattle.carte_bench.specs.declared.slot.Slot.TheVariants.{Ready, Stopped, Out, Done}
-use Rattle.carte_bench.specs.Spots.{Spots, PutAt, job_in, is_done, is_ready, name_of, slot_after, sight_in, seen_in}
+use Rattle.carte_bench.specs.Spots.{Spots, PutAt, is_done, name_of, slot_after, sight_in, seen_in}
 use Rattle.carte_bench.specs.Steps.{GivesOf}
 use Rattle.carte_bench.specs.Ended.{IsOpen}
 use Rattle.carte_bench.specs.Turns.{TurnedTo}
 use Rattle.carte_bench.proofs.Puts.{put_here, put_apart}
 use Rattle.carte_bench.proofs.Turning.{jobs_put}
 use Rattle.carte_bench.proofs.Cores.{sees_inputs}
-use Rattle.carte_suspend.specs.Standing.{Behind, IsChain, IsLeft, IsAside, Stands, IsStanding, IsHalted, StaysKnown}
+use Rattle.carte_suspend.specs.Standing.{Behind, IsChain, IsLeft, IsAside, IsStanding, IsHalted}
 use Rattle.carte_suspend.specs.Opening.{WaitsAt}
-use Rattle.carte_suspend.proofs.Puts.{put_twice, job_there, ready_there, not_both, stood_before}
-use Rattle.carte_suspend.proofs.Standings.{apart_from, rules_put, known_put, behind_put, left_moves, open_before}
+use Rattle.carte_suspend.proofs.Puts.{put_twice, job_there, ready_there, not_both}
+use Rattle.carte_suspend.proofs.Standings.{rules_put, behind_put, left_moves, open_before}
 
 module _ {J : Type 0} (name : J → List ℕ) (b : Book) (old new : Spots J) (k : List ℕ) (ks : List (List ℕ)) (standing : IsStanding name b old (k ∷ ks)) where
   first_rule : IsRule b k
@@ -126,10 +126,13 @@ module _ {J : Type 0} (name : J → List ℕ) (started : J → Bool) (gives : Gi
     -- nor is it done, or an input
     pub stop_waits : (x : Stuck) (turned : TurnedTo name started gives b old new r r' k (Err x)) → WaitsAt new k (name_of x) × ¬ (IsInput b (name_of x))
     stop_waits x turned = (
-      ((turned.after, put_here turned.mid new k (Stopped turned.after (name_of x)) turned.put), elim (same_or_not k (name_of x)) [
-        | inl same ↦ rw (← same, put_here turned.mid new k (Stopped turned.after (name_of x)) turned.put) refl
-        | inr other ↦ rw (put_apart turned.mid new k (Stopped turned.after (name_of x)) (name_of x) other turned.put) (none_undone turned.mid (name_of x) (λ y is. mid_rules (Err x) turned (name_of x) y is) (stop_none x turned))
-      ]),
+      (
+        (turned.after, put_here turned.mid new k (Stopped turned.after (name_of x)) turned.put),
+        elim (same_or_not k (name_of x)) [
+          | inl same ↦ rw (← same, put_here turned.mid new k (Stopped turned.after (name_of x)) turned.put) refl
+          | inr other ↦ rw (put_apart turned.mid new k (Stopped turned.after (name_of x)) (name_of x) other turned.put) (none_undone turned.mid (name_of x) (λ y is. mid_rules (Err x) turned (name_of x) y is) (stop_none x turned))
+        ],
+      ),
       (λ (v, given). let both : Some v ≡ None = sym (sees_inputs b turned.mid (name_of x) v given) ∙ stop_none x turned in cc),
     )
 

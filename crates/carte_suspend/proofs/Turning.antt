@@ -1,39 +1,38 @@
 -- What is known after a turn.
-use Rattle.std.proofs.Common.{◌≡◌, ◌⊎◌, ℕ, Bool, true, false, cond, List, [], ◌∷◌, ◌++◌, Option, Some, None, Result, Ok, Err, refl, ap, sym, ◌∙◌, subst, inl, inr}
-use Rattle.carte_value.specs.declared.value.Value.{Value}
-use Rattle.carte_value.specs.Truths.{Truth, Extends, Among, NoneTwice, HasValue}
+use Rattle.std.proofs.Common.{◌≡◌, ◌⊎◌, ℕ, Bool, true, false, cond, List, [], ◌∷◌, ◌++◌, Some, None, Result, Ok, Err, refl, ap, sym, ◌∙◌, subst, inl, inr}
+use Rattle.carte_value.specs.Truths.{Truth, Extends, Among, HasValue}
 use Rattle.carte_value.proofs.Members.{same_or_not, among_left, among_right}
 use Rattle.carte_effect.specs.declared.look.Stuck.{Stuck}
 use Rattle.carte_effect.specs.declared.outcome.Made.{Made}
 use Rattle.carte_effect.specs.declared.outcome.Made.TheVariants.{Ran, Reused}
 use Rattle.carte_effect.specs.Jobs.{outcome_of}
 use Rattle.carte_effect.specs.Ledger.{Ledger}
-use Rattle.carte_book.specs.Book.{Book, clean}
-use Rattle.carte_book.specs.Needs.{IsRule, needs}
+use Rattle.carte_book.specs.Book.{Book}
+use Rattle.carte_book.specs.Needs.{IsRule}
 use Rattle.carte_record.specs.Kept.{SomeKept}
 use Rattle.carte_sound.specs.Finished.{RanOrHeld, IsFinishedAfter}
-use Rattle.carte_sound.specs.Held.{How, gathers, IsHeld, IsFollowed}
+use Rattle.carte_sound.specs.Held.{How, gathers, IsFollowed}
 use Rattle.carte_sound.specs.Left.{keys_of}
 use Rattle.carte_sound.specs.Treated.{IsTreated}
 use Rattle.carte_note.specs.declared.finished.Finished.{Finished}
-use Rattle.carte_note.specs.Right.{IsRightMade, IsRightFinished, AreRight, finishes_of, has_run, key_of, keys_in, ran_in}
+use Rattle.carte_note.specs.Right.{IsRightMade, IsRightFinished, finishes_of, has_run, key_of, keys_in, ran_in}
 use Rattle.carte_rebuild.specs.Finishes.{HaveFinished, FinishesRight}
-use Rattle.carte_rebuild.specs.Goes.{IsPart, AreThere, AreThereBefore, GoesOver}
+use Rattle.carte_rebuild.specs.Goes.{IsPart, AreThereBefore, GoesOver}
 use Rattle.carte_bench.specs.declared.slot.Slot.{Slot}
-use Rattle.carte_bench.specs.declared.slot.Slot.TheVariants.{Ready, Stopped, Out, Done}
-use Rattle.carte_bench.specs.Spots.{Spots, PutAt, job_in, is_done, done_in, name_of, slot_after, seen_in}
+use Rattle.carte_bench.specs.declared.slot.Slot.TheVariants.{Stopped, Out, Done}
+use Rattle.carte_bench.specs.Spots.{Spots, PutAt, is_done, done_in, name_of, slot_after, seen_in}
 use Rattle.carte_bench.specs.Steps.{FitsOf, GivesOf, FitsSlot, IsCore, step_of}
 use Rattle.carte_bench.specs.Turns.{TurnedTo}
 use Rattle.carte_bench.proofs.Cores.{put_core, sees_clean, sees_inputs}
 use Rattle.carte_bench.proofs.Puts.{put_here, put_apart}
 use Rattle.carte_bench.proofs.Turning.{turn_gave}
-use Rattle.carte_suspend.specs.Going.{IsBegun, IsKnown, AreListed, IsCounted, IsGoing}
+use Rattle.carte_suspend.specs.Going.{IsKnown, AreListed, IsCounted, IsGoing}
 use Rattle.carte_suspend.specs.Opening.{EndsKey}
 use Rattle.carte_suspend.proofs.Puts.{job_undone, job_there, undone_none, not_both}
-use Rattle.carte_suspend.proofs.Seeing.{there_more, before_more, seen_put, seen_done, done_clean}
+use Rattle.carte_suspend.proofs.Seeing.{there_more, before_more, seen_put, seen_done}
 use Rattle.carte_suspend.proofs.Listing.{finishes_end, keys_end, keys_same, ran_end, ran_keys, once_end, among_end, right_end, order_end, found_right}
 use Rattle.carte_suspend.proofs.Ledgers.{counted_stop, counted_end}
-use Rattle.carte_suspend.proofs.Goings.{Laws, IsKnownAt, known_at, listed_same}
+use Rattle.carte_suspend.proofs.Goings.{Laws, known_at, listed_same}
 use Rattle.carte_suspend.proofs.Turned.{turn_put}
 
 -- whether it ran tells whether it was held

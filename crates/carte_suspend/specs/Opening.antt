@@ -1,12 +1,11 @@
 -- How a name is demanded, and what a stop is.
-use Rattle.std.specs.Prelude.{ℕ, ◌≡◌, ◌⊎◌, Bool, true, false, List, [], ◌∷◌, ◌++◌, Option, Some, None}
+use Rattle.std.specs.Prelude.{ℕ, ◌≡◌, ◌⊎◌, Bool, true, false, List, [], ◌∷◌, ◌++◌, Some, None}
 use Rattle.carte_book.specs.Book.{Book}
 use Rattle.carte_book.specs.Needs.{IsRule}
 use Rattle.carte_effect.specs.declared.outcome.Made.{Made}
 use Rattle.carte_sound.specs.Held.{How}
 use Rattle.carte_note.specs.declared.finished.Finished.{Finished}
 use Rattle.carte_rebuild.specs.Finishes.{FinishesRight}
-use Rattle.carte_bench.specs.declared.slot.Slot.{Slot}
 use Rattle.carte_bench.specs.declared.slot.Slot.TheVariants.{Ready, Stopped}
 use Rattle.carte_bench.specs.Spots.{Spots, PutAt, IsSame, is_done}
 use Rattle.carte_suspend.specs.Standing.{IsDemanded}

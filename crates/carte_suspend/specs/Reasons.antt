@@ -1,5 +1,5 @@
 -- The first target that has a reason on a bench.
-use Rattle.std.specs.Prelude.{ℕ, ◌≡◌, ◌⊎◌, List, [], ◌∷◌, Option, Some, None}
+use Rattle.std.specs.Prelude.{ℕ, ◌⊎◌, List, [], ◌∷◌, Option, Some, None}
 use Rattle.carte_book.specs.declared.reason.Reason.{Reason}
 use Rattle.carte_bench.specs.Waits.{Onward, WaitsAs}
 

@@ -1,5 +1,5 @@
 -- What stands between the turns of a build: the path, of which each rule waits for the one before it, and what was put aside.
-use Rattle.std.specs.Prelude.{ℕ, ◌≡◌, ◌+◌, ◌*◌, ◌⊎◌, true, false, List, [], ◌∷◌, length, Option, Some, None, is_none, if◌then◌else◌}
+use Rattle.std.specs.Prelude.{ℕ, ◌≡◌, ◌+◌, ◌*◌, ◌⊎◌, true, false, List, [], ◌∷◌, length, Some, None, is_none, if◌then◌else◌}
 use Rattle.std.specs.FinMap.{entries}
 use Rattle.carte_value.specs.Truths.{Among, NoneTwice}
 use Rattle.carte_book.specs.Book.{Item, Book, content}

@@ -32,7 +32,15 @@ pub fn build<R: Rebuilder>(
 {
     let mut bench = Bench::new(alloc, book);
     let mut work = Work::new(alloc);
-    treat_all(alloc, rebuilder, kept, book, &mut bench, &mut work, targets.as_slice())?;
+    treat_all(
+        alloc,
+        rebuilder,
+        kept,
+        book,
+        &mut bench,
+        &mut work,
+        targets.as_slice(),
+    )?;
     match first_reason(alloc, &bench, targets.as_slice())? {
         None => Ok(WorkEnd::All(work)),
         Some(reason) => Ok(WorkEnd::Refused(work, reason)),

@@ -54,18 +54,28 @@ fn listed(alloc: Global, work: &Work, word: &str, path: &[Name]) -> Result<Strin
     Ok(text)
 }
 
-/// What a build over nothing kept comes to.
-fn built(alloc: Global, rules: &str, targets: &str) -> Result<String, Fail> {
-    let book = book_of(alloc, rules)?;
+fn names_of(alloc: Global, texts: &str) -> Result<Names, Fail> {
     let mut names = Names::new(alloc);
-    for target in targets.split_whitespace() {
-        names.push(Name::rule(alloc, target)?)?;
+    for text in texts.split_whitespace() {
+        names.push(Name::rule(alloc, text)?)?;
     }
-    match build(alloc, &Verify, &Kept::empty(alloc), &book, &names)? {
+    Ok(names)
+}
+
+/// What a build over nothing kept comes to.
+fn built(alloc: Global, book: &Book, targets: &Names) -> Result<String, Fail> {
+    let kept = Kept::empty(alloc);
+    match build(alloc, &Verify, &kept, book, targets)? {
         WorkEnd::All(work) => listed(alloc, &work, "all", &[]),
-        WorkEnd::Refused(work, Reason::Cycle(path)) => listed(alloc, &work, "cycle", path.as_slice()),
-        WorkEnd::Refused(work, Reason::Missing(path)) => listed(alloc, &work, "missing", path.as_slice()),
-        WorkEnd::Refused(work, Reason::Dynamic(path)) => listed(alloc, &work, "dynamic", path.as_slice()),
+        WorkEnd::Refused(work, reason) => refused(alloc, &work, &reason),
+    }
+}
+
+fn refused(alloc: Global, work: &Work, reason: &Reason) -> Result<String, Fail> {
+    match reason {
+        Reason::Cycle(path) => listed(alloc, work, "cycle", path.as_slice()),
+        Reason::Missing(path) => listed(alloc, work, "missing", path.as_slice()),
+        Reason::Dynamic(path) => listed(alloc, work, "dynamic", path.as_slice()),
     }
 }
 
@@ -73,18 +83,28 @@ fn built(alloc: Global, rules: &str, targets: &str) -> Result<String, Fail> {
 /// stuck target. A circle that no need holds is none, and what is stuck doesn't hold up the next target.
 #[test]
 fn finishes_and_reasons(rt: HostRuntime) -> Result<(), Fail> {
+    let alloc = rt.alloc();
     let rows = [
         ("a: b + c; b: x + 1; c: b * 5", "a", "b=2 c=10 a=12 3 all"),
         ("a: x + 1; b: a + a", "a b a x", "a=2 b=4 2 all"),
         ("p: IF(x, x + 6, q); q: p + 1", "q", "p=7 q=8 2 all"),
         ("p: IF(x - 1, x, q); q: p + 1", "q", "2 cycle q p q"),
         ("a: b + c; b: x + 1; c: c", "a", "b=2 3 cycle a c c"),
-        ("a: b + c; b: x + 1; c: c; d: a + e; e: b + 5", "a d e", "b=2 e=7 5 cycle a c c"),
-        ("a: b + far; b: x + 1; d: b + b", "a d", "b=2 d=4 3 missing a far"),
+        (
+            "a: b + c; b: x + 1; c: c; d: a + e; e: b + 5",
+            "a d e",
+            "b=2 e=7 5 cycle a c c",
+        ),
+        (
+            "a: b + far; b: x + 1; d: b + b",
+            "a d",
+            "b=2 d=4 3 missing a far",
+        ),
         ("a: x; s: s", "far a", "a=1 1 missing far"),
     ];
     for (rules, targets, want) in rows {
-        let text = built(rt.alloc(), rules, targets)?;
+        let book = book_of(alloc, rules)?;
+        let text = built(alloc, &book, &names_of(alloc, targets)?)?;
         assert_eq!(rt; text.as_str(), want, "{targets} in {rules}");
     }
     Ok(())

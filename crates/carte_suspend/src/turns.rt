@@ -7,10 +7,10 @@ ghost use Rattle.carte_suspend.specs.Opening.{EndsKey, WaitsAt};
 ghost use Rattle.carte_suspend.specs.Standing.{IsStanding, StaysKnown, turns_left};
 
 use crate::opening::{open, push};
-use carte_bench::{turn_keeps, Bench, Place};
+use carte_bench::{Bench, Place, turn_keeps};
 use carte_book::Book;
 use carte_effect::{Job, Made};
-use carte_rebuild::{finish, Rebuilder, Work};
+use carte_rebuild::{Rebuilder, Work, finish};
 use carte_record::Kept;
 use carte_value::{Name, NoMemory};
 use std::alloc::Global;

@@ -1,4 +1,4 @@
-use Rattle.std.proofs.Common.{◌≡◌, ℕ, List, [], ◌∷◌, Option, Some, None, refl, sym, ◌∙◌, subst}
+use Rattle.std.proofs.Common.{ℕ, List, Some, None, refl, ◌∙◌, subst}
 use Rattle.carte_value.specs.Truths.{Among}
 use Rattle.carte_book.specs.Book.{Book, book_view}
 use Rattle.carte_book.specs.Needs.{IsRule}
@@ -6,10 +6,9 @@ use Rattle.carte_record.specs.Kept.{kept_view}
 use Rattle.carte_sound.specs.Base.{IsBase}
 use Rattle.carte_bench.specs.Held.{spots_of, book_of}
 use Rattle.carte_bench.specs.Waits.{onward}
-use Rattle.carte_suspend.specs.Going.{IsGoing, GoesOn}
+use Rattle.carte_suspend.specs.Going.{IsGoing}
 use Rattle.carte_suspend.specs.Reasons.{FirstReason}
-use Rattle.carte_suspend.specs.Standing.{IsStanding, IsDemanded}
-use Rattle.carte_suspend.proofs.Opened.{stands_none}
+use Rattle.carte_suspend.specs.Standing.{IsDemanded}
 use Rattle.carte_suspend.proofs.Goings.{going_none}
 use Rattle.carte_suspend.proofs.Ending.{is_work, nothing_given_up, targets_clean, targets_reason, each_clean}
 use Rattle.carte_suspend.proofs.building.build.Goals as goal
@@ -31,13 +30,11 @@ returns-in-None g c =
     let going = λ (H : List Book) (base : IsBase K b H). subst (λ (l : List (List ℕ)). IsGoing started fits begun h K b l s w.finished w.runs) c.as_slice.ensures
     (ok.goes H base (rw (c.new-work.ensures.finished, c.new-work.ensures.runs) (going_none started fits begun h K b c.as_slice.result.now (spots_of c.new-bench.result) c.new-bench.ensures.empty))) in
     let asked = rw c.in-None.is at (c.in_ok-first_reason.ensures {u = tt}) in
-    let first = subst (λ (bk : Book). FirstReason (onward bk s) ts (None)) ok.book (subst (λ (l : List (List ℕ)). FirstReason (onward (book_of c.treat_all.new.bench) s) l (None)) c.as_slice-2.ensures asked) in
-    (
+    let first = subst (λ (bk : Book). FirstReason (onward bk s) ts (None)) ok.book (subst (λ (l : List (List ℕ)). FirstReason (onward (book_of c.treat_all.new.bench) s) l (None)) c.as_slice-2.ensures asked) in (
       ok.chain ∙ c.new-work.ensures.chain,
       λ given.
           let now = going given.0 given.1 in
-          let clean = targets_clean name b s ok.standing started fits begun h K ts w.finished w.runs now demanded c.treat_all.new.bench.slots.entries (λ q. refl) first in
-          (
+          let clean = targets_clean name b s ok.standing started fits begun h K ts w.finished w.runs now demanded c.treat_all.new.bench.slots.entries (λ q. refl) first in (
             clean,
             is_work name b s ok.standing started fits begun h K ts w.finished w.runs now demanded w refl refl,
             nothing_given_up name b s ok.standing started fits begun h K ts w.finished w.runs now demanded w refl (each_clean b ts clean),
@@ -61,12 +58,10 @@ returns g c =
     let going = λ (H : List Book) (base : IsBase K b H). subst (λ (l : List (List ℕ)). IsGoing started fits begun h K b l s w.finished w.runs) c.as_slice.ensures
     (ok.goes H base (rw (c.new-work.ensures.finished, c.new-work.ensures.runs) (going_none started fits begun h K b c.as_slice.result.now (spots_of c.new-bench.result) c.new-bench.ensures.empty))) in
     let asked = rw c.in-Some.is at (c.in_ok-first_reason.ensures {u = tt}) in
-    let first = subst (λ (bk : Book). FirstReason (onward bk s) ts (Some c.in-Some.reason)) ok.book (subst (λ (l : List (List ℕ)). FirstReason (onward (book_of c.treat_all.new.bench) s) l (Some c.in-Some.reason)) c.as_slice-2.ensures asked) in
-    (
+    let first = subst (λ (bk : Book). FirstReason (onward bk s) ts (Some c.in-Some.reason)) ok.book (subst (λ (l : List (List ℕ)). FirstReason (onward (book_of c.treat_all.new.bench) s) l (Some c.in-Some.reason)) c.as_slice-2.ensures asked) in (
       ok.chain ∙ c.new-work.ensures.chain,
       λ given.
-          let now = going given.0 given.1 in
-          (
+          let now = going given.0 given.1 in (
             targets_reason name b s ok.standing started fits begun h K ts w.finished w.runs now demanded c.treat_all.new.bench.slots.entries (λ q. refl) c.in-Some.reason first,
             is_work name b s ok.standing started fits begun h K ts w.finished w.runs now demanded w refl refl,
           ),

@@ -1,9 +1,8 @@
-use Rattle.std.proofs.Common.{◌≡◌, ℕ, List, [], ◌∷◌, None, length, refl, sym, ◌∙◌, subst, arith}
-use Rattle.carte_value.specs.Truths.{Among}
+use Rattle.std.proofs.Common.{◌≡◌, ℕ, List, [], ◌∷◌, None, length, refl, ◌∙◌, subst, arith}
 use Rattle.carte_book.specs.Book.{book_view}
 use Rattle.carte_record.specs.Kept.{kept_view}
 use Rattle.carte_sound.specs.Treated.{IsTreated}
-use Rattle.carte_bench.specs.Held.{spots_of, book_of}
+use Rattle.carte_bench.specs.Held.{spots_of}
 use Rattle.carte_suspend.specs.Opening.{Opens}
 use Rattle.carte_suspend.specs.Standing.{IsStanding}
 use Rattle.carte_suspend.proofs.Opened.{halted_target, stands_opens, known_opens}

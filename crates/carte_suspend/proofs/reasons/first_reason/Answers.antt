@@ -1,4 +1,4 @@
-use Rattle.std.proofs.Common.{◌≡◌, ◌<◌, ℕ, List, length, take, Some, sym, subst, arith}
+use Rattle.std.proofs.Common.{◌<◌, length, take, Some, sym, subst, arith}
 use Rattle.carte_bench.specs.Held.{spots_of, book_of}
 use Rattle.carte_bench.specs.Waits.{onward}
 use Rattle.carte_suspend.specs.Reasons.{HaveNone, FirstReason}

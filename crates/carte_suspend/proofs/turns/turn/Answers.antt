@@ -1,22 +1,17 @@
-use Rattle.std.proofs.Common.{◌≡◌, ℕ, List, ◌∷◌, Option, Some, None, Result, Ok, Err, sym, ◌∙◌, subst}
+use Rattle.std.proofs.Common.{ℕ, List, ◌∷◌, None, Result, Ok, Err, sym, subst}
 use Rattle.std.specs.Prelude.{OnOk}
-use Rattle.carte_value.specs.Truths.{Truth}
-use Rattle.carte_effect.specs.declared.look.Stuck.{Stuck}
-use Rattle.carte_effect.specs.declared.outcome.Made.{Made}
 use Rattle.carte_effect.specs.Ledger.{Ledger}
 use Rattle.carte_bench.specs.declared.slot.Slot.TheVariants.{Stopped, Done}
 use Rattle.carte_book.specs.Book.{Book, book_view}
 use Rattle.carte_record.specs.Kept.{kept_view}
-use Rattle.carte_sound.specs.Base.{IsBase}
-use Rattle.carte_bench.specs.Held.{spots_of, book_of}
+use Rattle.carte_bench.specs.Held.{spots_of}
 use Rattle.carte_bench.specs.Spots.{name_of}
-use Rattle.carte_bench.specs.Turns.{Turned, TurnedTo}
-use Rattle.carte_suspend.specs.Standing.{StaysKnown, IsStanding}
-use Rattle.carte_suspend.specs.Opening.{WaitsAt, Opens, EndsKey}
+use Rattle.carte_bench.specs.Turns.{TurnedTo}
+use Rattle.carte_suspend.specs.Opening.{Opens}
 use Rattle.carte_suspend.specs.Going.{IsGoing}
 use Rattle.carte_suspend.proofs.Standings.{known_put}
 use Rattle.carte_suspend.proofs.Opened.{stands_opens, known_opens}
-use Rattle.carte_suspend.proofs.Turned.{stands_ended, stands_stopped, turn_put, stop_waits, turn_halts}
+use Rattle.carte_suspend.proofs.Turned.{stands_ended, turn_put, stop_waits, turn_halts}
 use Rattle.carte_suspend.proofs.Measures.{ended_fewer, opened_fewer}
 use Rattle.carte_suspend.proofs.Goings.{Laws, going_opens}
 use Rattle.carte_suspend.proofs.Turning.{going_ended, going_stopped, stop_treated}
@@ -237,7 +232,7 @@ returns-in_ok-push-in-None-clause-goes g c =
     let fits = g.R.Job.Job.fits in
     on_ok_by c.open.result
     (λ o ts H base going.
-        let laws : Laws name started fits gives begun h K b = (record { keeps = λ s d l m i o turned core. c.turn_keeps.ensures.core b s d l m i o turned core; goes_on = λ t i p part further step q begun_so more is_part gave. g.met.R.Rebuilder.goes_on c.args.rebuilder.now K b H t i p part further step q base begun_so more is_part gave }) in
-        let stopped = going_stopped name started fits gives begun h K b ts laws old mid k c.args.work.now.finished r s going stop.0 turned in
-        going_opens name started fits begun h K b ts (λ t i j begun_so. g.met.R.Rebuilder.fits c.args.rebuilder.now K b H t i j base begun_so) mid new at c.args.work.now.finished s stopped (k ∷ ks) path (stop_treated fits begun h K b ts mid k at waits.0.0 stopped.known waits.0.1) o)
+    let laws : Laws name started fits gives begun h K b = (record { keeps = λ s d l m i o turned core. c.turn_keeps.ensures.core b s d l m i o turned core; goes_on = λ t i p part further step q begun_so more is_part gave. g.met.R.Rebuilder.goes_on c.args.rebuilder.now K b H t i p part further step q base begun_so more is_part gave }) in
+    let stopped = going_stopped name started fits gives begun h K b ts laws old mid k c.args.work.now.finished r s going stop.0 turned in
+    going_opens name started fits begun h K b ts (λ t i j begun_so. g.met.R.Rebuilder.fits c.args.rebuilder.now K b H t i j base begun_so) mid new at c.args.work.now.finished s stopped (k ∷ ks) path (stop_treated fits begun h K b ts mid k at waits.0.0 stopped.known waits.0.1) o)
     opens
