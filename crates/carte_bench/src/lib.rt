@@ -19,6 +19,8 @@ mod look;
 mod place;
 mod reason;
 mod slot;
+#[cfg(test)]
+mod tests;
 mod turn;
 mod way;
 
