@@ -1,5 +1,5 @@
 -- What a build hands out: the fault of its commit, or its answer.
-use Rattle.std.proofs.Common.{◌≡◌, ◌≢◌, ℕ, Bool, true, false, Result, Ok, Err, refl, ap, sym, ◌∙◌, subst}
+use Rattle.std.proofs.Common.{◌≡◌, ℕ, true, false, Result, Ok, Err, refl, ap, sym, ◌∙◌, subst}
 use Rattle.std.specs.Prelude.{IfOk, IsTrue, ◌↔◌}
 use Rattle.carte_book.specs.declared.reason.Reason.{Reason}
 use Rattle.carte_io.specs.Causes.{HasCauseOf}

@@ -1,6 +1,5 @@
 -- What the batch of a build leaves, with each scheduler.
-use Rattle.std.proofs.Common.{◌≡◌, ℕ, false, cond, List, [], ◌∷◌, ◌++◌, refl, ap, sym, ◌∙◌, subst, inl, inr}
-use Rattle.carte_value.specs.Truths.{NoneTwice}
+use Rattle.std.proofs.Common.{◌≡◌, ℕ, cond, List, [], ◌∷◌, ◌++◌, ap, subst, inl, inr}
 use Rattle.carte_book.specs.Book.{Book}
 use Rattle.carte_record.specs.declared.batch.Batch.{Batch}
 use Rattle.carte_record.specs.declared.way.Way.TheVariants.{Verifying, Constructive, Deep}

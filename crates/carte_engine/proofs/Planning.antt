@@ -18,7 +18,6 @@ use Rattle.carte_sound.proofs.Begins.{begun_base, behind_sound, has_last}
 use Rattle.carte_note.specs.Notes.{AreUnmarked}
 use Rattle.carte_note.specs.declared.finished.Finished.{Finished}
 use Rattle.carte_rebuild.specs.declared.work.Work.{Work}
-use Rattle.carte_rebuild.specs.declared.work.WorkEnd.{WorkEnd}
 use Rattle.carte_rebuild.specs.declared.work.WorkEnd.TheVariants.{All, Refused}
 use Rattle.carte_rebuild.specs.Ends.{EndsInOrder, EndsSuspending, IsGiven, IsWork}
 use Rattle.carte_plan.specs.Planned.{IsBuilt, Plans}

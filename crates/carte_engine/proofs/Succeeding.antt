@@ -1,12 +1,10 @@
 -- What work that is done rightly has made.
-use Rattle.std.proofs.Common.{◌≡◌, ◌⊎◌, ℕ, ◌+◌, ◌-◌, ◌≤◌, cond, List, [], ◌∷◌, Option, Some, None, map, length, refl, ap, sym, ◌∙◌, subst, inl, inr, arith}
-use Rattle.carte_value.specs.declared.value.Value.{Value}
+use Rattle.std.proofs.Common.{◌≡◌, ℕ, ◌≤◌, cond, List, [], ◌∷◌, Option, Some, None, map, length, refl, ap, sym, ◌∙◌, subst, inl, inr, arith}
 use Rattle.carte_value.specs.Names.{name_eq}
-use Rattle.carte_value.specs.Truths.{Among, IsListOf, NoneTwice}
+use Rattle.carte_value.specs.Truths.{Among}
 use Rattle.carte_value.proofs.Members.{name_apart, no_longer, same_or_not}
 use Rattle.carte_effect.specs.declared.outcome.Made.{Made}
 use Rattle.carte_effect.specs.declared.outcome.Made.TheVariants.{Ran, Reused}
-use Rattle.carte_effect.specs.Ledger.{given_up as left_open}
 use Rattle.carte_book.specs.Book.{Book, Item, input, rule, content, clean}
 use Rattle.carte_book.specs.Needs.{IsRule, target}
 use Rattle.carte_book.specs.Reason.{AllClean, IsClean}

@@ -1,11 +1,9 @@
 -- What a build has made of a state at its end.
 use Rattle.std.specs.Prelude.{ℕ, ◌≡◌, ◌⊎◌, ◌<◌, ◌+◌, false, List, Result, Ok, Err}
-use Rattle.carte_io.specs.Disk.{Story}
 use Rattle.carte_book.specs.Book.{Book}
 use Rattle.carte_record.specs.declared.batch.Batch.{Batch}
 use Rattle.carte_record.specs.Empty.{is_empty}
 use Rattle.carte_record.specs.Folds.{apply}
-use Rattle.carte_record.specs.Kept.{SomeKept}
 use Rattle.carte_sound.specs.Held.{How}
 use Rattle.carte_state.specs.Folding.{Keeps}
 use Rattle.carte_state.specs.States.{Stand, HasRoom, calls_for, kept_in, needs_for}

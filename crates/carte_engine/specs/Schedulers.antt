@@ -1,5 +1,5 @@
 -- What a build does, by its scheduler.
-use Rattle.std.specs.Prelude.{ℕ, ◌≡◌, List}
+use Rattle.std.specs.Prelude.{ℕ, List}
 use Rattle.carte_book.specs.Book.{Book}
 use Rattle.carte_book.specs.Dynamic.{NoDynamicPath, IsOrderReason}
 use Rattle.carte_book.specs.Needs.{IsRule, Reaches}

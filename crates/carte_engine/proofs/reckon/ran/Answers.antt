@@ -1,9 +1,9 @@
-use Rattle.std.proofs.Common.{◌≡◌, ◌<◌, ◌≤◌, ℕ, List, [], ◌∷◌, ◌++◌, Result, Ok, Err, length, take, ap, sym, ◌∙◌, subst, rules, refl}
+use Rattle.std.proofs.Common.{◌<◌, ◌≤◌, [], ◌∷◌, ◌++◌, Result, Ok, Err, length, take, ap, sym, ◌∙◌, subst, rules}
 use Rattle.std.specs.Prelude.{IfOk}
 use Rattle.std.proofs.lemmas.List.{take_more}
 use Rattle.carte_record.proofs.Fronts.{take_whole}
 use Rattle.carte_note.specs.Right.{ran_in}
-use Rattle.carte_engine.proofs.Running.{HasExactly, all_listed, nothing_in, one_ran}
+use Rattle.carte_engine.proofs.Running.{HasExactly, all_listed, one_ran}
 use Rattle.carte_engine.proofs.reckon.ran.Goals as goal
 
 if_ok : {A E : Type 0} {P Q : A → Type 0} (r : Result A E) → ((x : A) → P x → Q x) → IfOk r P → IfOk r Q
