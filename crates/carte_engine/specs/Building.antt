@@ -1,5 +1,5 @@
 -- What a build has made of a state at its end.
-use Rattle.std.specs.Prelude.{ℕ, ◌≡◌, ◌⊎◌, ◌<◌, ◌+◌, false, List}
+use Rattle.std.specs.Prelude.{ℕ, ◌≡◌, ◌⊎◌, ◌<◌, ◌+◌, false, List, Result, Ok, Err}
 use Rattle.carte_io.specs.Disk.{Story}
 use Rattle.carte_book.specs.Book.{Book}
 use Rattle.carte_record.specs.declared.batch.Batch.{Batch}
@@ -10,6 +10,10 @@ use Rattle.carte_sound.specs.Held.{How}
 use Rattle.carte_state.specs.Folding.{Keeps}
 use Rattle.carte_state.specs.States.{Stand, HasRoom, calls_for, kept_in, needs_for}
 use Rattle.carte_engine.specs.declared.answer.Answer.{Answer}
+use Rattle.carte_engine.specs.declared.answer.Answer.TheVariants as answer
+use Rattle.carte_engine.specs.declared.answer.Built.{Built}
+use Rattle.carte_engine.specs.declared.fault.BuildFault.{BuildFault}
+use Rattle.carte_engine.specs.declared.fault.BuildFault.TheVariants as fault
 use Rattle.carte_engine.specs.declared.scheduler.Scheduler.{Scheduler}
 use Rattle.carte_engine.specs.Answers.{Leads, IsAnswer}
 
@@ -36,3 +40,20 @@ pub record IsOverfull (s : Scheduler) (h : How) (b : Book) (targets : List (List
 abbrev pub KeepsStation : Scheduler → How → Book → List (List ℕ) → Stand → List ℕ → Type 0
 KeepsStation s h b targets old file = Keeps old.journal.limit (kept_in old) file
     ⊎ ((B : Batch) × (a : Answer) × Leads s h (kept_in old) b targets a B × Keeps old.journal.limit (apply B (kept_in old)) file)
+
+-- an answer as a result
+abbrev pub answered : Answer → Result Built BuildFault
+answered (answer.Built built) = Ok built
+answered (answer.Refused reason) = Err (fault.Refused reason)
+
+-- what holds of the answer that a build gave, where it gave one
+abbrev pub OnAnswer : Result Built BuildFault → (Answer → Type 0) → Type 0
+OnAnswer (Ok built) P = P (answer.Built built)
+OnAnswer (Err (fault.Refused reason)) P = P (answer.Refused reason)
+OnAnswer (Err fault.DiskFault) P = Unit {0}
+OnAnswer (Err (fault.StateFull needed limit)) P = Unit {0}
+OnAnswer (Err fault.NoMemory) P = Unit {0}
+
+-- so many writing calls had passed before, and so many have now: those of the batch that was put in
+abbrev pub HasCalled : Scheduler → How → Book → List (List ℕ) → Answer → Stand → Stand → ℕ → ℕ → Type 0
+HasCalled s h b targets a old new before now = (B : Batch) × Leads s h (kept_in old) b targets a B × (kept_in new ≡ apply B (kept_in old)) × (now ≡ before + calls_for old.journal B)

@@ -2,3 +2,6 @@ pub mod Schedulers
 pub mod Answers
 pub mod Building
 pub mod Clearing
+pub mod Reckoned
+pub mod Histories
+pub mod Faults

@@ -13,9 +13,12 @@ ghost use Rattle.carte_record.specs.Kept.{nothing_kept};
 ghost use Rattle.carte_engine.specs.Answers.{IsPlan, Under};
 ghost use Rattle.carte_engine.specs.Clearing.{clearing};
 
+use crate::clear::clearing;
+use crate::planned::{planned, run};
 use crate::{Plan, Scheduler};
 use carte_book::Book;
 use carte_io::Disk;
+use carte_mark::begin;
 use carte_rebuild::Rebuilder;
 use carte_record::{Batch, Kept};
 use carte_state::{ApplyFault, LoadFault, State};
@@ -71,17 +74,27 @@ impl Engine {
     /// and no call of a disk is made. What is known of it holds where what is kept is sound, for whatever history.
     pub fn plan<R: Rebuilder>(
         &self,
-        _alloc: Global,
-        _book: &Book,
-        _rebuilder: &R,
-        _scheduler: Scheduler,
-        _targets: &Names,
+        alloc: Global,
+        book: &Book,
+        rebuilder: &R,
+        scheduler: Scheduler,
+        targets: &Names,
     ) -> Result<Plan, NoMemory>
         ensures unmarked { IfOk result (λ p. EachFits IsUnmarked p.batch.entries) }
-        ensures plans { Under (kept_in self.now) (book_view _book.now)
-            (IfOk result (IsPlan _scheduler (R.how _rebuilder.now) (kept_in self.now) (book_view _book.now) _targets.now)) }
+        ensures plans { Under (kept_in self.now) (book_view book.now)
+            (IfOk result (IsPlan scheduler (R.how rebuilder.now) (kept_in self.now) (book_view book.now) targets.now)) }
     {
-        Err(NoMemory)
+        let rules = book.rules_digest(alloc)?;
+        let begun = begin(alloc, self.state.kept(), book, &rules)?;
+        let end = run(
+            alloc,
+            rebuilder,
+            begun.base.kept(),
+            book,
+            scheduler,
+            targets,
+        )?;
+        planned(alloc, rebuilder, &begun, rules, book, targets, end)
     }
 
     /// Commits the batch of a plan, as `State::apply` does: in one step, whole or not at all, whatever crash comes.
@@ -119,25 +132,26 @@ impl Engine {
     }
 
     /// Empties the state: commits a batch that clears it, or nothing where nothing is kept.
-    pub fn clean<D: Disk>(&mut self, _alloc: Global, _disk: &mut D) -> Result<(), ApplyFault>
+    pub fn clean<D: Disk>(&mut self, alloc: Global, disk: &mut D) -> Result<(), ApplyFault>
         requires whole { self.old.journal.broken ≡ false }
         ensures cleaned { OnOk result (kept_in self.new ≡ nothing_kept) }
         ensures full { (needed limit : ℕ) → result ≡ Err (ApplyFault.Full needed limit)
-            → (needed ≡ needs_for self.old (clearing self.old)) × (limit ≡ self.old.journal.limit) × (limit < needed) × (self.new ≡ self.old) × (_disk.new ≡ _disk.old) }
+            → (needed ≡ needs_for self.old (clearing self.old)) × (limit ≡ self.old.journal.limit) × (limit < needed) × (self.new ≡ self.old) × (disk.new ≡ disk.old) }
         ensures over { is_empty (clearing self.old) ≡ false → self.old.journal.limit < needs_for self.old (clearing self.old)
             → (result ≡ Err (ApplyFault.Full (needs_for self.old (clearing self.old)) self.old.journal.limit)) ⊎ (result ≡ Err ApplyFault.NoMemory) }
         ensures room { OnOk result (HasRoom self.old (clearing self.old)) }
-        ensures no_memory { result ≡ Err ApplyFault.NoMemory → (self.new ≡ self.old) × (_disk.new ≡ _disk.old) }
+        ensures no_memory { result ≡ Err ApplyFault.NoMemory → (self.new ≡ self.old) × (disk.new ≡ disk.old) }
         ensures broken { IsTrue self.new.journal.broken ↔ (result ≡ Err ApplyFault.DiskFault) }
-        ensures cause { HasCauseOf ApplyFault.DiskFault (D.faults _disk.old) (D.faults _disk.new) result }
+        ensures cause { HasCauseOf ApplyFault.DiskFault (D.faults disk.old) (D.faults disk.new) result }
         ensures place { OnOk result (IsAfter (clearing self.old) self.old self.new) }
         ensures limit { self.new.journal.limit ≡ self.old.journal.limit }
-        ensures calls { D.tells → OnOk result ((D.story _disk.new).now.passed ≡ (D.story _disk.old).now.passed + calls_for self.old.journal (clearing self.old)) }
-        ensures rest { D.tells → IsKeptOn self.old (D.story _disk.old) → OnOk result (IsKeptOn self.new (D.story _disk.new)) }
-        ensures any_moment { D.tells → IsKeptOn self.old (D.story _disk.old)
+        ensures calls { D.tells → OnOk result ((D.story disk.new).now.passed ≡ (D.story disk.old).now.passed + calls_for self.old.journal (clearing self.old)) }
+        ensures rest { D.tells → IsKeptOn self.old (D.story disk.old) → OnOk result (IsKeptOn self.new (D.story disk.new)) }
+        ensures any_moment { D.tells → IsKeptOn self.old (D.story disk.old)
             → StepsThrough (Keeps self.old.journal.limit) (kept_in self.old) (step_for self.old.journal (kept_in self.old) (clearing self.old))
-            (D.story _disk.old) (D.story _disk.new) }
+            (D.story disk.old) (D.story disk.new) }
     {
-        Err(ApplyFault::NoMemory)
+        let batch = clearing(alloc, &self.state);
+        self.commit(alloc, disk, &batch)
     }
 }

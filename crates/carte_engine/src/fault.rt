@@ -1,4 +1,5 @@
 use carte_book::Reason;
+use carte_state::ApplyFault;
 use thiserror::Error;
 
 /// Why a build has no values to show.
@@ -26,5 +27,20 @@ impl From<carte_value::NoMemory> for BuildFault {
 
     fn from(_: carte_value::NoMemory) -> BuildFault {
         BuildFault::NoMemory
+    }
+}
+
+impl From<ApplyFault> for BuildFault {
+    ghost use Rattle.std.specs.Prelude.{◌≡◌};
+    ghost use Rattle.carte_engine.specs.Faults.{fault_of};
+
+    ghost from_gives = { λ fault made. made ≡ fault_of fault };
+
+    fn from(fault: ApplyFault) -> BuildFault {
+        match fault {
+            ApplyFault::DiskFault => BuildFault::DiskFault,
+            ApplyFault::Full { needed, limit } => BuildFault::StateFull { needed, limit },
+            ApplyFault::NoMemory => BuildFault::NoMemory,
+        }
     }
 }

@@ -1,7 +1,9 @@
-pub mod Parts
-pub mod Evaluating
-pub mod Built
-pub mod Loading
-pub mod WordsRead
+pub mod Putting
+pub mod Keeping
+pub mod Clearing
+pub mod Cleaning
+pub mod Building
+pub mod Opening
+pub mod Books
+pub mod Sounds
 pub mod Outcomes
-pub mod Dues

@@ -1,11 +1,7 @@
-pub mod Known
-pub mod Evaluated
-pub mod Building
-pub mod Status
-pub mod Words
-pub mod Reply
-pub mod Replied
-pub mod Texts
 pub mod Around
+pub mod Chosen
+pub mod Found
 pub mod Outcome
+pub mod Sound
+pub mod Whole
 pub mod Running

@@ -1,53 +1,64 @@
 -- What a run has done, status by status.
-use Rattle.std.specs.Prelude.{ℕ, ◌≡◌, ◌⊎◌, List, Ok, Err}
-use Rattle.carte_value.specs.Truths.{IsListOf}
+use Rattle.std.specs.Prelude.{ℕ, ◌≡◌, ◌⊎◌, ◌<◌, List, ◌∷◌, [], ◌++◌, codes, Ok, Err}
 use Rattle.carte_io.specs.Causes.{Rose}
-use Rattle.carte_book.specs.Book.{Book}
-use Rattle.carte_book.specs.Needs.{IsReachedRule}
-use Rattle.carte_book.specs.Dynamic.{NoDynamicPath, IsOrderReason}
-use Rattle.carte_book.specs.Reason.{AllClean}
-use Rattle.carte_book.specs.declared.fault.BookFault.{BookFault}
-use Rattle.carte_book.specs.declared.fault.BookFault.TheVariants.{NoMemory as BookNoMemory}
-use Rattle.carte_rules.specs.Reading.{BookOf}
-use Rattle.carte_top.specs.declared.status.Status.{Status}
-use Rattle.carte_top.specs.declared.status.Status.TheVariants.{Done, BookRefused, Usage, BuildRefused, ReadFault, WriteFault, NoMemory}
-use Rattle.carte_top.specs.Around.{OverSource, OverSink, Around, IsUnread, IsUntouched, TakesAll, TakesFront, Says}
-use Rattle.carte_top.specs.Words.{targets_of}
-use Rattle.carte_top.specs.Reply.{reply}
-use Rattle.carte_top.specs.Texts.{error_line}
+use Rattle.carte_io.specs.Disk.{IsSettled}
+use Rattle.carte_record.specs.Kept.{SomeKept, nothing_kept}
+use Rattle.carte_state.specs.Folding.{IsBadState}
+use Rattle.carte_words.specs.Words.{words_of}
+use Rattle.carte_words.specs.declared.words.Command.{Command}
+use Rattle.carte_words.specs.declared.words.Command.TheVariants as command
+use Rattle.carte_words.specs.declared.words.Words.{Words as Asked}
+use Rattle.carte_engine.specs.declared.answer.Answer.TheVariants as answer
+use Rattle.carte_report.specs.declared.status.Status.{Status}
+use Rattle.carte_report.specs.declared.status.Status.TheVariants.{Done, BookRefused, Usage, BuildRefused, ReadFault, WriteFault, DiskFault, BadState, StateFull, NoMemory}
+use Rattle.carte_report.specs.Texts.{error_line}
+use Rattle.carte_top.specs.Around.{OverSource, OverDisk, OverSink, IsUnread, IsUnvisited, IsUntouched, TakesAll, TakesFront, Says}
+use Rattle.carte_top.specs.Found.{Holds, HasBook, Refuses, Found, EndsWith, Commits, Replies, Overfills}
 
--- the words are a command with such targets
-abbrev pub Commands : List (List ℕ) → (List (List ℕ) → Type 0) → Type 0
-Commands words P = (targets : List (List ℕ)) × (targets_of words ≡ Ok targets) × P targets
+-- the words ask for something that is so
+abbrev pub Asks : List (List ℕ) → (Asked → Type 0) → Type 0
+Asks words P = (w : Asked) × (words_of words ≡ Ok w) × P w
 
--- where the source tells its bytes, they are such a book
-abbrev pub Holds : OverSource → (Book → Type 0) → Type 0
-Holds s P = s.tells → (b : Book) × BookOf s.old.left (Ok b) × P b
+-- the state isn't one, and nothing was written
+abbrev pub IsBad : ℕ → OverDisk → ℕ → Type 0
+IsBad limit d offset = d.tells → IsBadState limit d.old.now.reads offset × (d.new ≡ d.old)
 
--- no dynamic rule is referred to, the targets have clean values, and the sink was given the reply
-abbrev pub Replies : (OverSink → List ℕ → Type 0) → OverSink → List (List ℕ) → Book → Type 0
-Replies Takes k targets b = NoDynamicPath b targets × AllClean b targets × (ran : List (List ℕ)) × IsListOf (IsReachedRule b targets) ran × (k.tells → Takes k (reply b targets ran))
+-- what a build has done
+abbrev pub Built : ℕ → Asked → OverSource → OverDisk → OverSink → Status → Type 0
+Built limit w s d k Done = Holds w.kind s (λ b. Found limit d (Replies limit w d k TakesAll b))
+Built limit w s d k (BookRefused fault) = Refuses w.kind s fault × IsUnvisited d × IsUntouched k
+Built limit w s d k (Usage fault) = ⊥
+Built limit w s d k (BuildRefused reason) = Holds w.kind s (λ b. Found limit d (λ K. Commits limit w d b K (answer.Refused reason))) × IsUntouched k
+Built limit w s d k ReadFault = IsUnvisited d × IsUntouched k
+Built limit w s d k WriteFault = Holds w.kind s (λ b. Found limit d (Replies limit w d k TakesFront b))
+Built limit w s d k DiskFault = HasBook w.kind s × IsUntouched k
+Built limit w s d k (BadState offset) = HasBook w.kind s × IsBad limit d offset × IsUntouched k
+Built limit w s d k (StateFull needed most) = Holds w.kind s (λ b. Found limit d (Overfills limit w d needed most b)) × IsUntouched k
+Built limit w s d k NoMemory = IsUntouched k
 
--- where the source tells its bytes, they are no book, and this is why
-abbrev pub Refuses : OverSource → BookFault → Type 0
-Refuses s BookNoMemory = ⊥
-Refuses s fault = s.tells → BookOf s.old.left (Err fault)
+-- nothing is kept any more, and that was said
+abbrev pub Clears : ℕ → OverDisk → OverSink → (OverSink → List ℕ → Type 0) → Type 0
+Clears limit d k Takes = (d.tells → IsSettled d.old.now → EndsWith limit nothing_kept d.new.now) × (k.tells → Takes k (codes "cleaned" ++ 10 ∷ []))
 
--- what a build of these targets has done
-abbrev pub Built : List (List ℕ) → OverSource → OverSink → Status → Type 0
-Built targets s k Done = Holds s (Replies TakesAll k targets)
-Built targets s k (BookRefused fault) = Refuses s fault × IsUntouched k
-Built targets s k (Usage fault) = ⊥
-Built targets s k (BuildRefused reason) = Holds s (λ b. IsOrderReason b targets reason) × IsUntouched k
-Built targets s k ReadFault = Rose s.old.faults s.new.faults × IsUntouched k
-Built targets s k WriteFault = Holds s (Replies TakesFront k targets) × Rose k.old.faults k.new.faults
-Built targets s k NoMemory = IsUntouched k
+-- what a clearing of the state has done
+abbrev pub Cleaned : ℕ → OverDisk → OverSink → Status → Type 0
+Cleaned limit d k Done = Found limit d (λ K. Clears limit d k TakesAll)
+Cleaned limit d k WriteFault = Found limit d (λ K. Clears limit d k TakesFront)
+Cleaned limit d k DiskFault = IsUntouched k
+Cleaned limit d k (BadState offset) = IsBad limit d offset × IsUntouched k
+Cleaned limit d k (StateFull needed most) = (limit < needed) × (most ≡ limit) × (d.tells → d.new ≡ d.old) × IsUntouched k
+Cleaned limit d k NoMemory = IsUntouched k
+Cleaned limit d k _ = ⊥
+
+abbrev pub Does : Command → ℕ → Asked → OverSource → OverDisk → OverSink → Status → Type 0
+Does command.Build limit w s d k status = Built limit w s d k status
+Does command.Clean limit w s d k status = IsUnread s × Cleaned limit d k status
 
 -- first the words are read: what holds but for the error line
-abbrev pub Ran : List (List ℕ) → OverSource → OverSink → Status → Type 0
-Ran words s k (Usage fault) = (targets_of words ≡ Err fault) × IsUnread s × IsUntouched k
-Ran words s k NoMemory = IsUntouched k
-Ran words s k status = Commands words (λ targets. Built targets s k status)
+abbrev pub Ran : ℕ → List (List ℕ) → OverSource → OverDisk → OverSink → Status → Type 0
+Ran limit words s d k (Usage fault) = (words_of words ≡ Err fault) × IsUnread s × IsUnvisited d × IsUntouched k
+Ran limit words s d k NoMemory = IsUntouched k
+Ran limit words s d k status = Asks words (λ w. Does w.command limit w s d k status)
 
 -- and the error line
 abbrev pub Ended : OverSink → Status → Type 0
@@ -55,27 +66,16 @@ Ended k Done = IsUntouched k
 Ended k WriteFault = IsUntouched k
 Ended k status = Says k (error_line status)
 
--- which status is due. The source tells its bytes, and they are such a book
-abbrev pub IsBook : OverSource → (Book → Type 0) → Type 0
-IsBook s P = s.tells × (b : Book) × BookOf s.old.left (Ok b) × P b
+-- ---- a device's fault is told, and by its own status: only with that has its count of faults risen
 
-abbrev pub IsDue : List (List ℕ) → OverSource → Status → Type 0
-IsDue words s Done = Commands words (λ targets. IsBook s (λ b. NoDynamicPath b targets × AllClean b targets))
-IsDue words s (BookRefused fault) = Commands words (λ targets. s.tells × BookOf s.old.left (Err fault))
-IsDue words s (Usage fault) = targets_of words ≡ Err fault
-IsDue words s (BuildRefused reason) = Commands words (λ targets. IsBook s (λ b. IsOrderReason b targets reason))
-IsDue words s status = ⊥
+abbrev pub TellsSource : OverSource → Status → Type 0
+TellsSource s ReadFault = Rose s.old.faults s.new.faults
+TellsSource s _ = s.new.faults ≡ s.old.faults
 
--- want of memory, or a device
-abbrev pub IsHindered : Status → Type 0
-IsHindered ReadFault = Unit {0}
-IsHindered WriteFault = Unit {0}
-IsHindered NoMemory = Unit {0}
-IsHindered status = ⊥
+abbrev pub TellsDisk : OverDisk → Status → Type 0
+TellsDisk d DiskFault = Rose d.failed_before d.failed
+TellsDisk d _ = d.failed ≡ d.failed_before
 
--- the status has its cause, the error line was written, and whatever status is due is the one, but for
--- want of memory and devices
-pub record IsOutcome (a : Around) (status : Status) : Type 0 where
-  pub ran : Ran a.words a.book a.out status
-  pub ended : Ended a.err status
-  pub complete : (due : Status) → IsDue a.words a.book due → (status ≡ due) ⊎ IsHindered status
+abbrev pub TellsSink : OverSink → Status → Type 0
+TellsSink k WriteFault = Rose k.old.faults k.new.faults
+TellsSink k _ = k.new.faults ≡ k.old.faults

@@ -1,38 +1,38 @@
 //! The top call of `carte`: it does all that the program does, and its contract is the program's theorem.
 //!
-//! The call is generic in the book's source and in the two sinks, so one proof holds for files and for
-//! memory. Its one clause, `IsOutcome`, goes by cases on all statuses: which cause each has, what each
-//! sink took, and that a status which is due comes, but for want of memory and failing devices. One
-//! clause by cases can't forget a status, as one clause for each status could.
+//! The call is generic in the book's source, in the state's disk and in the two sinks, so one proof holds for files and
+//! for memory. Its one clause, `IsOutcome`, goes by cases on all statuses: which cause each has, what was committed, and
+//! what each sink took. One clause by cases can't forget a status, as one clause for each status could.
 //!
-//! A build takes the order of its rules from `carte_topo` and works each out once, as a static task over
-//! a snapshot of the inputs and the values so far. The values stand in an ordered map, and the ledger of
-//! the tasks has the counts that are printed. Turned down: working rules out in the walk that orders
-//! them, where the proof of the order carries values that it doesn't need; and an evaluator of formulas
-//! here, beside that of the tasks, which could differ from it.
+//! What the program reads is said outside of the premise that a type tells it: there are bytes that were read, and there
+//! is what was found to be kept, also over a real file, of which no proof can say what it holds. Where the type tells,
+//! they are what it told. All that goes by what is kept stands under `Under`: where that is sound for some history, and
+//! digests are distinct over that and the book, the answer is right. That it is sound is kept by every run, whatever its
+//! status and wherever a crash cuts it off (`IsSoundRun`), so a history of runs needs no premise on its files.
 //!
-//! The reply is made as one text before its first byte is written, so want of memory never leaves half of
-//! one. The error line is made as a text too; where there is no memory for it, that is the status. All
-//! texts of error lines stand in `texts`.
+//! The reply is made as one text before the build's batch is committed, so want of memory never comes behind a commit
+//! that succeeded. The error line is made as a text too; where there is no memory for it, that is the status. The lines
+//! of devices' faults need none: so such a fault is never told as want of memory.
+//!
+//! Turned down: books and states as premises of the whole clause, under which a real file would have no theorem at all;
+//! and a clause for each command, each of which would say again what a run leaves to its devices.
 #![tactic(auto)]
 
+mod book;
 mod build;
+mod chosen;
+mod clean;
+mod commit;
 #[cfg(test)]
 mod device_tests;
-mod evaluate;
-mod known;
-mod reply;
-mod status;
+mod say;
 #[cfg(test)]
 mod test_runs;
 #[cfg(test)]
 mod tests;
-mod texts;
 mod top;
-mod word;
-mod words;
 
-pub use status::{Status, WordsFault};
-pub use top::{carte, out_of_memory};
-pub use word::Word;
-pub use words::book_word;
+pub use carte_report::Status;
+pub use carte_words::{Command, Word, Words, WordsFault, read_words};
+pub use say::out_of_memory;
+pub use top::carte;

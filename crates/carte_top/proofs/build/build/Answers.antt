@@ -1,6 +1,11 @@
 use Rattle.carte_book.specs.Book.{book_view}
-use Rattle.carte_top.proofs.Built.{at_end}
+use Rattle.carte_top.specs.Around.{over_source, over_disk, over_sink}
+use Rattle.carte_top.proofs.Books.{builds}
 use Rattle.carte_top.proofs.build.build.Goals as goal
 
-pub returns-in-Ok-evaluate : goal.returns-in-Ok-evaluate
-returns-in-Ok-evaluate c = at_end (book_view c.args.book.now) c.args.targets.now c.in-Ok.names c.in-Ok-evaluate.evaluated.done c.in-Ok-evaluate.evaluated.runs c.in-Ok.ensures (rw (← c.as_slice.ensures) c.in-Ok-evaluate.ensures) c.len-count.ensures.ordered
+pub returns-in-Ok : goal.returns-in-Ok
+returns-in-Ok g c =
+    builds 268435456 c.args.asked.now (over_source g.B.Source.tells g.B.Source.state c.args.source.now c.load_book.new.source)
+    (over_disk g.D.Disk.tells g.D.Disk.story g.D.Disk.faults c.args.state.now c.build_over.new.state)
+    (over_sink g.O.Sink.tells g.O.Sink.state c.args.out.now c.build_over.new.out)
+    (book_view c.in-Ok.book) c.in-Ok.ensures.loads c.build_over.result c.build_over.ensures c.in-Ok.ensures.read c.in-Ok.ensures.source

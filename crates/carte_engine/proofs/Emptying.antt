@@ -1,0 +1,82 @@
+-- What the batch that empties a state makes of it.
+use Rattle.std.proofs.Common.{◌≡◌, ℕ, Bool, true, false, ◌&&◌, List, [], ◌∷◌, Option, Some, None, length, is_none, refl, ap, sym, ◌∙◌}
+use Rattle.std.specs.Prelude.{◌==◌, if◌then◌else◌}
+use Rattle.std.proofs.Math.Path.{fun_ext}
+use Rattle.carte_value.specs.declared.digest.Digest.{Digest}
+use Rattle.carte_value.specs.declared.link.Link.{Link}
+use Rattle.carte_value.specs.declared.value.Value.{Value}
+use Rattle.carte_codec.specs.Each.{EachFits}
+use Rattle.carte_record.specs.Bodies.{IsUnmarked}
+use Rattle.carte_record.specs.declared.batch.Batch.{Batch}
+use Rattle.carte_record.specs.declared.entry.Entry.{Entry}
+use Rattle.carte_record.specs.declared.kept.Kept.{Kept}
+use Rattle.carte_record.specs.declared.start.Start.TheVariants.{Cleared}
+use Rattle.carte_record.specs.declared.trace.Trace.{Trace}
+use Rattle.carte_record.specs.declared.way.Way.{Way}
+use Rattle.carte_record.specs.declared.way.Way.TheVariants.{Verifying, Constructive, Deep}
+use Rattle.carte_record.specs.Empty.{is_empty}
+use Rattle.carte_record.specs.Folds.{apply, batch_traces}
+use Rattle.carte_record.specs.Kept.{SomeKept, kept_traces, kept_view, nothing_kept, traces_in}
+use Rattle.carte_record.specs.Lookups.{first_entry, first_link, first_value}
+use Rattle.carte_sound.specs.LeadsTo.{empty_batch}
+use Rattle.carte_sound.proofs.Emptied.{empty_applied}
+use Rattle.carte_plan.proofs.Lists.{both, empty_is, no_items}
+use Rattle.carte_state.specs.States.{Stand, kept_in}
+use Rattle.carte_engine.specs.Clearing.{clearing, is_bare}
+
+none_from : {A : Type 0} (o : Option A) → is_none o ≡ true → o ≡ None
+none_from None is = refl
+none_from (Some x) is = cc
+
+-- where no list has an item nothing is kept
+bare_kept : (K : Kept) → is_bare K ≡ true → kept_view K ≡ nothing_kept
+bare_kept K is =
+    let halves = both ((is_none K.rules && length K.chain == 0) && (length K.seen == 0 && length K.entries == 0))
+    ((length K.verifying == 0 && length K.constructive == 0) && (length K.deep == 0 && length K.values == 0)) is in
+    let fronts = both (is_none K.rules && length K.chain == 0) (length K.seen == 0 && length K.entries == 0) halves.0 in
+    let backs = both (length K.verifying == 0 && length K.constructive == 0) (length K.deep == 0 && length K.values == 0) halves.1 in
+    let first = both (is_none K.rules) (length K.chain == 0) fronts.0 in
+    let second = both (length K.seen == 0) (length K.entries == 0) fronts.1 in
+    let third = both (length K.verifying == 0) (length K.constructive == 0) backs.0 in
+    let fourth = both (length K.deep == 0) (length K.values == 0) backs.1 in
+    ap (λ (r : Option Digest). record (kept_view K) { rules = r }) (none_from K.rules first.0)
+    ∙ ap (λ (ks : List (List ℕ)). record (kept_view K) { rules = None; chain = ks }) (no_items K.chain first.1)
+    ∙ ap (λ (ls : List Link). record (kept_view K) { rules = None; chain = []; seen = first_link ls }) (no_items K.seen second.0)
+    ∙ ap (λ (es : List Entry). record (kept_view K) { rules = None; chain = []; seen = λ k. None; entries = first_entry es }) (no_items K.entries second.1)
+    ∙ ap (λ (vs : List Value). record (kept_view K) { rules = None; chain = []; seen = λ k. None; entries = λ k. None; stored = first_value vs }) (no_items K.values fourth.1)
+    ∙ ap (λ (f : Way → List Trace). record nothing_kept { traces = λ w k. traces_in k (f w) [] }) (fun_ext (no_traces (no_items K.verifying third.0) (no_items K.constructive third.1) (no_items K.deep fourth.0)))
+  where
+    no_traces : K.verifying ≡ [] → K.constructive ≡ [] → K.deep ≡ [] → (w : Way) → kept_traces w K ≡ []
+    no_traces v c d Verifying = v
+    no_traces v c d Constructive = c
+    no_traces v c d Deep = d
+
+-- the batch, once the test is known
+abbrev pub cleared_by : Bool → Batch
+cleared_by bare = if bare then empty_batch else record empty_batch { start = Cleared }
+
+unmarked_by : (bare : Bool) → EachFits IsUnmarked (cleared_by bare).entries
+unmarked_by true = tt
+unmarked_by false = tt
+
+pub clearing_unmarked : (s : Stand) → EachFits IsUnmarked (clearing s).entries
+clearing_unmarked s = unmarked_by (is_bare s.kept)
+
+no_trace : (w : Way) → batch_traces w (record empty_batch { start = Cleared }) ≡ []
+no_trace Verifying = refl
+no_trace Constructive = refl
+no_trace Deep = refl
+
+empties_by : (K : SomeKept) (bare : Bool) → (bare ≡ true → K ≡ nothing_kept) → apply (cleared_by bare) K ≡ nothing_kept
+empties_by K true nothing = empty_applied K ∙ nothing refl
+empties_by K false nothing = ap (λ (f : Way → List Trace). record nothing_kept { traces = λ w k. traces_in k (f w) [] }) (fun_ext no_trace)
+
+pub clearing_empties : (s : Stand) → apply (clearing s) (kept_in s) ≡ nothing_kept
+clearing_empties s = empties_by (kept_in s) (is_bare s.kept) (bare_kept s.kept)
+
+pub clears : (s : Stand) (K : Kept) (bare : Bool) (B : Batch) → is_empty B ≡ true → K ≡ s.kept → bare ≡ is_bare K → bare ≡ false → record B { start = Cleared } ≡ clearing s
+clears s K bare B empty kept test is =
+    ap (λ (C : Batch). record C { start = Cleared }) (empty_is B empty) ∙ sym (ap cleared_by (ap is_bare (sym kept) ∙ (sym test ∙ is)))
+
+pub leaves_bare : (s : Stand) (K : Kept) (bare : Bool) (B : Batch) → is_empty B ≡ true → K ≡ s.kept → bare ≡ is_bare K → bare ≡ true → B ≡ clearing s
+leaves_bare s K bare B empty kept test is = empty_is B empty ∙ sym (ap cleared_by (ap is_bare (sym kept) ∙ (sym test ∙ is)))

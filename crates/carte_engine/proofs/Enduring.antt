@@ -1,0 +1,38 @@
+-- Over a history what is kept stays sound.
+use Rattle.std.proofs.Common.{◌≡◌, ℕ, Bool, true, false, cond, List, [], ◌∷◌, ◌++◌, refl, ap, sym, ◌∙◌, subst, append-nil, append_assoc}
+use Rattle.carte_book.specs.Book.{Book}
+use Rattle.carte_record.specs.Folds.{apply}
+use Rattle.carte_record.specs.Kept.{SomeKept, nothing_kept}
+use Rattle.carte_sound.specs.Base.{HasDistinctDigests}
+use Rattle.carte_sound.specs.Sound.{IsSound}
+use Rattle.carte_sound.proofs.Begins.{behind_sound, front_distinct}
+use Rattle.carte_sound.proofs.Histories.{nothing_sound}
+use Rattle.carte_engine.specs.Answers.{IsPlan}
+use Rattle.carte_engine.specs.Histories.{AreRuns, HistoryIsRight, IsRightNext, Run, books_of, kept_after, kept_behind}
+use Rattle.carte_engine.proofs.Keeping.{plan_sound}
+
+-- digests are distinct over the books up to the next one
+next_distinct : (H : List Book) (b : Book) (J : List Book) → HasDistinctDigests (H ++ b ∷ J) → HasDistinctDigests (H ++ b ∷ [])
+next_distinct H b J distinct = front_distinct (H ++ b ∷ []) J (subst HasDistinctDigests (sym (append_assoc H (b ∷ []) J)) distinct)
+
+behind : (K : SomeKept) (H : List Book) (run : Run) → IsSound K H → HasDistinctDigests (H ++ run.book ∷ []) → IsPlan run.scheduler run.how K run.book run.targets run.plan
+    → (committed : Bool) → IsSound (cond committed (apply run.plan.batch K) K) (H ++ run.book ∷ [])
+behind K H run sound distinct plan true = plan_sound run.scheduler run.how K H run.book run.targets run.plan.answer run.plan.batch sound distinct plan.leads
+behind K H run sound distinct plan false = behind_sound K H (run.book ∷ []) sound
+
+next_right : (K : SomeKept) (H : List Book) (after : List Run) → IsSound K H → AreRuns K after → HasDistinctDigests (H ++ books_of after) → IsRightNext K after
+next_right K H [] sound runs distinct = tt
+next_right K H (run ∷ after) sound runs distinct = runs.0 H sound (next_distinct H run.book (books_of after) distinct)
+
+from : (K : SomeKept) (H : List Book) (before after : List Run) → IsSound K H → AreRuns K (before ++ after) → HasDistinctDigests (H ++ books_of (before ++ after))
+    → IsSound (kept_after K before) (H ++ books_of before) × IsRightNext (kept_after K before) after
+from K H [] after sound runs distinct = (subst (IsSound K) (sym (append-nil H)) sound, next_right K H after sound runs distinct)
+from K H (run ∷ before) after sound runs distinct =
+    let b = run.book in
+    let one : HasDistinctDigests (H ++ b ∷ []) = next_distinct H b (books_of (before ++ after)) distinct in
+    let rest = from (kept_behind K run) (H ++ b ∷ []) before after (behind K H run sound one (runs.0 H sound one) run.committed) runs.1
+    (subst HasDistinctDigests (sym (append_assoc H (b ∷ []) (books_of (before ++ after)))) distinct) in
+    (subst (IsSound (kept_after (kept_behind K run) before)) (append_assoc H (b ∷ []) (books_of before)) rest.0, rest.1)
+
+pub history_right : HistoryIsRight
+history_right before after runs distinct = from nothing_kept [] before after (nothing_sound []) runs distinct

@@ -1,0 +1,88 @@
+-- The plan of a build, under a history that what is kept is sound for.
+use Rattle.std.proofs.Common.{◌≡◌, ℕ, List, [], ◌∷◌, ◌++◌, refl, sym, subst, inl, inr}
+use Rattle.carte_book.specs.Book.{Book}
+use Rattle.carte_book.specs.declared.reason.Reason.{Reason}
+use Rattle.carte_codec.specs.Each.{EachFits}
+use Rattle.carte_record.specs.Bodies.{IsUnmarked}
+use Rattle.carte_record.specs.declared.batch.Batch.{Batch}
+use Rattle.carte_record.specs.declared.entry.Entry.{Entry}
+use Rattle.carte_record.specs.Kept.{SomeKept}
+use Rattle.carte_mark.specs.declared.base.Begun.{Begun}
+use Rattle.carte_mark.specs.Bases.{BeginsWith, base_view}
+use Rattle.carte_sound.specs.Base.{HasDistinctDigests, IsBase}
+use Rattle.carte_sound.specs.Begun.{begin}
+use Rattle.carte_sound.specs.Held.{How}
+use Rattle.carte_sound.specs.Sound.{IsSound}
+use Rattle.carte_sound.specs.Treated.{IsDoneInOrder, IsDoneSuspending}
+use Rattle.carte_sound.proofs.Begins.{begun_base, behind_sound, has_last}
+use Rattle.carte_note.specs.Notes.{AreUnmarked}
+use Rattle.carte_note.specs.declared.finished.Finished.{Finished}
+use Rattle.carte_rebuild.specs.declared.work.Work.{Work}
+use Rattle.carte_rebuild.specs.declared.work.WorkEnd.{WorkEnd}
+use Rattle.carte_rebuild.specs.declared.work.WorkEnd.TheVariants.{All, Refused}
+use Rattle.carte_rebuild.specs.Ends.{EndsInOrder, EndsSuspending, IsGiven, IsWork}
+use Rattle.carte_plan.specs.Planned.{IsBuilt, Plans}
+use Rattle.carte_plan.proofs.Leading.{leads_by}
+use Rattle.carte_engine.specs.Answers.{IsPlan}
+use Rattle.carte_engine.specs.Reckoned.{EndsBy, IsReckoned}
+use Rattle.carte_engine.specs.declared.answer.Answer.TheVariants as answer
+use Rattle.carte_engine.specs.declared.answer.Built.{Built}
+use Rattle.carte_engine.specs.declared.scheduler.Scheduler.{Scheduler}
+use Rattle.carte_engine.specs.declared.scheduler.Scheduler.TheVariants.{Topological, Suspending}
+use Rattle.carte_engine.proofs.Succeeding.{succeeds}
+
+pub each_unmarked : (es : List Entry) → AreUnmarked es → EachFits IsUnmarked es
+each_unmarked [] unmarked = tt
+each_unmarked (e ∷ es) unmarked = (unmarked e (inl refl), each_unmarked es (λ f there. unmarked f (inr there)))
+
+module _ (h : How) (K : SomeKept) (b : Book) (targets : List (List ℕ)) (x : Begun) (begins : BeginsWith K b x) (H : List Book) (sound : IsSound K H) (distinct : HasDistinctDigests (H ++ b ∷ [])) where
+  base : IsBase (begin K b x.marks) b (H ++ b ∷ [])
+  base = begun_base K b (H ++ b ∷ []) x.marks (behind_sound K H (b ∷ []) sound) (has_last H b) distinct begins.marked
+
+  given : IsGiven (begin K b x.marks) b
+  given = (H ++ b ∷ [], base)
+
+  built_by : (done : List ℕ → Type 0) (w : Work) → IsWork h (begin K b x.marks) b done w → IsBuilt h K b x.marks done w.finished
+  built_by done w work = record { now = base.now; right = work.right; order = work.order }
+
+  nothing_built : (fs : List Finished) → fs ≡ [] → IsBuilt h K b x.marks (λ k. ⊥) fs
+  nothing_built fs none = subst (IsBuilt h K b x.marks (λ k. ⊥)) (sym none) (record {
+    now = base.now;
+    right = tt;
+    order = record { finished = tt; once = tt; only = λ k there. there; each = λ k never. never };
+  })
+
+  -- all targets have their values
+  pub all_by : (s : Scheduler) (w : Work) (B : Batch) (built : Built) → EndsBy s h (base_view x.base) b targets (All w) → Plans h K b x.marks w.finished B → IsReckoned b targets w built
+      → IsPlan s h K b targets (record { batch = B; answer = answer.Built built })
+  all_by Topological w B built ends plans reckoned =
+      let end = subst (λ L. EndsInOrder h L b targets (All w)) begins.base ends in
+      let worked = end.3 given in
+      record {
+        leads = leads_by h (λ M k. IsDoneInOrder b targets k) K b x.marks w.finished B begins.marked plans (built_by (IsDoneInOrder b targets) w worked.0);
+        right = succeeds Topological h K b targets x.marks w built begins.marked (end.1, end.2) worked.0 worked.1 reckoned;
+      }
+  all_by Suspending w B built ends plans reckoned =
+      let end = subst (λ L. EndsSuspending h L b targets (All w)) begins.base ends in
+      let worked = end.1 given in
+      record {
+        leads = leads_by h (λ M k. IsDoneSuspending h M b targets k) K b x.marks w.finished B begins.marked plans (built_by (IsDoneSuspending h (begin K b x.marks) b targets) w worked.1);
+        right = succeeds Suspending h K b targets x.marks w built begins.marked worked.0 worked.1 worked.2 reckoned;
+      }
+
+  -- some target has none
+  pub refused_by : (s : Scheduler) (w : Work) (reason : Reason) (B : Batch) → EndsBy s h (base_view x.base) b targets (Refused w reason) → Plans h K b x.marks w.finished B
+      → IsPlan s h K b targets (record { batch = B; answer = answer.Refused reason })
+  refused_by Topological w reason B ends plans =
+      let end = subst (λ L. EndsInOrder h L b targets (Refused w reason)) begins.base ends in
+      record {
+        leads = leads_by h (λ M k. ⊥) K b x.marks w.finished B begins.marked plans (nothing_built w.finished end.2.finished);
+        right = end.1;
+      }
+  refused_by Suspending w reason B ends plans =
+      let end = subst (λ L. EndsSuspending h L b targets (Refused w reason)) begins.base ends in
+      let worked = end.1 given in
+      record {
+        leads = leads_by h (λ M k. IsDoneSuspending h M b targets k) K b x.marks w.finished B begins.marked plans (built_by (IsDoneSuspending h (begin K b x.marks) b targets) w worked.1);
+        right = worked.0;
+      }

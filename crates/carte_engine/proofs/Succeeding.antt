@@ -1,0 +1,121 @@
+-- What work that is done rightly has made.
+use Rattle.std.proofs.Common.{◌≡◌, ◌⊎◌, ℕ, ◌+◌, ◌-◌, ◌≤◌, cond, List, [], ◌∷◌, Option, Some, None, map, length, refl, ap, sym, ◌∙◌, subst, inl, inr, arith}
+use Rattle.carte_value.specs.declared.value.Value.{Value}
+use Rattle.carte_value.specs.Names.{name_eq}
+use Rattle.carte_value.specs.Truths.{Among, IsListOf, NoneTwice}
+use Rattle.carte_value.proofs.Members.{name_apart, no_longer, same_or_not}
+use Rattle.carte_effect.specs.declared.outcome.Made.{Made}
+use Rattle.carte_effect.specs.declared.outcome.Made.TheVariants.{Ran, Reused}
+use Rattle.carte_effect.specs.Ledger.{given_up as left_open}
+use Rattle.carte_book.specs.Book.{Book, Item, input, rule, content, clean}
+use Rattle.carte_book.specs.Needs.{IsRule, target}
+use Rattle.carte_book.specs.Reason.{AllClean, IsClean}
+use Rattle.carte_book.proofs.Clean.{clean_input, clean_nothing}
+use Rattle.carte_record.specs.Kept.{SomeKept}
+use Rattle.carte_record.proofs.Names.{name_eq_self}
+use Rattle.carte_sound.specs.Begun.{AreMarks, begin}
+use Rattle.carte_sound.specs.Held.{How, IsHeld}
+use Rattle.carte_sound.specs.Left.{keys_of}
+use Rattle.carte_sound.specs.Treated as treated
+use Rattle.carte_sound.specs.Treated.{IsRun}
+use Rattle.carte_note.specs.declared.finished.Finished.{Finished}
+use Rattle.carte_note.specs.Lists.{finished_of}
+use Rattle.carte_note.specs.Right.{AreRight, IsRightFinished, IsRightMade, finishes_of, has_run, key_of, ran_in}
+use Rattle.carte_rebuild.specs.declared.work.Work.{Work}
+use Rattle.carte_rebuild.specs.Ends.{IsWork, NothingGivenUp}
+use Rattle.carte_engine.specs.Answers.{AreValues, IsSuccess}
+use Rattle.carte_engine.specs.Reckoned.{IsReckoned, value_at, value_found, value_made}
+use Rattle.carte_engine.specs.Schedulers.{IsDoneBy, IsServed}
+use Rattle.carte_engine.specs.declared.answer.Built.{Built}
+use Rattle.carte_engine.specs.declared.scheduler.Scheduler.{Scheduler}
+use Rattle.carte_engine.specs.declared.scheduler.Scheduler.TheVariants.{Topological, Suspending}
+use Rattle.carte_engine.proofs.Sorting.{rising_once, same_length, sorted, sorted_list}
+
+module _ (h : How) (M : SomeKept) (b : Book) where
+  -- a finished key is found, and is right
+  found : (fs : List Finished) (k : List ℕ) → AreRight h M b fs → Among (keys_of (finishes_of fs)) k → (f : Finished) × (finished_of fs k ≡ Some f) × IsRightFinished h M b k f
+  found [] k right nowhere = absurd nowhere
+  found (f ∷ fs) k right among = elim (same_or_not k (key_of f)) [
+    | inl same ↦ (f, ap (λ t. cond t (Some f) (finished_of fs k)) (ap (name_eq k) (sym same) ∙ name_eq_self k), subst (λ j. IsRightFinished h M b j f) (sym same) right.0)
+    | inr other ↦ elim among [
+      | inl same ↦ absurd (other same)
+      | inr later ↦ (let x = found fs k right.1 later in (x.0, ap (λ t. cond t (Some f) (finished_of fs k)) (name_apart k (key_of f) other) ∙ x.1, x.2))
+    ]
+  ]
+
+  value_is : (fs : List Finished) (k : List ℕ) → AreRight h M b fs → (IsRule b k → Among (keys_of (finishes_of fs)) k) → IsClean b k → clean b k ≡ Some (value_found b fs k)
+  value_is fs k right each is_clean = on (content b k) refl
+    where
+      on : (o : Option Item) → content b k ≡ o → clean b k ≡ Some (value_at o (finished_of fs k))
+      on None none = absurd (let e : Some is_clean.0 ≡ None = sym is_clean.1 ∙ clean_nothing b k none in cc)
+      on (Some (input v)) there = clean_input b k v there
+      on (Some (rule e)) there = let x = found fs k right (each (e, there)) in x.2.made.value ∙ ap (λ o. Some (value_made o)) (sym x.1)
+
+  values_are : (fs : List Finished) (ks : List (List ℕ)) → ((k : List ℕ) → Among ks k → IsClean b k → clean b k ≡ Some (value_found b fs k)) → AllClean b ks → AreValues (clean b) ks (map (value_found b fs) ks)
+  values_are fs [] each all = tt
+  values_are fs (k ∷ ks) each all = (each k (inl refl) all.0, values_are fs ks (λ j later. each j (inr later)) all.1)
+
+  -- exactly those that aren't held ran
+  ran_only : (fs : List Finished) (k : List ℕ) → AreRight h M b fs → Among (ran_in fs) k → Among (keys_of (finishes_of fs)) k × ¬ (IsHeld h M b k)
+  ran_only [] k right nowhere = absurd nowhere
+  ran_only (f ∷ fs) k right there = on f.made right.0.made there (ran_only fs k right.1)
+    where
+      on : (m : Made) → IsRightMade h M b (key_of f) m → Among (cond (has_run m) (key_of f ∷ ran_in fs) (ran_in fs)) k → (Among (ran_in fs) k → Among (keys_of (finishes_of fs)) k × ¬ (IsHeld h M b k))
+          → Among (keys_of (finishes_of (f ∷ fs))) k × ¬ (IsHeld h M b k)
+      on (Ran o) made (inl same) rest = (inl same, λ held. made.came.0 (subst (IsHeld h M b) same held))
+      on (Ran o) made (inr later) rest = let x = rest later in (inr x.0, x.1)
+      on (Reused o) made later rest = let x = rest later in (inr x.0, x.1)
+
+  ran_each : (fs : List Finished) (k : List ℕ) → AreRight h M b fs → Among (keys_of (finishes_of fs)) k → ¬ (IsHeld h M b k) → Among (ran_in fs) k
+  ran_each [] k right nowhere unheld = absurd nowhere
+  ran_each (f ∷ fs) k right among unheld = on f.made right.0.made among (λ later. ran_each fs k right.1 later unheld)
+    where
+      on : (m : Made) → IsRightMade h M b (key_of f) m → Among (keys_of (finishes_of (f ∷ fs))) k → (Among (keys_of (finishes_of fs)) k → Among (ran_in fs) k) → Among (cond (has_run m) (key_of f ∷ ran_in fs) (ran_in fs)) k
+      on (Ran o) made (inl same) rest = inl same
+      on (Ran o) made (inr later) rest = inr (rest later)
+      on (Reused o) made (inl same) rest = absurd (unheld (subst (IsHeld h M b) (sym same) made.came.0))
+      on (Reused o) made (inr later) rest = rest later
+
+keys_length : (fs : List Finished) → length (keys_of (finishes_of fs)) ≡ length fs
+keys_length [] = refl
+keys_length (f ∷ fs) = omega (arith, keys_length fs)
+
+-- a target that is a rule is done
+target_done : (s : Scheduler) (h : How) (M : SomeKept) (b : Book) (targets : List (List ℕ)) (k : List ℕ) → Among targets k → IsRule b k → IsClean b k → IsDoneBy s h M b targets k
+target_done Topological h M b targets k among is_rule is_clean = ((is_rule, target among), is_clean)
+target_done Suspending h M b targets k among is_rule is_clean = (treated.IsTreated.target among is_rule, is_clean)
+
+served_clean : (s : Scheduler) (b : Book) (targets : List (List ℕ)) → IsServed s b targets → AllClean b targets
+served_clean Topological b targets served = served.1
+served_clean Suspending b targets served = served
+
+pub succeeds : (s : Scheduler) (h : How) (K : SomeKept) (b : Book) (targets marks : List (List ℕ)) (w : Work) (built : Built) → AreMarks K b marks → IsServed s b targets
+    → IsWork h (begin K b marks) b (IsDoneBy s h (begin K b marks) b targets) w → NothingGivenUp w → IsReckoned b targets w built → IsSuccess s h K b targets built
+succeeds s h K b targets marks w built marked served work nothing reckoned =
+    let M = begin K b marks in
+    let fs = w.finished in
+    let keys = keys_of (finishes_of fs) in
+    let done = sorted_list keys in
+    let each : (k : List ℕ) → Among targets k → IsClean b k → clean b k ≡ Some (value_found b fs k) = λ k among is_clean. value_is h M b fs k work.right (λ is_rule. work.order.each k (target_done s h M b targets k among is_rule is_clean)) is_clean in
+    let fewer : length built.ran ≤ length keys = no_longer built.ran keys (rising_once built.ran reckoned.ran.rising) (λ k there. (ran_only h M b fs k work.right (reckoned.ran.only k there)).0) in
+    let all : length keys ≡ length (sorted keys) = same_length keys (sorted keys) work.order.once (rising_once (sorted keys) done.rising) done.each done.only in
+    let ended : length w.runs.starts ≤ length w.runs.ends = no_longer w.runs.starts w.runs.ends nothing.once nothing.only in
+    record {
+      served = served;
+      values = subst (AreValues (clean b) targets) (sym reckoned.values) (values_are h M b fs targets each (served_clean s b targets served));
+      marks = marks;
+      marked = marked;
+      ran = record {
+        rising = reckoned.ran.rising;
+        only = λ k there. let x = ran_only h M b fs k work.right (reckoned.ran.only k there) in (work.order.only k x.0, x.1);
+        each = λ k run. reckoned.ran.each k (ran_each h M b fs k work.right (work.order.each k run.0) run.1);
+      };
+      done = sorted keys;
+      all_done = record {
+        rising = done.rising;
+        only = λ k there. work.order.only k (done.only k there);
+        each = λ k is_done. done.each k (work.order.each k is_done);
+      };
+      count = omega (arith, reckoned.reused, fewer, all, keys_length fs);
+      none_given_up = omega (arith, reckoned.given_up, ended);
+    }

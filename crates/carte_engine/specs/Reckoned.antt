@@ -1,0 +1,44 @@
+-- From the end of a build to what it has made.
+use Rattle.std.specs.Prelude.{ℕ, ◌≡◌, ◌-◌, List, map, length, Option, Some, None}
+use Rattle.carte_value.specs.declared.value.Value.{Value}
+use Rattle.carte_value.specs.declared.value.Value.TheVariants.{Empty}
+use Rattle.carte_value.specs.Truths.{Among, IsListOf}
+use Rattle.carte_effect.specs.Jobs.{outcome_of}
+use Rattle.carte_effect.specs.Ledger.{given_up as left_open}
+use Rattle.carte_book.specs.Book.{Book, Item, input, rule, content}
+use Rattle.carte_note.specs.declared.finished.Finished.{Finished}
+use Rattle.carte_note.specs.Lists.{finished_of}
+use Rattle.carte_note.specs.Right.{ran_in}
+use Rattle.carte_record.specs.Kept.{SomeKept}
+use Rattle.carte_rebuild.specs.declared.work.Work.{Work}
+use Rattle.carte_rebuild.specs.declared.work.WorkEnd.{WorkEnd}
+use Rattle.carte_rebuild.specs.Ends.{EndsInOrder, EndsSuspending}
+use Rattle.carte_sound.specs.Held.{How}
+use Rattle.carte_engine.specs.declared.answer.Built.{Built}
+use Rattle.carte_engine.specs.declared.scheduler.Scheduler.{Scheduler}
+use Rattle.carte_engine.specs.declared.scheduler.Scheduler.TheVariants.{Topological, Suspending}
+
+-- how a scheduler comes to its end
+abbrev pub EndsBy : Scheduler → How → SomeKept → Book → List (List ℕ) → WorkEnd → Type 0
+EndsBy Topological h M b targets end = EndsInOrder h M b targets end
+EndsBy Suspending h M b targets end = EndsSuspending h M b targets end
+
+abbrev pub value_made : Option Finished → Value
+value_made None = Empty
+value_made (Some f) = (outcome_of f.made).value
+
+abbrev pub value_at : Option Item → Option Finished → Value
+value_at None o = Empty
+value_at (Some (input v)) o = v
+value_at (Some (rule e)) o = value_made o
+
+-- an input's value, and that of a rule that was finished; for what has neither, which no build comes to, the empty one
+abbrev pub value_found : Book → List Finished → List ℕ → Value
+value_found b fs k = value_at (content b k) (finished_of fs k)
+
+-- what work has made, whatever it was done over
+pub record IsReckoned (b : Book) (targets : List (List ℕ)) (w : Work) (built : Built) : Type 0 where
+  pub values : built.values ≡ map (value_found b w.finished) targets
+  pub ran : IsListOf (Among (ran_in w.finished)) built.ran
+  pub reused : built.reused ≡ length w.finished - length built.ran
+  pub given_up : built.given_up ≡ left_open w.runs

@@ -1,0 +1,39 @@
+// The batch that empties a state.
+ghost use Rattle.std.specs.Prelude.{◌≡◌, ◌&&◌, ◌==◌, is_none, length};
+ghost use Rattle.carte_engine.specs.Clearing.{clearing, is_bare};
+
+use carte_record::{Batch, Kept, Start};
+use carte_state::State;
+use std::alloc::Global;
+
+/// An empty batch where nothing is kept. Lists are looked at one by one: no build leaves an item without rules, but what a
+/// file keeps may be of another origin.
+pub(crate) fn clearing(alloc: Global, state: &State) -> Batch
+    ensures { result ≡ clearing state.now }
+{
+    let mut batch = Batch::new(alloc);
+    if !is_bare(state.kept()) {
+        batch.start = Start::Cleared;
+    }
+    batch
+}
+
+fn is_bare(kept: &Kept) -> bool
+    ensures { result ≡ is_bare kept.now }
+{
+    has_no_entry(kept) && has_no_trace(kept)
+}
+
+fn has_no_entry(kept: &Kept) -> bool
+    ensures { result ≡ ((is_none kept.now.rules && length kept.now.chain == 0) && (length kept.now.seen == 0 && length kept.now.entries == 0)) }
+{
+    (kept.rules.is_none() && kept.chain.is_empty())
+        && (kept.seen.is_empty() && kept.entries.is_empty())
+}
+
+fn has_no_trace(kept: &Kept) -> bool
+    ensures { result ≡ ((length kept.now.verifying == 0 && length kept.now.constructive == 0) && (length kept.now.deep == 0 && length kept.now.values == 0)) }
+{
+    (kept.verifying.is_empty() && kept.constructive.is_empty())
+        && (kept.deep.is_empty() && kept.values.is_empty())
+}

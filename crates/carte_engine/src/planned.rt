@@ -1,0 +1,72 @@
+// From the end of a build to its plan.
+ghost use Rattle.std.specs.Prelude.{◌≡◌, IfOk};
+ghost use Rattle.carte_book.specs.Book.{book_view};
+ghost use Rattle.carte_book.specs.Digest.{rules_digest_of};
+ghost use Rattle.carte_codec.specs.Each.{EachFits};
+ghost use Rattle.carte_mark.specs.Bases.{BeginsWith, base_view};
+ghost use Rattle.carte_record.specs.Bodies.{IsUnmarked};
+ghost use Rattle.carte_record.specs.Kept.{SomeKept, kept_view};
+ghost use Rattle.carte_engine.specs.declared.scheduler.Scheduler.{Scheduler as SomeScheduler};
+ghost use Rattle.carte_engine.specs.Answers.{IsPlan, Under};
+ghost use Rattle.carte_engine.specs.Reckoned.{EndsBy};
+
+use crate::reckon::reckon;
+use crate::{Answer, Plan, Scheduler};
+use carte_book::Book;
+use carte_mark::Begun;
+use carte_plan::plan;
+use carte_rebuild::{Rebuilder, WorkEnd};
+use carte_record::Kept;
+use carte_value::{Digest, Names, NoMemory};
+use std::alloc::Global;
+
+/// The build that the scheduler makes.
+pub(crate) fn run<R: Rebuilder>(
+    alloc: Global,
+    rebuilder: &R,
+    kept: &Kept,
+    book: &Book,
+    scheduler: Scheduler,
+    targets: &Names,
+) -> Result<WorkEnd, NoMemory>
+    ensures { IfOk result (EndsBy scheduler (R.how rebuilder.now) (kept_view kept.now) (book_view book.now) targets.now) }
+{
+    match scheduler {
+        Scheduler::Topological => carte_topo::build(alloc, rebuilder, kept, book, targets),
+        Scheduler::Suspending => carte_suspend::build(alloc, rebuilder, kept, book, targets),
+    }
+}
+
+/// The plan of a build that came to such an end. `rules` is the digest of the book's rules.
+pub(crate) fn planned<R: Rebuilder>(
+    alloc: Global,
+    rebuilder: &R,
+    begun: &Begun<'_>,
+    rules: Digest,
+    book: &Book,
+    targets: &Names,
+    end: WorkEnd,
+) -> Result<Plan, NoMemory>
+    requires { rules ≡ rules_digest_of (book_view book.now) }
+    ensures unmarked { IfOk result (λ p. EachFits IsUnmarked p.batch.entries) }
+    ensures plans { let h = R.how rebuilder.now in let b = book_view book.now in (s : SomeScheduler) (K : SomeKept) → BeginsWith K b begun.now
+        → EndsBy s h (base_view begun.now.base) b targets.now end → Under K b (IfOk result (IsPlan s h K b targets.now)) }
+{
+    match end {
+        WorkEnd::All(work) => {
+            let batch = plan(alloc, rebuilder, begun, rules, book, &work.finished)?;
+            let built = reckon(alloc, book, targets, &work)?;
+            Ok(Plan {
+                batch,
+                answer: Answer::Built(built),
+            })
+        }
+        WorkEnd::Refused(work, reason) => {
+            let batch = plan(alloc, rebuilder, begun, rules, book, &work.finished)?;
+            Ok(Plan {
+                batch,
+                answer: Answer::Refused(reason),
+            })
+        }
+    }
+}

@@ -1,0 +1,66 @@
+-- A book that was read, and a run over it.
+use Rattle.std.proofs.Common.{◌≡◌, ℕ, ◌≤◌, List, [], ◌++◌, length, Result, Ok, Err, refl, sym, ◌∙◌, subst, inl, inr, ◌⊎◌, arith, append-nil}
+use Rattle.carte_io.specs.Streams.{Reads}
+use Rattle.carte_value.specs.declared.kind.Kind.{Kind}
+use Rattle.carte_book.specs.Book.{Book, book_view}
+use Rattle.carte_book.specs.declared.book.Book.{Book as CodeBook}
+use Rattle.carte_book.specs.declared.fault.BookFault.{BookFault}
+use Rattle.carte_book.specs.declared.fault.BookFault.TheVariants.{NoMemory as BookNoMemory}
+use Rattle.carte_words.specs.declared.words.Words.{Words as Asked}
+use Rattle.carte_report.specs.declared.status.Status.{Status}
+use Rattle.carte_report.specs.declared.status.Status.TheVariants.{Done, BookRefused, Usage, BuildRefused, ReadFault, WriteFault, DiskFault, BadState, StateFull, NoMemory}
+use Rattle.carte_engine.specs.declared.answer.Answer.TheVariants as answer
+use Rattle.carte_top.specs.Around.{OverSource, OverDisk, OverSink, TakesAll, TakesFront}
+use Rattle.carte_top.specs.Chosen.{BookOfKind}
+use Rattle.carte_top.specs.Found.{Commits, Found, Holds, Overfills, Refuses, Replies, WasRead}
+use Rattle.carte_top.specs.Outcome.{Built, TellsSource}
+use Rattle.carte_top.specs.Sound.{MayBuild, StaysAt}
+use Rattle.carte_top.specs.Running.{Builds, BuildsOver, BuiltOver, LoadsBook, Parses, ReadsEnough, RefusesBytes}
+
+refuses : (kind : Kind) (s : OverSource) (bytes : List ℕ) (fault : BookFault) → WasRead s bytes → RefusesBytes kind bytes fault → Refuses kind s fault
+refuses kind s bytes BookNoMemory was not = absurd not
+refuses kind s bytes fault was not = (bytes, inl was, not)
+
+reads_all : (s : OverSource) (bytes : List ℕ) → WasRead s bytes → length bytes ≤ 16777216 → ReadsEnough s
+reads_all s bytes was short = record {
+  bytes = bytes;
+  has = omega arith;
+  first = λ told. let all = was told in subst (λ rest. s.old.left ≡ bytes ++ rest) (sym all.1) (all.0 ∙ sym (append-nil bytes));
+}
+
+pub loads_book : (kind : Kind) (s : OverSource) (bytes : List ℕ) (result : Result CodeBook Status) → Parses kind bytes result → WasRead s bytes → length bytes ≤ 16777216 → s.new.faults ≡ s.old.faults
+    → LoadsBook kind s result
+loads_book kind s bytes (Ok b) parses was short same = record { loads = (bytes, was, book_view b, parses, refl); read = reads_all s bytes was short; source = same }
+loads_book kind s bytes (Err (BookRefused fault)) parses was short same = record { loads = refuses kind s bytes fault was parses; read = reads_all s bytes was short; source = same }
+loads_book kind s bytes (Err NoMemory) parses was short same = record { loads = tt; read = reads_all s bytes was short; source = same }
+loads_book kind s bytes (Err Done) parses was short same = absurd parses
+loads_book kind s bytes (Err (Usage fault)) parses was short same = absurd parses
+loads_book kind s bytes (Err (BuildRefused reason)) parses was short same = absurd parses
+loads_book kind s bytes (Err ReadFault) parses was short same = absurd parses
+loads_book kind s bytes (Err WriteFault) parses was short same = absurd parses
+loads_book kind s bytes (Err DiskFault) parses was short same = absurd parses
+loads_book kind s bytes (Err (BadState offset)) parses was short same = absurd parses
+loads_book kind s bytes (Err (StateFull needed most)) parses was short same = absurd parses
+
+-- what was read is this book
+module _ (kind : Kind) (s : OverSource) (b : Book) (holds : Holds kind s (λ c. c ≡ b)) where
+  holds_so : (P : Book → Type 0) → P b → Holds kind s P
+  holds_so P there = (holds.0, holds.1, b, subst (λ (c : Book). BookOfKind kind holds.0 (Ok c)) holds.4 holds.3, there)
+
+module _ (limit : ℕ) (w : Asked) (s : OverSource) (d : OverDisk) (k : OverSink) (b : Book) (holds : Holds w.kind s (λ c. c ≡ b)) where
+  built_on : (status : Status) → BuiltOver limit w b d k status → s.new.faults ≡ s.old.faults → Built limit w s d k status × TellsSource s status
+  built_on Done did same = (holds_so w.kind s b holds (λ c. Found limit d (Replies limit w d k TakesAll c)) did, same)
+  built_on (BuildRefused reason) did same = ((holds_so w.kind s b holds (λ c. Found limit d (λ K. Commits limit w d c K (answer.Refused reason))) did.0, did.1), same)
+  built_on WriteFault did same = (holds_so w.kind s b holds (λ c. Found limit d (Replies limit w d k TakesFront c)) did, same)
+  built_on DiskFault did same = ((holds_so w.kind s b holds (λ c. Unit {0}) tt, did), same)
+  built_on (BadState offset) did same = ((holds_so w.kind s b holds (λ c. Unit {0}) tt, did.0, did.1), same)
+  built_on (StateFull needed most) did same = ((holds_so w.kind s b holds (λ c. Found limit d (Overfills limit w d needed most c)) did.0, did.1), same)
+  built_on NoMemory did same = (did, same)
+  built_on (BookRefused fault) did same = absurd did
+  built_on (Usage fault) did same = absurd did
+  built_on ReadFault did same = absurd did
+
+  pub builds : (status : Status) → BuildsOver limit w b d k status → ReadsEnough s → s.new.faults ≡ s.old.faults → Builds limit w s d k status
+  builds status over read same =
+      let parts = built_on status over.did same in
+      record { did = parts.0; read = read; visits = inr (holds_so w.kind s b holds (λ c. StaysAt limit (MayBuild w c) d) over.stays); source = parts.1; disk = over.disk; sink = over.sink }

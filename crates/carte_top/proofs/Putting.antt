@@ -1,0 +1,101 @@
+-- What a commit makes of a disk on which was found what is kept.
+use Rattle.std.proofs.Common.{◌≡◌, ℕ, ◌+◌, ◌<◌, ◌≤◌, Bool, true, false, if◌then◌else◌, List, [], ◌∷◌, Result, Ok, Err, refl, sym, ◌∙◌, ap, subst, arith, inl, inr, ◌⊎◌}
+use Rattle.carte_io.specs.Causes.{Rose}
+use Rattle.carte_io.specs.Disk.{CountsUp, IsImage, IsSettled, LeavesOnly, Story, moments}
+use Rattle.carte_io.specs.Stations.{IsAtOneOf, Step, StepsThrough}
+use Rattle.carte_io.proofs.Acknowledged.{steps_leave}
+use Rattle.carte_io.proofs.Images.{leaves_more, leaves_none, settled_image}
+use Rattle.carte_journal.specs.Frames.{BodyAt, Ends, end_of, reading}
+use Rattle.carte_journal.specs.Journals.{calls_of}
+use Rattle.carte_record.specs.Bodies.{spelled_batch}
+use Rattle.carte_record.specs.Empty.{is_empty}
+use Rattle.carte_record.specs.Folds.{apply}
+use Rattle.carte_record.specs.Kept.{SomeKept, nothing_kept}
+use Rattle.carte_record.specs.declared.batch.Batch.{Batch}
+use Rattle.carte_state.specs.Folding.{IsFolded, Keeps}
+use Rattle.carte_state.specs.States.{HasRoom, IsKeptOn, IsLoaded, Stand, kept_in, needs_for, step_for}
+use Rattle.carte_state.specs.declared.fault.ApplyFault.{ApplyFault}
+use Rattle.carte_state.specs.declared.fault.ApplyFault.TheVariants as applying
+use Rattle.carte_state.proofs.Applies.{kept_leaves}
+use Rattle.carte_report.specs.declared.status.Status.TheVariants.{DiskFault, StateFull, NoMemory}
+use Rattle.carte_top.specs.Around.{OverDisk}
+use Rattle.carte_top.specs.Found.{EndsWith, FitsIn, IsNeeded, IsOver}
+use Rattle.carte_top.specs.Outcome.{TellsDisk}
+use Rattle.carte_top.specs.Running.{PutOrNot, uncommitted_of}
+
+pub kept_on : (e : Stand) (s : Story) → IsLoaded e s.now.reads → IsSettled s.now → IsKeptOn e s
+kept_on e s loaded settled = record { bodies = loaded.bodies; rest = record { read = loaded.read; settled = settled }; folded = loaded.folded }
+
+pub keeps_loaded : (e : Stand) (file : List ℕ) → IsLoaded e file → Keeps e.journal.limit (kept_in e) file
+keeps_loaded e file loaded = record { gate = e.journal.gate; bodies = loaded.bodies; reads = loaded.read.reads; folded = loaded.folded }
+
+-- room in the journal is room in the file
+pub fits_in : (e : Stand) (file : List ℕ) (B : Batch) → IsLoaded e file → HasRoom e B → FitsIn e.journal.limit file B
+fits_in e file B loaded (inl empty) = inl empty
+fits_in e file B loaded (inr room) = inr (λ needed is. subst (λ n. n ≤ e.journal.limit) (sym (is e.journal.gate loaded.bodies loaded.read.reads)) room)
+
+pub needed_in : (e : Stand) (file : List ℕ) (B : Batch) (needed : ℕ) → IsLoaded e file → needed ≡ needs_for e B → IsNeeded e.journal.limit file B needed
+needed_in e file B needed loaded is gate bodies reads =
+    let both : Ends gate bodies ≡ Ends e.journal.gate loaded.bodies = sym reads ∙ loaded.read.reads in
+    let same : gate ≡ e.journal.gate = cc in
+    is ∙ ap (λ g. end_of g (spelled_batch B) + 1) (sym same)
+
+-- what the file keeps behind a commit
+pub ends_with : (limit : ℕ) (L : SomeKept) (f : Stand) (u : Story) → f.journal.limit ≡ limit → kept_in f ≡ L → IsKeptOn f u → EndsWith limit L u.now
+ends_with limit L f u limit_is kept on = record {
+  settled = on.rest.settled;
+  keeps = record {
+    gate = f.journal.gate;
+    bodies = on.bodies;
+    reads = ap (λ l. reading l u.now.reads) (sym limit_is) ∙ on.rest.read.reads;
+    folded = subst (IsFolded nothing_kept on.bodies) kept on.folded;
+  };
+}
+
+station : (limit : ℕ) (K : SomeKept) (empty : Bool) (step : Step SomeKept) (file : List ℕ) → IsAtOneOf (Keeps limit) K (if empty then [] else step ∷ []) file
+    → Keeps limit K file ⊎ Keeps limit step.to file
+station limit K true step file at = inl at
+station limit K false step file (inl at) = inl at
+station limit K false step file (inr at) = inr at
+
+-- what a crash leaves at each moment of it
+pub stays_with : (e : Stand) (s u : Story) (B : Batch) → CountsUp (moments u) → StepsThrough (Keeps e.journal.limit) (kept_in e) (step_for e.journal (kept_in e) B) s u
+    → LeavesOnly s u (λ file. Keeps e.journal.limit (kept_in e) file ⊎ Keeps e.journal.limit (apply B (kept_in e)) file)
+stays_with e s u B up steps =
+    leaves_more s u (IsAtOneOf (Keeps e.journal.limit) (kept_in e) (step_for e.journal (kept_in e) B))
+    (λ file. Keeps e.journal.limit (kept_in e) file ⊎ Keeps e.journal.limit (apply B (kept_in e)) file)
+    (λ file at. station e.journal.limit (kept_in e) (is_empty B) (record { calls = calls_of e.journal; to = apply B (kept_in e) }) file at)
+    (steps_leave (Keeps e.journal.limit) (kept_in e) (step_for e.journal (kept_in e) B) s u up steps)
+
+-- and where no call is made
+pub stays_still : (e : Stand) (s u : Story) (P : List ℕ → Type 0) → IsLoaded e s.now.reads → IsSettled s.now → u ≡ s → ((file : List ℕ) → Keeps e.journal.limit (kept_in e) file → P file) → LeavesOnly s u P
+stays_still e s u P loaded settled same f = leaves_none s u P same (λ file image. f file (kept_leaves e s (kept_on e s loaded settled) file image))
+
+pub stays_kept : (limit : ℕ) (K : SomeKept) (s u : Story) (P : List ℕ → Type 0) → Keeps limit K s.now.reads → IsSettled s.now → u ≡ s → ((file : List ℕ) → Keeps limit K file → P file) → LeavesOnly s u P
+stays_kept limit K s u P keeps settled same f = leaves_none s u P same (λ file image. f file (subst (Keeps limit K) (sym (settled_image s.now file settled image)) keeps))
+
+not_true : (b : Bool) → ¬ (b ≡ true) → b ≡ false
+not_true true never = absurd (never refl)
+not_true false never = refl
+
+-- why a batch wasn't put in
+module _ (e : Stand) (d : OverDisk) (B : Batch) (loaded : d.tells → IsLoaded e d.old.now.reads) where
+  pub not_put : (fault : ApplyFault) → ¬ (is_empty B ≡ true)
+      → ((needed limit : ℕ) → fault ≡ applying.Full needed limit → (needed ≡ needs_for e B) × (limit ≡ e.journal.limit) × (limit < needed) × (d.tells → d.new ≡ d.old))
+      → PutOrNot e.journal.limit d (kept_in e) B (Err (uncommitted_of fault))
+  not_put applying.DiskFault filled full = tt
+  not_put (applying.Full needed limit) filled full =
+      let why = full needed limit refl in
+      record {
+        filled = not_true (is_empty B) filled;
+        needed_is = λ told. needed_in e d.old.now.reads B needed (loaded told) why.0;
+        most_is = why.1;
+        over = subst (λ n. n < needed) why.1 why.2;
+        story = why.3;
+      }
+  not_put applying.NoMemory filled full = tt
+
+pub told_put : (d : OverDisk) (fault : ApplyFault) → (fault ≡ applying.DiskFault → Rose d.failed_before d.failed) → (¬ (fault ≡ applying.DiskFault) → d.failed ≡ d.failed_before) → TellsDisk d (uncommitted_of fault)
+told_put d applying.DiskFault rose same = rose refl
+told_put d (applying.Full needed limit) rose same = same (λ is. cc)
+told_put d applying.NoMemory rose same = same (λ is. cc)

@@ -1,0 +1,107 @@
+-- What a run has found, and what a build has made of it.
+use Rattle.std.specs.Prelude.{ℕ, ◌≡◌, ◌⊎◌, ◌+◌, ◌<◌, ◌≤◌, true, false, List, [], ◌++◌, length, Ok, Err}
+use Rattle.carte_io.specs.Disk.{IsSettled, Moment}
+use Rattle.carte_journal.specs.Frames.{BodyAt, Ends, end_of, reading}
+use Rattle.carte_value.specs.declared.kind.Kind.{Kind}
+use Rattle.carte_book.specs.Book.{Book}
+use Rattle.carte_book.specs.declared.fault.BookFault.{BookFault}
+use Rattle.carte_book.specs.declared.fault.BookFault.TheVariants.{NoMemory as BookNoMemory}
+use Rattle.carte_record.specs.declared.batch.Batch.{Batch}
+use Rattle.carte_record.specs.Bodies.{spelled_batch}
+use Rattle.carte_record.specs.Empty.{is_empty}
+use Rattle.carte_record.specs.Folds.{apply}
+use Rattle.carte_record.specs.Kept.{SomeKept}
+use Rattle.carte_state.specs.Folding.{Keeps}
+use Rattle.carte_words.specs.declared.words.Words.{Words as Asked}
+use Rattle.carte_engine.specs.declared.answer.Answer.{Answer}
+use Rattle.carte_engine.specs.declared.answer.Answer.TheVariants as answer
+use Rattle.carte_engine.specs.declared.answer.Built.{Built}
+use Rattle.carte_engine.specs.Answers.{IsPlan, Under}
+use Rattle.carte_engine.specs.Schedulers.{KeepsBy}
+use Rattle.carte_report.specs.Reply.{reply}
+use Rattle.carte_top.specs.Around.{OverSource, OverDisk, OverSink}
+use Rattle.carte_top.specs.Chosen.{scheduler_of, how_of, BookOfKind}
+
+-- ---- the book
+
+-- the bytes that were read; where the source tells, they are all of it
+abbrev pub WasRead : OverSource → List ℕ → Type 0
+WasRead s bytes = s.tells → (s.old.left ≡ bytes) × (s.new.left ≡ [])
+
+-- or its first ones, one more than a book may have
+abbrev pub WasReadInPart : OverSource → List ℕ → Type 0
+WasReadInPart s bytes = (length bytes ≡ 16777217) × (s.tells → s.old.left ≡ bytes ++ s.new.left)
+
+-- what was read of the book is such a book
+abbrev pub Holds : Kind → OverSource → (Book → Type 0) → Type 0
+Holds kind s P = (bytes : List ℕ) × WasRead s bytes × (b : Book) × BookOfKind kind bytes (Ok b) × P b
+
+abbrev pub HasBook : Kind → OverSource → Type 0
+HasBook kind s = Holds kind s (λ b. Unit {0})
+
+-- it is no book, and this is why
+abbrev pub Refuses : Kind → OverSource → BookFault → Type 0
+Refuses kind s BookNoMemory = ⊥
+Refuses kind s fault = (bytes : List ℕ) × (WasRead s bytes ⊎ WasReadInPart s bytes) × BookOfKind kind bytes (Err fault)
+
+-- ---- the state
+
+-- this is what was found to be kept; where the disk tells, the file keeps it
+abbrev pub Found : ℕ → OverDisk → (SomeKept → Type 0) → Type 0
+Found limit d P = (K : SomeKept) × (d.tells → Keeps limit K d.old.now.reads) × P K
+
+-- all of the disk is synced, and the file keeps this
+pub record EndsWith (limit : ℕ) (K : SomeKept) (m : Moment) : Type 0 where
+  pub settled : IsSettled m
+  pub keeps : Keeps limit K m.reads
+
+-- the file needs so many bytes with the batch
+abbrev pub IsNeeded : ℕ → List ℕ → Batch → ℕ → Type 0
+IsNeeded limit file B needed = (gate : ℕ) (bodies : List BodyAt) → reading limit file ≡ Ends gate bodies → needed ≡ end_of gate (spelled_batch B) + 1
+
+-- there is room for the batch; an empty one takes none
+abbrev pub FitsIn : ℕ → List ℕ → Batch → Type 0
+FitsIn limit file B = (is_empty B ≡ true) ⊎ ((needed : ℕ) → IsNeeded limit file B needed → needed ≤ limit)
+
+-- ---- the build
+
+-- It was put into what was kept. Under a crash at any later moment the file keeps it.
+pub record IsPut (limit : ℕ) (d : OverDisk) (K : SomeKept) (B : Batch) : Type 0 where
+  pub room : d.tells → FitsIn limit d.old.now.reads B
+  pub ends : d.tells → IsSettled d.old.now → EndsWith limit (apply B K) d.new.now
+
+-- a build of the words' targets answers so, rightly, and may commit the batch
+abbrev pub Answers : Asked → Book → SomeKept → Answer → Batch → Type 0
+Answers w b K a B = Under K b (IsPlan (scheduler_of w.scheduler) (how_of w.rebuilder) K b w.targets (record { batch = B; answer = a }))
+
+-- it answered so, and committed its batch
+pub record Commits (limit : ℕ) (w : Asked) (d : OverDisk) (b : Book) (K : SomeKept) (a : Answer) : Type 0 where
+  pub batch : Batch
+  pub answers : Answers w b K a batch
+  pub put : IsPut limit d K batch
+
+-- the text of its reply
+abbrev pub reply_to : Asked → Built → List ℕ
+reply_to w built = reply w.targets built.values w.list built.ran built.given_up built.reused
+
+-- it succeeded, keeps each clean value, and its reply went to the sink
+pub record Replies (limit : ℕ) (w : Asked) (d : OverDisk) (k : OverSink) (Takes : OverSink → List ℕ → Type 0) (b : Book) (K : SomeKept) : Type 0 where
+  pub built : Built
+  pub commits : Commits limit w d b K (answer.Built built)
+  pub keeps : Under K b (KeepsBy (scheduler_of w.scheduler) (how_of w.rebuilder) K (apply commits.batch K) b w.targets)
+  pub takes : k.tells → Takes k (reply_to w built)
+
+-- the batch isn't empty, and the file would need so many bytes with it, which are more than the limit
+pub record IsOver (limit : ℕ) (d : OverDisk) (B : Batch) (needed most : ℕ) : Type 0 where
+  pub filled : is_empty B ≡ false
+  pub needed_is : d.tells → IsNeeded limit d.old.now.reads B needed
+  pub most_is : most ≡ limit
+  pub over : limit < needed
+  pub story : d.tells → d.new ≡ d.old
+
+-- a batch that a build may commit is
+pub record Overfills (limit : ℕ) (w : Asked) (d : OverDisk) (needed most : ℕ) (b : Book) (K : SomeKept) : Type 0 where
+  pub answer : Answer
+  pub batch : Batch
+  pub answers : Answers w b K answer batch
+  pub over : IsOver limit d batch needed most
