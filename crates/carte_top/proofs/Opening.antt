@@ -69,7 +69,7 @@ module _ (limit : ℕ) (o : OverDisk) (m : Story) (f : ℕ) (q : Type 0) (e : o.
   built_from w b K k WriteFault found did = (K, found, replies_from w b K k TakesFront did)
   built_from w b K k DiskFault found did = did
   built_from w b K k (StateFull needed most) found did = ((K, found, overfills_from w b K needed most did.0), did.1)
-  built_from w b K k NoMemory found did = did
+  built_from w b K k NoMemory found did = (did.0, λ told. did.1 told ∙ e told)
   built_from w b K k (BookRefused fault) found did = absurd did
   built_from w b K k (Usage fault) found did = absurd did
   built_from w b K k ReadFault found did = absurd did
@@ -91,7 +91,7 @@ module _ (limit : ℕ) (o : OverDisk) (m : Story) (f : ℕ) (q : Type 0) (e : o.
   cleaned_from K k WriteFault found did = (K, found, clears_from k TakesFront did)
   cleaned_from K k DiskFault found did = did
   cleaned_from K k (StateFull needed most) found did = (did.0, did.1, λ told. did.2 told ∙ e told, did.3)
-  cleaned_from K k NoMemory found did = did
+  cleaned_from K k NoMemory found did = (did.0, λ told. did.1 told ∙ e told)
   cleaned_from K k (BookRefused fault) found did = absurd did
   cleaned_from K k (Usage fault) found did = absurd did
   cleaned_from K k (BuildRefused reason) found did = absurd did
@@ -114,7 +114,7 @@ module _ (limit : ℕ) (d : OverDisk) (k : OverSink) (story : d.tells → d.new 
   unbuilt : (w : Asked) (b : Book) (status : Status) → LoadedOr limit d (Err status) → BuiltOver limit w b d k status × TellsSink k status
   unbuilt w b DiskFault loaded = (untouched, untouched.2)
   unbuilt w b (BadState offset) loaded = ((λ told. (loaded told, story told), untouched), untouched.2)
-  unbuilt w b NoMemory loaded = (untouched, untouched.2)
+  unbuilt w b NoMemory loaded = ((untouched, story), untouched.2)
   unbuilt w b Done loaded = absurd loaded
   unbuilt w b (BookRefused fault) loaded = absurd loaded
   unbuilt w b (Usage fault) loaded = absurd loaded
@@ -129,7 +129,7 @@ module _ (limit : ℕ) (d : OverDisk) (k : OverSink) (story : d.tells → d.new 
   uncleaned : (status : Status) → LoadedOr limit d (Err status) → Cleaned limit d k status × TellsSink k status
   uncleaned DiskFault loaded = (untouched, untouched.2)
   uncleaned (BadState offset) loaded = ((λ told. (loaded told, story told), untouched), untouched.2)
-  uncleaned NoMemory loaded = (untouched, untouched.2)
+  uncleaned NoMemory loaded = ((untouched, story), untouched.2)
   uncleaned Done loaded = absurd loaded
   uncleaned (BookRefused fault) loaded = absurd loaded
   uncleaned (Usage fault) loaded = absurd loaded

@@ -82,9 +82,10 @@ not_true false never = refl
 module _ (e : Stand) (d : OverDisk) (B : Batch) (loaded : d.tells → IsLoaded e d.old.now.reads) where
   pub not_put : (fault : ApplyFault) → ¬ (is_empty B ≡ true)
       → ((needed limit : ℕ) → fault ≡ applying.Full needed limit → (needed ≡ needs_for e B) × (limit ≡ e.journal.limit) × (limit < needed) × (d.tells → d.new ≡ d.old))
+      → (fault ≡ applying.NoMemory → d.tells → d.new ≡ d.old)
       → PutOrNot e.journal.limit d (kept_in e) B (Err (uncommitted_of fault))
-  not_put applying.DiskFault filled full = tt
-  not_put (applying.Full needed limit) filled full =
+  not_put applying.DiskFault filled full spared = tt
+  not_put (applying.Full needed limit) filled full spared =
       let why = full needed limit refl in
       record {
         filled = not_true (is_empty B) filled;
@@ -93,7 +94,7 @@ module _ (e : Stand) (d : OverDisk) (B : Batch) (loaded : d.tells → IsLoaded e
         over = subst (λ n. n < needed) why.1 why.2;
         story = why.3;
       }
-  not_put applying.NoMemory filled full = tt
+  not_put applying.NoMemory filled full spared = spared refl
 
 pub told_put : (d : OverDisk) (fault : ApplyFault) → (fault ≡ applying.DiskFault → Rose d.failed_before d.failed) → (¬ (fault ≡ applying.DiskFault) → d.failed ≡ d.failed_before) → TellsDisk d (uncommitted_of fault)
 told_put d applying.DiskFault rose same = rose refl
