@@ -1,6 +1,5 @@
 -- What a build has done, from its plan and its commit.
-use Rattle.std.proofs.Common.{◌≡◌, ℕ, List, [], ◌∷◌, ◌++◌, Ok, Err, refl, subst, inl, inr, ◌⊎◌}
-use Rattle.carte_io.specs.Disk.{LeavesOnly}
+use Rattle.std.proofs.Common.{◌≡◌, ℕ, List, Err, subst, inl, inr, ◌⊎◌}
 use Rattle.carte_io.proofs.Images.{leaves_more}
 use Rattle.carte_book.specs.Book.{Book}
 use Rattle.carte_record.specs.declared.batch.Batch.{Batch}

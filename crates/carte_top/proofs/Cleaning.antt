@@ -1,5 +1,5 @@
 -- What a clearing has done, from its commit.
-use Rattle.std.proofs.Common.{◌≡◌, ℕ, ◌<◌, List, [], ◌∷◌, ◌++◌, refl, subst, inl, inr, ◌⊎◌}
+use Rattle.std.proofs.Common.{◌≡◌, ℕ, ◌<◌, List, [], ◌∷◌, ◌++◌, refl, inl, inr, ◌⊎◌}
 use Rattle.std.specs.Prelude.{codes}
 use Rattle.carte_io.specs.Disk.{IsSettled}
 use Rattle.carte_io.proofs.Images.{leaves_more}
@@ -14,9 +14,9 @@ use Rattle.carte_report.specs.declared.status.Status.{Status}
 use Rattle.carte_report.specs.declared.status.Status.TheVariants.{Done, BookRefused, Usage, BuildRefused, ReadFault, WriteFault, DiskFault, BadState, StateFull, NoMemory}
 use Rattle.carte_top.specs.Around.{OverDisk, OverSink, IsUntouched}
 use Rattle.carte_top.specs.Found.{EndsWith}
-use Rattle.carte_top.specs.Outcome.{TellsDisk, TellsSink}
+use Rattle.carte_top.specs.Outcome.{TellsDisk}
 use Rattle.carte_top.specs.Sound.{IsStation, MayClean}
-use Rattle.carte_top.specs.Running.{CleanedWith, CleansWith, Prints, StaysOver, StaysWith, uncommitted_of}
+use Rattle.carte_top.specs.Running.{CleansWith, Prints, StaysOver, StaysWith, uncommitted_of}
 use Rattle.carte_top.proofs.Clearing.{clearing_clears}
 
 -- each batch that it may commit leaves nothing

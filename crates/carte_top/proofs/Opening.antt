@@ -1,11 +1,10 @@
 -- From what was loaded to the disk that it was loaded from.
-use Rattle.std.proofs.Common.{◌≡◌, ℕ, List, Ok, Err, refl, sym, ◌∙◌, ap, subst, inl, inr, ◌⊎◌}
+use Rattle.std.proofs.Common.{◌≡◌, ℕ, List, Err, sym, ◌∙◌, subst, inl}
 use Rattle.carte_io.specs.Causes.{Rose}
 use Rattle.carte_io.specs.Disk.{IsSettled, LeavesOnly, Story}
 use Rattle.carte_book.specs.Book.{Book}
 use Rattle.carte_record.specs.declared.batch.Batch.{Batch}
-use Rattle.carte_record.specs.Folds.{apply}
-use Rattle.carte_record.specs.Kept.{SomeKept, nothing_kept}
+use Rattle.carte_record.specs.Kept.{SomeKept}
 use Rattle.carte_state.specs.Folding.{Keeps}
 use Rattle.carte_state.proofs.Folds.{keeps_one}
 use Rattle.carte_words.specs.declared.words.Words.{Words as Asked}
@@ -14,7 +13,7 @@ use Rattle.carte_engine.specs.declared.answer.Answer.TheVariants as answer
 use Rattle.carte_report.specs.declared.status.Status.{Status}
 use Rattle.carte_report.specs.declared.status.Status.TheVariants.{Done, BookRefused, Usage, BuildRefused, ReadFault, WriteFault, DiskFault, BadState, StateFull, NoMemory}
 use Rattle.carte_top.specs.Around.{OverDisk, OverSink, IsUntouched, TakesAll, TakesFront}
-use Rattle.carte_top.specs.Found.{Commits, EndsWith, FitsIn, IsNeeded, IsOver, IsPut, Overfills, Replies}
+use Rattle.carte_top.specs.Found.{Commits, FitsIn, IsNeeded, IsOver, IsPut, Overfills, Replies}
 use Rattle.carte_top.specs.Outcome.{Cleaned, Clears, TellsDisk, TellsSink}
 use Rattle.carte_top.specs.Sound.{IsStation, MayBuild, MayClean, StaysAt}
 use Rattle.carte_top.specs.Running.{BuildsOver, BuildsWith, BuiltOver, BuiltWith, CleanedWith, Cleans, CleansWith, LoadedOr, StaysOver}

@@ -2,7 +2,7 @@
 use Rattle.std.proofs.Common.{◌≡◌, ℕ, true, false, List, Ok, Err, refl, sym, subst, inl, inr, ◌⊎◌}
 use Rattle.carte_words.specs.Words.{words_of, IsCause}
 use Rattle.carte_words.specs.declared.fault.WordsFault.{WordsFault}
-use Rattle.carte_words.specs.declared.fault.WordsFault.TheVariants.{Words, NoTarget, TargetsNotTaken, BadTarget, NoMemory as WordsNoMemory}
+use Rattle.carte_words.specs.declared.fault.WordsFault.TheVariants.{NoMemory as WordsNoMemory}
 use Rattle.carte_words.specs.declared.words.Command.{Command}
 use Rattle.carte_words.specs.declared.words.Command.TheVariants as command
 use Rattle.carte_words.specs.declared.words.Words.{Words as Asked}

@@ -1,11 +1,11 @@
 -- What a commit makes of a disk on which was found what is kept.
-use Rattle.std.proofs.Common.{◌≡◌, ℕ, ◌+◌, ◌<◌, ◌≤◌, Bool, true, false, if◌then◌else◌, List, [], ◌∷◌, Result, Ok, Err, refl, sym, ◌∙◌, ap, subst, arith, inl, inr, ◌⊎◌}
+use Rattle.std.proofs.Common.{◌≡◌, ℕ, ◌+◌, ◌<◌, ◌≤◌, Bool, true, false, if◌then◌else◌, List, [], ◌∷◌, Err, refl, sym, ◌∙◌, ap, subst, inl, inr, ◌⊎◌}
 use Rattle.carte_io.specs.Causes.{Rose}
-use Rattle.carte_io.specs.Disk.{CountsUp, IsImage, IsSettled, LeavesOnly, Story, moments}
+use Rattle.carte_io.specs.Disk.{CountsUp, IsSettled, LeavesOnly, Story, moments}
 use Rattle.carte_io.specs.Stations.{IsAtOneOf, Step, StepsThrough}
 use Rattle.carte_io.proofs.Acknowledged.{steps_leave}
 use Rattle.carte_io.proofs.Images.{leaves_more, leaves_none, settled_image}
-use Rattle.carte_journal.specs.Frames.{BodyAt, Ends, end_of, reading}
+use Rattle.carte_journal.specs.Frames.{Ends, end_of, reading}
 use Rattle.carte_journal.specs.Journals.{calls_of}
 use Rattle.carte_record.specs.Bodies.{spelled_batch}
 use Rattle.carte_record.specs.Empty.{is_empty}
@@ -17,9 +17,8 @@ use Rattle.carte_state.specs.States.{HasRoom, IsKeptOn, IsLoaded, Stand, kept_in
 use Rattle.carte_state.specs.declared.fault.ApplyFault.{ApplyFault}
 use Rattle.carte_state.specs.declared.fault.ApplyFault.TheVariants as applying
 use Rattle.carte_state.proofs.Applies.{kept_leaves}
-use Rattle.carte_report.specs.declared.status.Status.TheVariants.{DiskFault, StateFull, NoMemory}
 use Rattle.carte_top.specs.Around.{OverDisk}
-use Rattle.carte_top.specs.Found.{EndsWith, FitsIn, IsNeeded, IsOver}
+use Rattle.carte_top.specs.Found.{EndsWith, FitsIn, IsNeeded}
 use Rattle.carte_top.specs.Outcome.{TellsDisk}
 use Rattle.carte_top.specs.Running.{PutOrNot, uncommitted_of}
 

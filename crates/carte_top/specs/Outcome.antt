@@ -3,7 +3,7 @@ use Rattle.std.specs.Prelude.{ℕ, ◌≡◌, ◌⊎◌, ◌<◌, List, ◌∷�
 use Rattle.carte_io.specs.Causes.{Rose}
 use Rattle.carte_io.specs.Disk.{IsSettled}
 use Rattle.carte_book.specs.declared.reason.Reason.{Reason}
-use Rattle.carte_record.specs.Kept.{SomeKept, nothing_kept}
+use Rattle.carte_record.specs.Kept.{nothing_kept}
 use Rattle.carte_state.specs.Folding.{IsBadState}
 use Rattle.carte_words.specs.Words.{words_of}
 use Rattle.carte_words.specs.declared.words.Command.{Command}

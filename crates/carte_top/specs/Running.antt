@@ -1,5 +1,5 @@
 -- What the parts of a run have done.
-use Rattle.std.specs.Prelude.{ℕ, ◌≡◌, ◌⊎◌, ◌<◌, ◌≤◌, Bool, true, false, List, ◌++◌, ◌∷◌, [], codes, length, Result, Ok, Err}
+use Rattle.std.specs.Prelude.{ℕ, ◌≡◌, ◌⊎◌, ◌<◌, ◌≤◌, Bool, true, false, List, length, Result, Ok, Err}
 use Rattle.carte_io.specs.Causes.{Rose}
 use Rattle.carte_io.specs.Disk.{IsSettled, LeavesOnly}
 use Rattle.carte_io.specs.Streams.{Reads}
@@ -28,7 +28,7 @@ use Rattle.carte_report.specs.declared.status.Status.{Status}
 use Rattle.carte_report.specs.declared.status.Status.TheVariants.{Done, BookRefused, Usage, BuildRefused, ReadFault, WriteFault, DiskFault, BadState, StateFull, NoMemory}
 use Rattle.carte_top.specs.Around.{OverSource, OverDisk, OverSink, IsUnvisited, IsUntouched, TakesAll, TakesFront}
 use Rattle.carte_top.specs.Chosen.{BookOfKind}
-use Rattle.carte_top.specs.Found.{WasRead, Holds, Refuses, Found, IsPut, IsOver, Commits, Replies, Overfills}
+use Rattle.carte_top.specs.Found.{Holds, Refuses, Found, IsPut, IsOver, Commits, Replies, Overfills}
 use Rattle.carte_top.specs.Outcome.{Asks, IsBad, IsSpared, Built, Clears, Cleaned, Does, Ran, TellsSource, TellsDisk, TellsSink}
 use Rattle.carte_top.specs.Sound.{IsStation, StaysAt, MayBuild, MayClean, KeepsOn}
 

@@ -1,4 +1,4 @@
-use Rattle.std.proofs.Common.{◌≡◌, ℕ, ◌<◌, Err, ap, refl, subst}
+use Rattle.std.proofs.Common.{ℕ, ◌<◌, Err, ap, refl, subst}
 use Rattle.carte_record.specs.Kept.{nothing_kept}
 use Rattle.carte_state.specs.States.{kept_in}
 use Rattle.carte_state.specs.declared.fault.ApplyFault.{ApplyFault}

@@ -1,11 +1,8 @@
-use Rattle.std.proofs.Common.{◌≡◌, ℕ, Ok, Err, ap, subst}
+use Rattle.std.proofs.Common.{Err, ap}
 use Rattle.carte_record.specs.Folds.{apply}
 use Rattle.carte_state.specs.States.{kept_in}
 use Rattle.carte_state.specs.declared.fault.ApplyFault.{ApplyFault}
-use Rattle.carte_report.specs.declared.status.Status.{Status}
 use Rattle.carte_top.specs.Around.{over_disk}
-use Rattle.carte_top.specs.Outcome.{TellsDisk}
-use Rattle.carte_top.specs.Running.{PutOrNot}
 use Rattle.carte_top.proofs.Putting.{ends_with, fits_in, kept_on, not_put, stays_with, told_put}
 use Rattle.carte_top.proofs.commit.commit.Goals as goal
 
