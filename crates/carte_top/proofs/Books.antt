@@ -1,6 +1,5 @@
 -- A book that was read, and a run over it.
-use Rattle.std.proofs.Common.{◌≡◌, ℕ, ◌≤◌, List, [], ◌++◌, length, Result, Ok, Err, refl, sym, ◌∙◌, subst, inl, inr, ◌⊎◌, arith, append-nil}
-use Rattle.carte_io.specs.Streams.{Reads}
+use Rattle.std.proofs.Common.{◌≡◌, ℕ, ◌≤◌, List, ◌++◌, length, Result, Ok, Err, refl, sym, ◌∙◌, subst, inl, inr, arith, append-nil}
 use Rattle.carte_value.specs.declared.kind.Kind.{Kind}
 use Rattle.carte_book.specs.Book.{Book, book_view}
 use Rattle.carte_book.specs.declared.book.Book.{Book as CodeBook}
@@ -10,7 +9,7 @@ use Rattle.carte_words.specs.declared.words.Words.{Words as Asked}
 use Rattle.carte_report.specs.declared.status.Status.{Status}
 use Rattle.carte_report.specs.declared.status.Status.TheVariants.{Done, BookRefused, Usage, BuildRefused, ReadFault, WriteFault, DiskFault, BadState, StateFull, NoMemory}
 use Rattle.carte_engine.specs.declared.answer.Answer.TheVariants as answer
-use Rattle.carte_top.specs.Around.{OverSource, OverDisk, OverSink, TakesAll, TakesFront}
+use Rattle.carte_top.specs.Around.{OverSource, OverDisk, OverSink, IsUnvisited, IsUntouched, TakesAll, TakesFront}
 use Rattle.carte_top.specs.Chosen.{BookOfKind}
 use Rattle.carte_top.specs.Found.{Commits, Found, Holds, Overfills, Refuses, Replies, WasRead}
 use Rattle.carte_top.specs.Outcome.{Built, TellsSource}
@@ -64,3 +63,16 @@ module _ (limit : ℕ) (w : Asked) (s : OverSource) (d : OverDisk) (k : OverSink
   builds status over read same =
       let parts = built_on status over.did same in
       record { did = parts.0; read = read; visits = inr (holds_so w.kind s b holds (λ c. StaysAt limit (MayBuild w c) d) over.stays); source = parts.1; disk = over.disk; sink = over.sink }
+
+-- where there is no book
+pub no_book : (limit : ℕ) (w : Asked) (s : OverSource) (d : OverDisk) (k : OverSink) (status : Status) → LoadsBook w.kind s (Err status) → IsUnvisited d → IsUntouched k → Builds limit w s d k status
+no_book limit w s d k (BookRefused fault) load unvisited untouched = record { did = (load.loads, unvisited, untouched); read = load.read; visits = inl unvisited; source = load.source; disk = unvisited.faults; sink = untouched.2 }
+no_book limit w s d k ReadFault load unvisited untouched = record { did = (unvisited, untouched); read = load.read; visits = inl unvisited; source = load.source; disk = unvisited.faults; sink = untouched.2 }
+no_book limit w s d k NoMemory load unvisited untouched = record { did = (untouched, λ told. unvisited.story); read = load.read; visits = inl unvisited; source = load.source; disk = unvisited.faults; sink = untouched.2 }
+no_book limit w s d k Done load unvisited untouched = absurd load.loads
+no_book limit w s d k (Usage fault) load unvisited untouched = absurd load.loads
+no_book limit w s d k (BuildRefused reason) load unvisited untouched = absurd load.loads
+no_book limit w s d k WriteFault load unvisited untouched = absurd load.loads
+no_book limit w s d k DiskFault load unvisited untouched = absurd load.loads
+no_book limit w s d k (BadState offset) load unvisited untouched = absurd load.loads
+no_book limit w s d k (StateFull needed most) load unvisited untouched = absurd load.loads

@@ -1,6 +1,5 @@
 -- What a build has done, from its plan and its commit.
-use Rattle.std.proofs.Common.{◌≡◌, ℕ, List, [], ◌∷◌, ◌++◌, Ok, Err, refl, subst, inl, inr, ◌⊎◌}
-use Rattle.carte_io.specs.Disk.{LeavesOnly}
+use Rattle.std.proofs.Common.{◌≡◌, ℕ, List, Err, subst, inl, inr, ◌⊎◌}
 use Rattle.carte_io.proofs.Images.{leaves_more}
 use Rattle.carte_book.specs.Book.{Book}
 use Rattle.carte_record.specs.declared.batch.Batch.{Batch}
@@ -46,7 +45,7 @@ module _ (limit : ℕ) (w : Asked) (b : Book) (K : SomeKept) (B : Batch) where
     pub not_built : (d : OverDisk) (k : OverSink) (status : Status) → PutOrNot limit d K B (Err status) → IsUntouched k → BuiltWith limit w b K d k status
     not_built d k DiskFault put untouched = untouched
     not_built d k (StateFull needed most) put untouched = (record { answer = a; batch = B; answers = answers; over = put }, untouched)
-    not_built d k NoMemory put untouched = untouched
+    not_built d k NoMemory put untouched = (untouched, put)
     not_built d k Done put untouched = absurd put
     not_built d k (BookRefused fault) put untouched = absurd put
     not_built d k (Usage fault) put untouched = absurd put

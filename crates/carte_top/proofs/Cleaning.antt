@@ -1,5 +1,5 @@
 -- What a clearing has done, from its commit.
-use Rattle.std.proofs.Common.{◌≡◌, ℕ, ◌<◌, List, [], ◌∷◌, ◌++◌, refl, subst, inl, inr, ◌⊎◌}
+use Rattle.std.proofs.Common.{◌≡◌, ℕ, ◌<◌, List, [], ◌∷◌, ◌++◌, refl, inl, inr, ◌⊎◌}
 use Rattle.std.specs.Prelude.{codes}
 use Rattle.carte_io.specs.Disk.{IsSettled}
 use Rattle.carte_io.proofs.Images.{leaves_more}
@@ -14,9 +14,9 @@ use Rattle.carte_report.specs.declared.status.Status.{Status}
 use Rattle.carte_report.specs.declared.status.Status.TheVariants.{Done, BookRefused, Usage, BuildRefused, ReadFault, WriteFault, DiskFault, BadState, StateFull, NoMemory}
 use Rattle.carte_top.specs.Around.{OverDisk, OverSink, IsUntouched}
 use Rattle.carte_top.specs.Found.{EndsWith}
-use Rattle.carte_top.specs.Outcome.{TellsDisk, TellsSink}
+use Rattle.carte_top.specs.Outcome.{TellsDisk}
 use Rattle.carte_top.specs.Sound.{IsStation, MayClean}
-use Rattle.carte_top.specs.Running.{CleanedWith, CleansWith, Prints, StaysOver, StaysWith, uncommitted_of}
+use Rattle.carte_top.specs.Running.{CleansWith, Prints, StaysOver, StaysWith, uncommitted_of}
 use Rattle.carte_top.proofs.Clearing.{clearing_clears}
 
 -- each batch that it may commit leaves nothing
@@ -42,8 +42,8 @@ module _ (limit : ℕ) (K : SomeKept) (d : OverDisk) (k : OverSink) (stays : Sta
   clears (StateFull needed most) ends same prints = absurd prints
   clears NoMemory ends same prints = absurd prints
 
-  pub clears_not : (fault : ApplyFault) → ((needed most : ℕ) → fault ≡ applying.Full needed most → (limit < needed) × (most ≡ limit) × (d.tells → d.new ≡ d.old)) → TellsDisk d (uncommitted_of fault) → IsUntouched k
+  pub clears_not : (fault : ApplyFault) → ((needed most : ℕ) → fault ≡ applying.Full needed most → (limit < needed) × (most ≡ limit) × (d.tells → d.new ≡ d.old)) → (fault ≡ applying.NoMemory → d.tells → d.new ≡ d.old) → TellsDisk d (uncommitted_of fault) → IsUntouched k
       → CleansWith limit K d k (uncommitted_of fault)
-  clears_not applying.DiskFault full told untouched = record { did = untouched; stays = stays; disk = told; sink = untouched.2 }
-  clears_not (applying.Full needed most) full told untouched = let why = full needed most refl in record { did = (why.0, why.1, why.2, untouched); stays = stays; disk = told; sink = untouched.2 }
-  clears_not applying.NoMemory full told untouched = record { did = untouched; stays = stays; disk = told; sink = untouched.2 }
+  clears_not applying.DiskFault full spared told untouched = record { did = untouched; stays = stays; disk = told; sink = untouched.2 }
+  clears_not (applying.Full needed most) full spared told untouched = let why = full needed most refl in record { did = (why.0, why.1, why.2, untouched); stays = stays; disk = told; sink = untouched.2 }
+  clears_not applying.NoMemory full spared told untouched = record { did = (untouched, spared refl); stays = stays; disk = told; sink = untouched.2 }

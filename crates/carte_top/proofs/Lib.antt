@@ -7,3 +7,4 @@ pub mod Opening
 pub mod Books
 pub mod Sounds
 pub mod Outcomes
+pub mod HistoryRuns

@@ -1,11 +1,10 @@
 -- From what was loaded to the disk that it was loaded from.
-use Rattle.std.proofs.Common.{◌≡◌, ℕ, List, Ok, Err, refl, sym, ◌∙◌, ap, subst, inl, inr, ◌⊎◌}
+use Rattle.std.proofs.Common.{◌≡◌, ℕ, List, Err, sym, ◌∙◌, subst, inl}
 use Rattle.carte_io.specs.Causes.{Rose}
 use Rattle.carte_io.specs.Disk.{IsSettled, LeavesOnly, Story}
 use Rattle.carte_book.specs.Book.{Book}
 use Rattle.carte_record.specs.declared.batch.Batch.{Batch}
-use Rattle.carte_record.specs.Folds.{apply}
-use Rattle.carte_record.specs.Kept.{SomeKept, nothing_kept}
+use Rattle.carte_record.specs.Kept.{SomeKept}
 use Rattle.carte_state.specs.Folding.{Keeps}
 use Rattle.carte_state.proofs.Folds.{keeps_one}
 use Rattle.carte_words.specs.declared.words.Words.{Words as Asked}
@@ -14,7 +13,7 @@ use Rattle.carte_engine.specs.declared.answer.Answer.TheVariants as answer
 use Rattle.carte_report.specs.declared.status.Status.{Status}
 use Rattle.carte_report.specs.declared.status.Status.TheVariants.{Done, BookRefused, Usage, BuildRefused, ReadFault, WriteFault, DiskFault, BadState, StateFull, NoMemory}
 use Rattle.carte_top.specs.Around.{OverDisk, OverSink, IsUntouched, TakesAll, TakesFront}
-use Rattle.carte_top.specs.Found.{Commits, EndsWith, FitsIn, IsNeeded, IsOver, IsPut, Overfills, Replies}
+use Rattle.carte_top.specs.Found.{Commits, FitsIn, IsNeeded, IsOver, IsPut, Overfills, Replies}
 use Rattle.carte_top.specs.Outcome.{Cleaned, Clears, TellsDisk, TellsSink}
 use Rattle.carte_top.specs.Sound.{IsStation, MayBuild, MayClean, StaysAt}
 use Rattle.carte_top.specs.Running.{BuildsOver, BuildsWith, BuiltOver, BuiltWith, CleanedWith, Cleans, CleansWith, LoadedOr, StaysOver}
@@ -69,7 +68,7 @@ module _ (limit : ℕ) (o : OverDisk) (m : Story) (f : ℕ) (q : Type 0) (e : o.
   built_from w b K k WriteFault found did = (K, found, replies_from w b K k TakesFront did)
   built_from w b K k DiskFault found did = did
   built_from w b K k (StateFull needed most) found did = ((K, found, overfills_from w b K needed most did.0), did.1)
-  built_from w b K k NoMemory found did = did
+  built_from w b K k NoMemory found did = (did.0, λ told. did.1 told ∙ e told)
   built_from w b K k (BookRefused fault) found did = absurd did
   built_from w b K k (Usage fault) found did = absurd did
   built_from w b K k ReadFault found did = absurd did
@@ -91,7 +90,7 @@ module _ (limit : ℕ) (o : OverDisk) (m : Story) (f : ℕ) (q : Type 0) (e : o.
   cleaned_from K k WriteFault found did = (K, found, clears_from k TakesFront did)
   cleaned_from K k DiskFault found did = did
   cleaned_from K k (StateFull needed most) found did = (did.0, did.1, λ told. did.2 told ∙ e told, did.3)
-  cleaned_from K k NoMemory found did = did
+  cleaned_from K k NoMemory found did = (did.0, λ told. did.1 told ∙ e told)
   cleaned_from K k (BookRefused fault) found did = absurd did
   cleaned_from K k (Usage fault) found did = absurd did
   cleaned_from K k (BuildRefused reason) found did = absurd did
@@ -114,7 +113,7 @@ module _ (limit : ℕ) (d : OverDisk) (k : OverSink) (story : d.tells → d.new 
   unbuilt : (w : Asked) (b : Book) (status : Status) → LoadedOr limit d (Err status) → BuiltOver limit w b d k status × TellsSink k status
   unbuilt w b DiskFault loaded = (untouched, untouched.2)
   unbuilt w b (BadState offset) loaded = ((λ told. (loaded told, story told), untouched), untouched.2)
-  unbuilt w b NoMemory loaded = (untouched, untouched.2)
+  unbuilt w b NoMemory loaded = ((untouched, story), untouched.2)
   unbuilt w b Done loaded = absurd loaded
   unbuilt w b (BookRefused fault) loaded = absurd loaded
   unbuilt w b (Usage fault) loaded = absurd loaded
@@ -129,7 +128,7 @@ module _ (limit : ℕ) (d : OverDisk) (k : OverSink) (story : d.tells → d.new 
   uncleaned : (status : Status) → LoadedOr limit d (Err status) → Cleaned limit d k status × TellsSink k status
   uncleaned DiskFault loaded = (untouched, untouched.2)
   uncleaned (BadState offset) loaded = ((λ told. (loaded told, story told), untouched), untouched.2)
-  uncleaned NoMemory loaded = (untouched, untouched.2)
+  uncleaned NoMemory loaded = ((untouched, story), untouched.2)
   uncleaned Done loaded = absurd loaded
   uncleaned (BookRefused fault) loaded = absurd loaded
   uncleaned (Usage fault) loaded = absurd loaded

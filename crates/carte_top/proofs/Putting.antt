@@ -1,11 +1,11 @@
 -- What a commit makes of a disk on which was found what is kept.
-use Rattle.std.proofs.Common.{◌≡◌, ℕ, ◌+◌, ◌<◌, ◌≤◌, Bool, true, false, if◌then◌else◌, List, [], ◌∷◌, Result, Ok, Err, refl, sym, ◌∙◌, ap, subst, arith, inl, inr, ◌⊎◌}
+use Rattle.std.proofs.Common.{◌≡◌, ℕ, ◌+◌, ◌<◌, ◌≤◌, Bool, true, false, if◌then◌else◌, List, [], ◌∷◌, Err, refl, sym, ◌∙◌, ap, subst, inl, inr, ◌⊎◌}
 use Rattle.carte_io.specs.Causes.{Rose}
-use Rattle.carte_io.specs.Disk.{CountsUp, IsImage, IsSettled, LeavesOnly, Story, moments}
+use Rattle.carte_io.specs.Disk.{CountsUp, IsSettled, LeavesOnly, Story, moments}
 use Rattle.carte_io.specs.Stations.{IsAtOneOf, Step, StepsThrough}
 use Rattle.carte_io.proofs.Acknowledged.{steps_leave}
 use Rattle.carte_io.proofs.Images.{leaves_more, leaves_none, settled_image}
-use Rattle.carte_journal.specs.Frames.{BodyAt, Ends, end_of, reading}
+use Rattle.carte_journal.specs.Frames.{Ends, end_of, reading}
 use Rattle.carte_journal.specs.Journals.{calls_of}
 use Rattle.carte_record.specs.Bodies.{spelled_batch}
 use Rattle.carte_record.specs.Empty.{is_empty}
@@ -17,9 +17,8 @@ use Rattle.carte_state.specs.States.{HasRoom, IsKeptOn, IsLoaded, Stand, kept_in
 use Rattle.carte_state.specs.declared.fault.ApplyFault.{ApplyFault}
 use Rattle.carte_state.specs.declared.fault.ApplyFault.TheVariants as applying
 use Rattle.carte_state.proofs.Applies.{kept_leaves}
-use Rattle.carte_report.specs.declared.status.Status.TheVariants.{DiskFault, StateFull, NoMemory}
 use Rattle.carte_top.specs.Around.{OverDisk}
-use Rattle.carte_top.specs.Found.{EndsWith, FitsIn, IsNeeded, IsOver}
+use Rattle.carte_top.specs.Found.{EndsWith, FitsIn, IsNeeded}
 use Rattle.carte_top.specs.Outcome.{TellsDisk}
 use Rattle.carte_top.specs.Running.{PutOrNot, uncommitted_of}
 
@@ -82,9 +81,10 @@ not_true false never = refl
 module _ (e : Stand) (d : OverDisk) (B : Batch) (loaded : d.tells → IsLoaded e d.old.now.reads) where
   pub not_put : (fault : ApplyFault) → ¬ (is_empty B ≡ true)
       → ((needed limit : ℕ) → fault ≡ applying.Full needed limit → (needed ≡ needs_for e B) × (limit ≡ e.journal.limit) × (limit < needed) × (d.tells → d.new ≡ d.old))
+      → (fault ≡ applying.NoMemory → d.tells → d.new ≡ d.old)
       → PutOrNot e.journal.limit d (kept_in e) B (Err (uncommitted_of fault))
-  not_put applying.DiskFault filled full = tt
-  not_put (applying.Full needed limit) filled full =
+  not_put applying.DiskFault filled full spared = tt
+  not_put (applying.Full needed limit) filled full spared =
       let why = full needed limit refl in
       record {
         filled = not_true (is_empty B) filled;
@@ -93,7 +93,7 @@ module _ (e : Stand) (d : OverDisk) (B : Batch) (loaded : d.tells → IsLoaded e
         over = subst (λ n. n < needed) why.1 why.2;
         story = why.3;
       }
-  not_put applying.NoMemory filled full = tt
+  not_put applying.NoMemory filled full spared = spared refl
 
 pub told_put : (d : OverDisk) (fault : ApplyFault) → (fault ≡ applying.DiskFault → Rose d.failed_before d.failed) → (¬ (fault ≡ applying.DiskFault) → d.failed ≡ d.failed_before) → TellsDisk d (uncommitted_of fault)
 told_put d applying.DiskFault rose same = rose refl

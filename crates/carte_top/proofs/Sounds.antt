@@ -1,21 +1,16 @@
 -- Whatever the status, and wherever a crash cuts a run off, the state stays sound.
-use Rattle.std.proofs.Common.{◌≡◌, ℕ, List, [], ◌∷◌, ◌++◌, refl, sym, subst, inl, inr, ◌⊎◌}
-use Rattle.carte_io.specs.Disk.{IsSettled}
+use Rattle.std.proofs.Common.{ℕ, List, [], ◌∷◌, ◌++◌, refl, sym, subst, inl, inr}
 use Rattle.carte_io.proofs.Images.{leaves_more}
 use Rattle.carte_book.specs.Book.{Book}
-use Rattle.carte_record.specs.declared.batch.Batch.{Batch}
 use Rattle.carte_record.specs.Folds.{apply}
-use Rattle.carte_record.specs.Kept.{SomeKept, nothing_kept}
-use Rattle.carte_sound.specs.Base.{HasDistinctDigests}
+use Rattle.carte_record.specs.Kept.{SomeKept}
 use Rattle.carte_sound.specs.Sound.{IsSound}
 use Rattle.carte_sound.proofs.Begins.{behind_sound}
 use Rattle.carte_sound.proofs.Histories.{nothing_sound}
-use Rattle.carte_state.specs.Folding.{Keeps}
 use Rattle.carte_words.specs.declared.words.Words.{Words as Asked}
 use Rattle.carte_top.specs.Around.{OverSource, OverDisk, IsUnvisited}
 use Rattle.carte_top.specs.Chosen.{scheduler_of, how_of}
-use Rattle.carte_top.specs.Outcome.{Asks}
-use Rattle.carte_top.specs.Sound.{IsSoundRun, IsStation, KeepsOn, KeepsSound, MayBuild, MayClean, StaysAt, StaysSound, Visits}
+use Rattle.carte_top.specs.Sound.{IsSoundRun, IsStation, KeepsSound, MayBuild, MayClean, StaysAt, StaysSound, Visits}
 use Rattle.carte_top.proofs.Keeping.{lead_sound}
 use Rattle.carte_top.proofs.Putting.{stays_kept}
 

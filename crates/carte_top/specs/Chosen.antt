@@ -8,7 +8,6 @@ use Rattle.carte_record.specs.declared.way.Way.TheVariants.{Verifying, Construct
 use Rattle.carte_rules.specs.Reading.{BookOf as RulesOf}
 use Rattle.carte_sheet.specs.Reading.{BookOf as SheetOf}
 use Rattle.carte_sound.specs.Held.{How, dirty, tracing}
-use Rattle.carte_words.specs.declared.words.Words.{Words}
 use Rattle.carte_words.specs.declared.words.Scheduler4.{Scheduler4}
 use Rattle.carte_words.specs.declared.words.Scheduler4.TheVariants as word
 use Rattle.carte_words.specs.declared.words.Rebuilder4.{Rebuilder4}

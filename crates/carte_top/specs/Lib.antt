@@ -5,3 +5,4 @@ pub mod Outcome
 pub mod Sound
 pub mod Whole
 pub mod Running
+pub mod Histories

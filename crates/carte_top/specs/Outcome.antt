@@ -2,7 +2,8 @@
 use Rattle.std.specs.Prelude.{ℕ, ◌≡◌, ◌⊎◌, ◌<◌, List, ◌∷◌, [], ◌++◌, codes, Ok, Err}
 use Rattle.carte_io.specs.Causes.{Rose}
 use Rattle.carte_io.specs.Disk.{IsSettled}
-use Rattle.carte_record.specs.Kept.{SomeKept, nothing_kept}
+use Rattle.carte_book.specs.declared.reason.Reason.{Reason}
+use Rattle.carte_record.specs.Kept.{nothing_kept}
 use Rattle.carte_state.specs.Folding.{IsBadState}
 use Rattle.carte_words.specs.Words.{words_of}
 use Rattle.carte_words.specs.declared.words.Command.{Command}
@@ -23,6 +24,10 @@ Asks words P = (w : Asked) × (words_of words ≡ Ok w) × P w
 abbrev pub IsBad : ℕ → OverDisk → ℕ → Type 0
 IsBad limit d offset = d.tells → IsBadState limit d.old.now.reads offset × (d.new ≡ d.old)
 
+-- nothing was committed
+abbrev pub IsSpared : OverDisk → Type 0
+IsSpared d = d.tells → d.new ≡ d.old
+
 -- what a build has done
 abbrev pub Built : ℕ → Asked → OverSource → OverDisk → OverSink → Status → Type 0
 Built limit w s d k Done = Holds w.kind s (λ b. Found limit d (Replies limit w d k TakesAll b))
@@ -34,7 +39,7 @@ Built limit w s d k WriteFault = Holds w.kind s (λ b. Found limit d (Replies li
 Built limit w s d k DiskFault = HasBook w.kind s × IsUntouched k
 Built limit w s d k (BadState offset) = HasBook w.kind s × IsBad limit d offset × IsUntouched k
 Built limit w s d k (StateFull needed most) = Holds w.kind s (λ b. Found limit d (Overfills limit w d needed most b)) × IsUntouched k
-Built limit w s d k NoMemory = IsUntouched k
+Built limit w s d k NoMemory = IsUntouched k × IsSpared d
 
 -- nothing is kept any more, and that was said
 abbrev pub Clears : ℕ → OverDisk → OverSink → (OverSink → List ℕ → Type 0) → Type 0
@@ -47,17 +52,21 @@ Cleaned limit d k WriteFault = Found limit d (λ K. Clears limit d k TakesFront)
 Cleaned limit d k DiskFault = IsUntouched k
 Cleaned limit d k (BadState offset) = IsBad limit d offset × IsUntouched k
 Cleaned limit d k (StateFull needed most) = (limit < needed) × (most ≡ limit) × (d.tells → d.new ≡ d.old) × IsUntouched k
-Cleaned limit d k NoMemory = IsUntouched k
+Cleaned limit d k NoMemory = IsUntouched k × IsSpared d
 Cleaned limit d k _ = ⊥
 
 abbrev pub Does : Command → ℕ → Asked → OverSource → OverDisk → OverSink → Status → Type 0
 Does command.Build limit w s d k status = Built limit w s d k status
 Does command.Clean limit w s d k status = IsUnread s × Cleaned limit d k status
 
--- first the words are read: what holds but for the error line
+-- a build was refused, and what it had finished was committed
+abbrev pub KeepsRefused : ℕ → OverSource → OverDisk → Asked → Type 0
+KeepsRefused limit s d w = (w.command ≡ command.Build) × Holds w.kind s (λ b. Found limit d (λ K. (reason : Reason) × Commits limit w d b K (answer.Refused reason)))
+
+-- First the words are read: what holds but for the error line. Behind a commit memory is wanted for that line alone.
 abbrev pub Ran : ℕ → List (List ℕ) → OverSource → OverDisk → OverSink → Status → Type 0
 Ran limit words s d k (Usage fault) = (words_of words ≡ Err fault) × IsUnread s × IsUnvisited d × IsUntouched k
-Ran limit words s d k NoMemory = IsUntouched k
+Ran limit words s d k NoMemory = IsUntouched k × (IsSpared d ⊎ Asks words (KeepsRefused limit s d))
 Ran limit words s d k status = Asks words (λ w. Does w.command limit w s d k status)
 
 -- and the error line

@@ -1,5 +1,5 @@
 -- What the parts of a run have done.
-use Rattle.std.specs.Prelude.{ℕ, ◌≡◌, ◌⊎◌, ◌<◌, ◌≤◌, Bool, true, false, List, ◌++◌, ◌∷◌, [], codes, length, Result, Ok, Err}
+use Rattle.std.specs.Prelude.{ℕ, ◌≡◌, ◌⊎◌, ◌<◌, ◌≤◌, Bool, true, false, List, length, Result, Ok, Err}
 use Rattle.carte_io.specs.Causes.{Rose}
 use Rattle.carte_io.specs.Disk.{IsSettled, LeavesOnly}
 use Rattle.carte_io.specs.Streams.{Reads}
@@ -28,8 +28,8 @@ use Rattle.carte_report.specs.declared.status.Status.{Status}
 use Rattle.carte_report.specs.declared.status.Status.TheVariants.{Done, BookRefused, Usage, BuildRefused, ReadFault, WriteFault, DiskFault, BadState, StateFull, NoMemory}
 use Rattle.carte_top.specs.Around.{OverSource, OverDisk, OverSink, IsUnvisited, IsUntouched, TakesAll, TakesFront}
 use Rattle.carte_top.specs.Chosen.{BookOfKind}
-use Rattle.carte_top.specs.Found.{WasRead, Holds, Refuses, Found, IsPut, IsOver, Commits, Replies, Overfills}
-use Rattle.carte_top.specs.Outcome.{Asks, IsBad, Built, Clears, Cleaned, Does, Ran, TellsSource, TellsDisk, TellsSink}
+use Rattle.carte_top.specs.Found.{Holds, Refuses, Found, IsPut, IsOver, Commits, Replies, Overfills}
+use Rattle.carte_top.specs.Outcome.{Asks, IsBad, IsSpared, Built, Clears, Cleaned, Does, Ran, TellsSource, TellsDisk, TellsSink}
 use Rattle.carte_top.specs.Sound.{IsStation, StaysAt, MayBuild, MayClean, KeepsOn}
 
 -- ---- the book
@@ -92,7 +92,7 @@ abbrev pub PutOrNot : ℕ → OverDisk → SomeKept → Batch → Result (Unit {
 PutOrNot limit d K B (Ok u) = IsPut limit d K B
 PutOrNot limit d K B (Err DiskFault) = Unit {0}
 PutOrNot limit d K B (Err (StateFull needed most)) = IsOver limit d B needed most
-PutOrNot limit d K B (Err NoMemory) = Unit {0}
+PutOrNot limit d K B (Err NoMemory) = IsSpared d
 PutOrNot limit d K B (Err status) = ⊥
 
 abbrev pub TellsPut : OverDisk → Result (Unit {0}) Status → Type 0
@@ -123,7 +123,7 @@ Settled limit text K B d k Done = IsPut limit d K B × (k.tells → TakesAll k t
 Settled limit text K B d k WriteFault = IsPut limit d K B × (k.tells → TakesFront k text)
 Settled limit text K B d k DiskFault = IsUntouched k
 Settled limit text K B d k (StateFull needed most) = IsOver limit d B needed most × IsUntouched k
-Settled limit text K B d k NoMemory = IsUntouched k
+Settled limit text K B d k NoMemory = IsUntouched k × IsSpared d
 Settled limit text K B d k status = ⊥
 
 abbrev pub Settles : ℕ → List ℕ → SomeKept → Batch → OverDisk → OverSink → Status → Type 0
@@ -140,7 +140,7 @@ BuiltWith limit w b K d k (BuildRefused reason) = Commits limit w d b K (answer.
 BuiltWith limit w b K d k WriteFault = Replies limit w d k TakesFront b K
 BuiltWith limit w b K d k DiskFault = IsUntouched k
 BuiltWith limit w b K d k (StateFull needed most) = Overfills limit w d needed most b K × IsUntouched k
-BuiltWith limit w b K d k NoMemory = IsUntouched k
+BuiltWith limit w b K d k NoMemory = IsUntouched k × IsSpared d
 BuiltWith limit w b K d k status = ⊥
 
 abbrev pub BuildsWith : ℕ → Asked → Book → SomeKept → OverDisk → OverSink → Status → Type 0
@@ -154,7 +154,7 @@ BuiltOver limit w b d k WriteFault = Found limit d (Replies limit w d k TakesFro
 BuiltOver limit w b d k DiskFault = IsUntouched k
 BuiltOver limit w b d k (BadState offset) = IsBad limit d offset × IsUntouched k
 BuiltOver limit w b d k (StateFull needed most) = Found limit d (Overfills limit w d needed most b) × IsUntouched k
-BuiltOver limit w b d k NoMemory = IsUntouched k
+BuiltOver limit w b d k NoMemory = IsUntouched k × IsSpared d
 BuiltOver limit w b d k status = ⊥
 
 abbrev pub BuildsOver : ℕ → Asked → Book → OverDisk → OverSink → Status → Type 0
@@ -166,7 +166,7 @@ CleanedWith limit d k Done = Clears limit d k TakesAll
 CleanedWith limit d k WriteFault = Clears limit d k TakesFront
 CleanedWith limit d k DiskFault = IsUntouched k
 CleanedWith limit d k (StateFull needed most) = (limit < needed) × (most ≡ limit) × (d.tells → d.new ≡ d.old) × IsUntouched k
-CleanedWith limit d k NoMemory = IsUntouched k
+CleanedWith limit d k NoMemory = IsUntouched k × IsSpared d
 CleanedWith limit d k status = ⊥
 
 abbrev pub CleansWith : ℕ → SomeKept → OverDisk → OverSink → Status → Type 0

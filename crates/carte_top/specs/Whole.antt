@@ -1,5 +1,5 @@
 -- All that a run has done: the theorem of the program.
-use Rattle.std.specs.Prelude.{ℕ, ◌+◌, ◌≤◌, length}
+use Rattle.std.specs.Prelude.{ℕ, ◌≤◌, length}
 use Rattle.carte_io.specs.Streams.{Reads}
 use Rattle.carte_report.specs.declared.status.Status.{Status}
 use Rattle.carte_top.specs.Around.{Around}

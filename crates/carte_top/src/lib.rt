@@ -25,6 +25,7 @@ mod clean;
 mod commit;
 #[cfg(test)]
 mod device_tests;
+mod laws;
 mod say;
 #[cfg(test)]
 mod test_runs;
@@ -34,5 +35,6 @@ mod top;
 
 pub use carte_report::Status;
 pub use carte_words::{Command, Word, Words, WordsFault, read_words};
+pub use laws::whole_histories;
 pub use say::out_of_memory;
 pub use top::carte;

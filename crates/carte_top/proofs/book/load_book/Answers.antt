@@ -1,4 +1,4 @@
-use Rattle.std.proofs.Common.{◌≡◌, ℕ, ◌≤◌, length, ◌∙◌, sym, arith}
+use Rattle.std.proofs.Common.{◌∙◌, sym, arith}
 use Rattle.carte_top.specs.Around.{over_source}
 use Rattle.carte_top.proofs.Books.{loads_book}
 use Rattle.carte_top.proofs.book.load_book.Goals as goal

@@ -13,7 +13,7 @@ returns-in-Err g c =
     let e = c.args.engine.now in
     let s = g.D.Disk.story c.args.state.now in
     record {
-      did = (refl, refl, refl);
+      did = ((refl, refl, refl), λ told. refl);
       stays = λ told settled. stays_still e s s (IsStation e.journal.limit (MayBuild c.args.asked.now (book_view c.args.book.now)) (kept_in e)) (c.requires.loaded told) settled refl (λ file keeps. inl keeps);
       disk = refl;
       sink = refl;

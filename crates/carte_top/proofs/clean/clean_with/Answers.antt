@@ -1,4 +1,4 @@
-use Rattle.std.proofs.Common.{◌≡◌, ℕ, ◌<◌, Err, ap, refl, subst}
+use Rattle.std.proofs.Common.{ℕ, ◌<◌, Err, ap, refl, subst}
 use Rattle.carte_record.specs.Kept.{nothing_kept}
 use Rattle.carte_state.specs.States.{kept_in}
 use Rattle.carte_state.specs.declared.fault.ApplyFault.{ApplyFault}
@@ -32,5 +32,6 @@ returns-in-Err g c =
     (stays_clear e d (λ told settled. stays_with e s u (clearing e) (g.met.D.Disk.in_order c.clean.new.disk told) (c.clean.ensures.any_moment told (kept_on e s (c.requires.loaded told) settled))))
     c.in-Err.fault
     (λ needed most is. let full = c.in-Err.ensures.full needed most (ap (λ (x : ApplyFault). Err x) is) in (subst (λ (n : ℕ). n < needed) full.1 full.2, full.1, λ told. ap g.D.Disk.story full.4))
+    (λ is told. ap g.D.Disk.story (c.in-Err.ensures.no_memory (ap (λ (x : ApplyFault). Err x) is)).1)
     (told_put d c.in-Err.fault (λ is. c.in-Err.ensures.cause.failed (ap (λ (x : ApplyFault). Err x) is)) (λ other. c.in-Err.ensures.cause.passed (λ is. other (cc))))
     (refl, refl, refl))

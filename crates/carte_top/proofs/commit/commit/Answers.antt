@@ -1,11 +1,8 @@
-use Rattle.std.proofs.Common.{◌≡◌, ℕ, Ok, Err, ap, subst}
+use Rattle.std.proofs.Common.{Err, ap}
 use Rattle.carte_record.specs.Folds.{apply}
 use Rattle.carte_state.specs.States.{kept_in}
 use Rattle.carte_state.specs.declared.fault.ApplyFault.{ApplyFault}
-use Rattle.carte_report.specs.declared.status.Status.{Status}
 use Rattle.carte_top.specs.Around.{over_disk}
-use Rattle.carte_top.specs.Outcome.{TellsDisk}
-use Rattle.carte_top.specs.Running.{PutOrNot}
 use Rattle.carte_top.proofs.Putting.{ends_with, fits_in, kept_on, not_put, stays_with, told_put}
 use Rattle.carte_top.proofs.commit.commit.Goals as goal
 
@@ -31,8 +28,9 @@ returns-in-Err g c =
     let u = g.D.Disk.story c.commit.new.disk in
     let d = over_disk g.D.Disk.tells g.D.Disk.story g.D.Disk.faults c.args.state.now c.commit.new.disk in
     let put = not_put e d c.args.batch.now c.requires.loaded c.in-Err.fault
-        (λ is. let bad = (c.in-Err.ensures.empty is).0 in cc)
-        (λ needed limit is. let full = c.in-Err.ensures.full needed limit (ap (λ (x : ApplyFault). Err x) is) in (full.0, full.1, full.2, λ told. ap g.D.Disk.story full.4)) in
+    (λ is. let bad = (c.in-Err.ensures.empty is).0 in cc)
+    (λ needed limit is. let full = c.in-Err.ensures.full needed limit (ap (λ (x : ApplyFault). Err x) is) in (full.0, full.1, full.2, λ told. ap g.D.Disk.story full.4))
+    (λ is told. ap g.D.Disk.story (c.in-Err.ensures.no_memory (ap (λ (x : ApplyFault). Err x) is)).1) in
     let told = told_put d c.in-Err.fault (λ is. c.in-Err.ensures.cause.failed (ap (λ (x : ApplyFault). Err x) is)) (λ other. c.in-Err.ensures.cause.passed (λ is. other (cc))) in
     rw c.uncommitted.ensures (record {
       put = put;
