@@ -1,0 +1,13 @@
+//! The loop of a session.
+#![tactic(auto)]
+
+mod end;
+mod laws;
+mod lines;
+mod machine;
+mod run;
+
+pub use end::{SessionEnd, StepEnd};
+pub use laws::{all_lines, lines_front, next_of, one_cut};
+pub use machine::Machine;
+pub use run::run_session;
