@@ -1,5 +1,8 @@
 // Laws of lines and of sessions, each as the contract of a function that does nothing.
-ghost use Rattle.carte_session.specs.Laws.{AllLines, LinesFront, NextOf, OneCut};
+ghost use Rattle.carte_session.specs.Laws.{AllLines, DoneLines, LinesFront, NextOf, OneCut, TooLongIsLonger};
+
+use crate::Machine;
+use carte_io::{Sink, Source};
 
 /// Bytes are cut into lines in one way.
 pub fn one_cut()
@@ -19,4 +22,14 @@ pub fn lines_front()
 /// The next line of what was read is the next one of the whole script.
 pub fn next_of()
     ensures { NextOf }
+{}
+
+/// A script that is too long has more bytes than the limit.
+pub fn too_long<S: Source, D, M: Machine<D>, O: Sink>()
+    ensures { TooLongIsLonger M.answers M.ends S.tells O.tells }
+{}
+
+/// A script that was done is within the limit, and each of its lines was carried out and answered.
+pub fn done_lines<S: Source, D, M: Machine<D>, O: Sink>()
+    ensures { DoneLines M.answers M.ends S.tells O.tells }
 {}

@@ -106,17 +106,11 @@ impl Lines {
                     read 1 (Unit {0}) end) }
         ensures cause { HasCauseOf SessionEnd.WriteFault (O.state out.old).faults (O.state out.new).faults result }
     {
-        if self.rest.is_empty() {
+        let line = self.rest.as_slice();
+        if line.is_empty() {
             return Ok(());
         }
-        carry_out(
-            alloc,
-            self.count + 1,
-            self.rest.as_slice(),
-            machine,
-            disk,
-            out,
-        )
+        carry_out(alloc, self.count + 1, line, machine, disk, out)
     }
 }
 
