@@ -128,3 +128,14 @@ next_on_by read more line lines most most' AtEnd fits (inr w) = absurd w.2
 pub next_on : (read more line : List ℕ) (lines : List (List ℕ)) (most most' : ℕ) (AtEnd : Type 0) → length more + most ≤ most'
     → IsNext read lines line most ⊥ → IsNext (read ++ more) lines line most' AtEnd
 next_on read more line lines most most' AtEnd fits next = (next.0, next.1, next_on_by read more line lines most most' AtEnd fits next.2)
+
+next_weaker_by : (read line : List ℕ) (lines : List (List ℕ)) (most most' : ℕ) (AtEnd AtEnd' : Type 0) → most ≤ most' → (AtEnd → AtEnd')
+    → ((rest : List ℕ) × (read ≡ spelled lines ++ (line ++ 10 ∷ rest)) × (length rest < most)) ⊎ ((read ≡ spelled lines ++ line) × (line ≢ []) × AtEnd)
+    → ((rest : List ℕ) × (read ≡ spelled lines ++ (line ++ 10 ∷ rest)) × (length rest < most')) ⊎ ((read ≡ spelled lines ++ line) × (line ≢ []) × AtEnd')
+next_weaker_by read line lines most most' AtEnd AtEnd' fits at_end (inl w) = inl (w.0, w.1, omega (arith, w.2))
+next_weaker_by read line lines most most' AtEnd AtEnd' fits at_end (inr w) = inr (w.0, w.1, at_end w.2)
+
+pub next_weaker : (read line : List ℕ) (lines : List (List ℕ)) (most most' : ℕ) (AtEnd AtEnd' : Type 0) → most ≤ most' → (AtEnd → AtEnd')
+    → IsNext read lines line most AtEnd → IsNext read lines line most' AtEnd'
+next_weaker read line lines most most' AtEnd AtEnd' fits at_end next =
+    (next.0, next.1, next_weaker_by read line lines most most' AtEnd AtEnd' fits at_end next.2)
