@@ -53,7 +53,7 @@ cut_same (line ∷ lines) [] rest last a b r l e =
     absurd (no_feed line (spelled lines ++ rest) (subst IsLine (sym e ∙ append_assoc line (10 ∷ spelled lines) rest) l))
 cut_same (line ∷ lines) (other ∷ others) rest last a b r l e =
     let first = line_same line other (spelled lines ++ rest) (spelled others ++ last) a.0 b.0
-        (sym (append_assoc line (10 ∷ spelled lines) rest) ∙ e ∙ append_assoc other (10 ∷ spelled others) last) in
+    (sym (append_assoc line (10 ∷ spelled lines) rest) ∙ e ∙ append_assoc other (10 ∷ spelled others) last) in
     let next = cut_same lines others rest last a.1 b.1 r l (sym first.1) in
     let head : other ≡ line = first.0 in
     let tail : others ≡ lines = next.0 in
@@ -66,13 +66,17 @@ one_cut_is bytes rest last lines others a b =
 next_by : (read left line : List ℕ) (lines : List (List ℕ)) (most : ℕ) → AreLines lines → IsLine line
     → ((rest : List ℕ) × (read ≡ spelled lines ++ (line ++ 10 ∷ rest)) × (length rest < most)) ⊎ ((read ≡ spelled lines ++ line) × (line ≢ []) × (left ≡ []))
     → (later : List (List ℕ)) × (lines_of (read ++ left) ≡ lines ++ line ∷ later)
-next_by read left line lines most are is (inl w) = (lines_of (w.0 ++ left),
-    ap (λ bytes. lines_of (bytes ++ left)) w.1 ∙ ap lines_of (append_assoc (spelled lines) (line ++ 10 ∷ w.0) left)
-    ∙ lines_of-front lines ((line ++ 10 ∷ w.0) ++ left) are
-    ∙ ap (λ bytes. lines ++ lines_of bytes) (append_assoc line (10 ∷ w.0) left) ∙ ap (λ ls. lines ++ ls) (lines_of-line line (w.0 ++ left) is))
-next_by read left line lines most are is (inr w) = ([],
-    ap (λ bytes. lines_of (bytes ++ left)) w.0 ∙ ap (λ bytes. lines_of ((spelled lines ++ line) ++ bytes)) w.2
-    ∙ ap lines_of (append-nil (spelled lines ++ line)) ∙ lines_of-front lines line are ∙ ap (λ ls. lines ++ ls) (lines_of-last line is w.1))
+next_by read left line lines most are is (inl w) = (
+  lines_of (w.0 ++ left),
+  ap (λ bytes. lines_of (bytes ++ left)) w.1 ∙ ap lines_of (append_assoc (spelled lines) (line ++ 10 ∷ w.0) left)
+      ∙ lines_of-front lines ((line ++ 10 ∷ w.0) ++ left) are
+      ∙ ap (λ bytes. lines ++ lines_of bytes) (append_assoc line (10 ∷ w.0) left) ∙ ap (λ ls. lines ++ ls) (lines_of-line line (w.0 ++ left) is),
+)
+next_by read left line lines most are is (inr w) = (
+  [],
+  ap (λ bytes. lines_of (bytes ++ left)) w.0 ∙ ap (λ bytes. lines_of ((spelled lines ++ line) ++ bytes)) w.2
+      ∙ ap lines_of (append-nil (spelled lines ++ line)) ∙ lines_of-front lines line are ∙ ap (λ ls. lines ++ ls) (lines_of-last line is w.1),
+)
 
 pub next_is : (read left line : List ℕ) (lines : List (List ℕ)) (most : ℕ) → IsNext read lines line most (left ≡ [])
     → (later : List (List ℕ)) × (lines_of (read ++ left) ≡ lines ++ line ∷ later)
@@ -113,15 +117,20 @@ cut_feed read rest lines x feed cut = record {
 
 -- the line that a line feed ends
 pub next_feed : (read rest : List ℕ) (lines : List (List ℕ)) (x : ℕ) (AtEnd : Type 0) → x ≡ 10 → IsCut read lines rest → IsNext (read ++ x ∷ []) lines rest 1 AtEnd
-next_feed read rest lines x AtEnd feed cut = (cut.lined, cut.open_rest,
-    inl ([], ap (λ (y : ℕ). read ++ y ∷ []) feed ∙ whole_more read rest (10 ∷ []) lines cut.whole, omega arith))
+next_feed read rest lines x AtEnd feed cut = (
+  cut.lined,
+  cut.open_rest,
+  inl ([], ap (λ (y : ℕ). read ++ y ∷ []) feed ∙ whole_more read rest (10 ∷ []) lines cut.whole, omega arith),
+)
 
 next_on_by : (read more line : List ℕ) (lines : List (List ℕ)) (most most' : ℕ) (AtEnd : Type 0) → length more + most ≤ most'
     → ((rest : List ℕ) × (read ≡ spelled lines ++ (line ++ 10 ∷ rest)) × (length rest < most)) ⊎ ((read ≡ spelled lines ++ line) × (line ≢ []) × ⊥)
     → ((rest : List ℕ) × (read ++ more ≡ spelled lines ++ (line ++ 10 ∷ rest)) × (length rest < most')) ⊎ ((read ++ more ≡ spelled lines ++ line) × (line ≢ []) × AtEnd)
-next_on_by read more line lines most most' AtEnd fits (inl w) = inl (w.0 ++ more,
-    whole_more read (line ++ 10 ∷ w.0) more lines w.1 ∙ ap (λ xs. spelled lines ++ xs) (append_assoc line (10 ∷ w.0) more),
-    omega (arith, length-append w.0 more, w.2))
+next_on_by read more line lines most most' AtEnd fits (inl w) = inl (
+  w.0 ++ more,
+  whole_more read (line ++ 10 ∷ w.0) more lines w.1 ∙ ap (λ xs. spelled lines ++ xs) (append_assoc line (10 ∷ w.0) more),
+  omega (arith, length-append w.0 more, w.2),
+)
 next_on_by read more line lines most most' AtEnd fits (inr w) = absurd w.2
 
 -- more was read behind it

@@ -18,7 +18,11 @@ module _ {M : Type 0} (Answers : M → ℕ → List ℕ → List ℕ → M → T
 
   pub done_lines_are : DoneLines Answers Ends source_tells sink_tells
   done_lines_are m m' script left k k' limit is told =
-      let whole : script.left ≡ is.read = (is.ended.5 told).0 in
-      (omega (arith, ap length whole, is.within),
-       (is.ended.1, subst (λ (ls : List (List ℕ)). Goes Answers 1 m ls is.ended.1 m') (lines_of-all is.read is.ended.0 is.ended.2 ∙ ap lines_of (sym whole)) is.ended.3,
-        is.ended.4))
+      let whole : script.left ≡ is.read = (is.ended.5 told).0 in (
+        omega (arith, ap length whole, is.within),
+        (
+          is.ended.1,
+          subst (λ (ls : List (List ℕ)). Goes Answers 1 m ls is.ended.1 m') (lines_of-all is.read is.ended.0 is.ended.2 ∙ ap lines_of (sym whole)) is.ended.3,
+          is.ended.4,
+        ),
+      )

@@ -27,9 +27,10 @@ still_handed said reply mid new handed handed' is (inr all) (inl w) = inr (omega
 takes_reply : (tells : Type 0) (k mid new : SinkState) (said reply : List ℕ) → Takes (over tells k mid) said → TakesOne (over tells mid new) reply
     → Takes (over tells k new) (said ++ reply)
 takes_reply tells k mid new said reply before one = λ told.
-    let b = before told in let o = one told in
-    (o.0 ∙ ap (λ xs. xs ++ reply) b.0 ∙ append_assoc k.taken said reply,
-     still_handed said reply mid.taken new.taken mid.handed new.handed o.0 b.1 o.1)
+    let b = before told in let o = one told in (
+      o.0 ∙ ap (λ xs. xs ++ reply) b.0 ∙ append_assoc k.taken said reply,
+      still_handed said reply mid.taken new.taken mid.handed new.handed o.0 b.1 o.1,
+    )
 
 front_handed : (said taken mid : List ℕ) (handed handed' : ℕ) → mid ≡ taken ++ said → handed ≤ handed' → (said ≡ []) ⊎ (handed ≡ length mid)
     → (said ≡ []) ⊎ (length taken + length said ≤ handed')
@@ -39,9 +40,12 @@ front_handed said taken mid handed handed' is le (inr all) = inr (omega (arith, 
 takes_front : (tells : Type 0) (k mid new : SinkState) (said reply : List ℕ) → Takes (over tells k mid) said → TakesSome (over tells mid new) reply
     → TakesFront (over tells k new) said reply
 takes_front tells k mid new said reply before some = λ told.
-    let b = before told in let o = some told in
-    (o.0, o.1, o.2 ∙ ap (λ xs. xs ++ take o.0 reply) b.0 ∙ append_assoc k.taken said (take o.0 reply),
-     front_handed said k.taken mid.taken mid.handed new.handed b.0 o.3 b.1)
+    let b = before told in let o = some told in (
+      o.0,
+      o.1,
+      o.2 ∙ ap (λ xs. xs ++ take o.0 reply) b.0 ∙ append_assoc k.taken said (take o.0 reply),
+      front_handed said k.taken mid.taken mid.handed new.handed b.0 o.3 b.1,
+    )
 
 split_at : (read bytes : List ℕ) (i x : ℕ) → i < length bytes → x ≡ get_or bytes i 0 → read ++ bytes ≡ ((read ++ take i bytes) ++ x ∷ []) ++ drop (i + 1) bytes
 split_at read bytes i x within is =
@@ -55,12 +59,22 @@ module _ {M : Type 0} (Answers : M → ℕ → List ℕ → List ℕ → M → T
   goes_more : (lines : List (List ℕ)) (n number : ℕ) (m mid m' : M) (said line reply : List ℕ) → Goes Answers n m lines said mid
       → number ≡ length lines + n → Answers mid number line reply m' → Goes Answers n m (lines ++ line ∷ []) (said ++ reply) m'
   goes_more [] n number m mid m' said line reply goes is one =
-      let here : number ≡ n = omega arith in
-      (m', reply, [], subst (λ (x : M). Answers x n line reply m') goes.0 (subst (λ (i : ℕ). Answers mid i line reply m') here one), (refl, refl),
-       ap (λ xs. xs ++ reply) goes.1 ∙ sym (append-nil reply))
-  goes_more (l ∷ lines) n number m mid m' said line reply goes is one =
-      (goes.0, goes.1, goes.2 ++ reply, goes.3, goes_more lines (n + 1) number goes.0 mid m' goes.2 line reply goes.4 (omega arith) one,
-       ap (λ xs. xs ++ reply) goes.5 ∙ append_assoc goes.1 goes.2 reply)
+      let here : number ≡ n = omega arith in (
+        m',
+        reply,
+        [],
+        subst (λ (x : M). Answers x n line reply m') goes.0 (subst (λ (i : ℕ). Answers mid i line reply m') here one),
+        (refl, refl),
+        ap (λ xs. xs ++ reply) goes.1 ∙ sym (append-nil reply),
+      )
+  goes_more (l ∷ lines) n number m mid m' said line reply goes is one = (
+    goes.0,
+    goes.1,
+    goes.2 ++ reply,
+    goes.3,
+    goes_more lines (n + 1) number goes.0 mid m' goes.2 line reply goes.4 (omega arith) one,
+    ap (λ xs. xs ++ reply) goes.5 ∙ append_assoc goes.1 goes.2 reply,
+  )
 
   pub progress_byte : (m m' : M) (k : OverSink) (read rest rest' : List ℕ) (count x : ℕ) → x ≢ 10 → rest' ≡ rest ++ x ∷ []
       → Progress Answers m m' k read count rest → Progress Answers m m' k (read ++ x ∷ []) count rest'
@@ -116,9 +130,16 @@ module _ {M : Type 0} (Answers : M → ℕ → List ℕ → List ℕ → M → T
         → Carried {T = T} Answers Ends mid m' (over tells k1 k2) number line (Err end) → Stopped Answers Ends m m' (over tells k k2) read most AtEnd end
     stopped_by T m mid m' tells k k1 k2 read line said lines most number AtEnd WriteFault next goes is takes one =
         (lines, said, mid, line, one.0, next, goes, subst (λ (n : ℕ). Answers mid n line one.0 m') is one.1, takes_front tells k k1 k2 said one.0 takes one.2)
-    stopped_by T m mid m' tells k k1 k2 read line said lines most number AtEnd (Machine end) next goes is takes one =
-        (lines, said, mid, line, next, goes, subst (λ (n : ℕ). Ends mid n line end m') is one.0,
-         subst (λ (x : SinkState). Takes (over tells k x) said) (sym one.1) takes)
+    stopped_by T m mid m' tells k k1 k2 read line said lines most number AtEnd (Machine end) next goes is takes one = (
+      lines,
+      said,
+      mid,
+      line,
+      next,
+      goes,
+      subst (λ (n : ℕ). Ends mid n line end m') is one.0,
+      subst (λ (x : SinkState). Takes (over tells k x) said) (sym one.1) takes,
+    )
     stopped_by T m mid m' tells k k1 k2 read line said lines most number AtEnd ReadFault next goes is takes one = absurd one
     stopped_by T m mid m' tells k k1 k2 read line said lines most number AtEnd TooLong next goes is takes one = absurd one
     stopped_by T m mid m' tells k k1 k2 read line said lines most number AtEnd NoMemory next goes is takes one = absurd one
@@ -157,9 +178,18 @@ module _ {M : Type 0} (Answers : M → ℕ → List ℕ → List ℕ → M → T
         subst (λ (xs : List ℕ). Stopped Answers Ends m m' k xs most' AtEnd (Machine end)) (sym is)
         (w.0, w.1, w.2, w.3, next_on read more w.3 w.0 most most' AtEnd fits w.4, w.5, w.6, w.7)
     stopped_on m m' k read more all most most' AtEnd NoMemory fits is w =
-        subst (λ (xs : List ℕ). Stopped Answers Ends m m' k xs most' AtEnd NoMemory) (sym is)
-        (w.0, w.1, w.2, w.3 ++ more, whole_more read (w.2 ++ w.3) more w.0 w.4 ∙ ap (λ xs. spelled w.0 ++ xs) (append_assoc w.2 w.3 more),
-         w.5, w.6, omega (arith, length-append w.3 more, w.7), w.8, w.9)
+        subst (λ (xs : List ℕ). Stopped Answers Ends m m' k xs most' AtEnd NoMemory) (sym is) (
+          w.0,
+          w.1,
+          w.2,
+          w.3 ++ more,
+          whole_more read (w.2 ++ w.3) more w.0 w.4 ∙ ap (λ xs. spelled w.0 ++ xs) (append_assoc w.2 w.3 more),
+          w.5,
+          w.6,
+          omega (arith, length-append w.3 more, w.7),
+          w.8,
+          w.9,
+        )
     stopped_on m m' k read more all most most' AtEnd ReadFault fits is w = absurd w
     stopped_on m m' k read more all most most' AtEnd TooLong fits is w = absurd w
 
@@ -230,7 +260,7 @@ pub read_on : (n : ℕ) (first left left' read into into' back piece : List ℕ)
     → first ≡ (read ++ take n piece) ++ left'
 read_on n first left left' read into into' back piece is moves piece_is =
     let front : take n piece ≡ take n left =
-        ap (take n) piece_is ∙ ap (λ xs. take n (xs ++ back)) moves.front ∙ ap (take n) (append_assoc (take n left) (drop n into) back)
-        ∙ take_at (take n left) (drop n into ++ back) n (length-take-le n left moves.enough) in
+    ap (take n) piece_is ∙ ap (λ xs. take n (xs ++ back)) moves.front ∙ ap (take n) (append_assoc (take n left) (drop n into) back)
+    ∙ take_at (take n left) (drop n into ++ back) n (length-take-le n left moves.enough) in
     is ∙ ap (λ xs. read ++ xs) (sym (take-append-drop n left)) ∙ sym (append_assoc read (take n left) (drop n left))
     ∙ ap (λ xs. (read ++ xs) ++ drop n left) (sym front) ∙ ap (λ xs. (read ++ take n piece) ++ xs) (sym moves.rest)

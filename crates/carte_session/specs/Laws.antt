@@ -29,7 +29,7 @@ abbrev pub TooLongIsLonger : {M : Type 0} → (M → ℕ → List ℕ → List �
 TooLongIsLonger {M = M} Answers Ends source_tells sink_tells =
     (m m' : M) (script left : SourceState) (k k' : SinkState) (limit : ℕ)
     → IsSession {T = Unit {0}} Answers Ends m m' (record { tells = source_tells; old = script; new = left }) (record { tells = sink_tells; old = k; new = k' })
-        limit (Err TooLong)
+    limit (Err TooLong)
     → source_tells → limit < length script.left
 
 -- a script that was done is within the limit, and its lines were carried out and answered
@@ -37,6 +37,6 @@ abbrev pub DoneLines : {M : Type 0} → (M → ℕ → List ℕ → List ℕ →
 DoneLines {M = M} Answers Ends source_tells sink_tells =
     (m m' : M) (script left : SourceState) (k k' : SinkState) (limit : ℕ)
     → IsSession {T = Unit {0}} Answers Ends m m' (record { tells = source_tells; old = script; new = left }) (record { tells = sink_tells; old = k; new = k' })
-        limit (Ok tt)
+    limit (Ok tt)
     → source_tells → (length script.left ≤ limit)
-        × ((said : List ℕ) × Goes Answers 1 m (lines_of script.left) said m' × Takes (record { tells = sink_tells; old = k; new = k' }) said)
+    × ((said : List ℕ) × Goes Answers 1 m (lines_of script.left) said m' × Takes (record { tells = sink_tells; old = k; new = k' }) said)

@@ -30,7 +30,7 @@ AreAll bytes lines = IsCut bytes lines []
 abbrev pub IsNext : List ℕ → List (List ℕ) → List ℕ → ℕ → Type 0 → Type 0
 IsNext read lines line most AtEnd = AreLines lines × IsLine line
     × (((rest : List ℕ) × (read ≡ spelled lines ++ (line ++ 10 ∷ rest)) × (length rest < most))
-      ⊎ ((read ≡ spelled lines ++ line) × (line ≢ []) × AtEnd))
+    ⊎ ((read ≡ spelled lines ++ line) × (line ≢ []) × AtEnd))
 
 -- the lines of a script as a function of its bytes
 

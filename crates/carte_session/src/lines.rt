@@ -39,12 +39,12 @@ impl Lines {
         requires few { self.old.count + length bytes.now < 2 ^ 64 }
         ensures fed { (m : M × D) (k : SinkState) (read : List ℕ)
             → Progress M.answers m (machine.old, disk.old) (record { tells = O.tells; old = k; new = O.state out.old })
-                read self.old.count self.old.rest.items
+            read self.old.count self.old.rest.items
             → MatchResult result
-                (λ _. Progress M.answers m (machine.new, disk.new) (record { tells = O.tells; old = k; new = O.state out.new })
-                    (read ++ bytes.now) self.new.count self.new.rest.items)
-                (λ end. Stopped M.answers M.ends m (machine.new, disk.new) (record { tells = O.tells; old = k; new = O.state out.new })
-                    (read ++ bytes.now) (length bytes.now) ⊥ end) }
+            (λ _. Progress M.answers m (machine.new, disk.new) (record { tells = O.tells; old = k; new = O.state out.new })
+            (read ++ bytes.now) self.new.count self.new.rest.items)
+            (λ end. Stopped M.answers M.ends m (machine.new, disk.new) (record { tells = O.tells; old = k; new = O.state out.new })
+            (read ++ bytes.now) (length bytes.now) ⊥ end) }
         ensures on { OnOk result (M.goes_on machine.new) }
         ensures few { OnOk result (self.new.count ≤ self.old.count + length bytes.now) }
         ensures cause { HasCauseOf SessionEnd.WriteFault (O.state out.old).faults (O.state out.new).faults result }
@@ -67,12 +67,12 @@ impl Lines {
         requires few { self.old.count + 1 < 2 ^ 64 }
         ensures fed { (m : M × D) (k : SinkState) (read : List ℕ)
             → Progress M.answers m (machine.old, disk.old) (record { tells = O.tells; old = k; new = O.state out.old })
-                read self.old.count self.old.rest.items
+            read self.old.count self.old.rest.items
             → MatchResult result
-                (λ _. Progress M.answers m (machine.new, disk.new) (record { tells = O.tells; old = k; new = O.state out.new })
-                    (read ++ byte ∷ []) self.new.count self.new.rest.items)
-                (λ end. Stopped M.answers M.ends m (machine.new, disk.new) (record { tells = O.tells; old = k; new = O.state out.new })
-                    (read ++ byte ∷ []) 1 ⊥ end) }
+            (λ _. Progress M.answers m (machine.new, disk.new) (record { tells = O.tells; old = k; new = O.state out.new })
+            (read ++ byte ∷ []) self.new.count self.new.rest.items)
+            (λ end. Stopped M.answers M.ends m (machine.new, disk.new) (record { tells = O.tells; old = k; new = O.state out.new })
+            (read ++ byte ∷ []) 1 ⊥ end) }
         ensures on { OnOk result (M.goes_on machine.new) }
         ensures few { OnOk result (self.new.count ≤ self.old.count + 1) }
         ensures cause { HasCauseOf SessionEnd.WriteFault (O.state out.old).faults (O.state out.new).faults result }
@@ -99,11 +99,11 @@ impl Lines {
         requires few { self.now.count + 1 < 2 ^ 64 }
         ensures finished { (m : M × D) (k : SinkState) (read : List ℕ)
             → Progress M.answers m (machine.old, disk.old) (record { tells = O.tells; old = k; new = O.state out.old })
-                read self.now.count self.now.rest.items
+            read self.now.count self.now.rest.items
             → MatchResult result
-                (λ _. Finished M.answers m (machine.new, disk.new) (record { tells = O.tells; old = k; new = O.state out.new }) read)
-                (λ end. Stopped M.answers M.ends m (machine.new, disk.new) (record { tells = O.tells; old = k; new = O.state out.new })
-                    read 1 (Unit {0}) end) }
+            (λ _. Finished M.answers m (machine.new, disk.new) (record { tells = O.tells; old = k; new = O.state out.new }) read)
+            (λ end. Stopped M.answers M.ends m (machine.new, disk.new) (record { tells = O.tells; old = k; new = O.state out.new })
+            read 1 (Unit {0}) end) }
         ensures cause { HasCauseOf SessionEnd.WriteFault (O.state out.old).faults (O.state out.new).faults result }
     {
         let line = self.rest.as_slice();

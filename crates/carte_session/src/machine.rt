@@ -17,7 +17,13 @@ pub trait Machine<D> {
     ghost goes_on: { Self → Type 0 };
 
     /// Carries out a line, without its line feed, and gives its reply. All lines are counted, from 1.
-    fn step(&mut self, alloc: Global, disk: &mut D, number: usize, line: &[u8]) -> Result<String, StepEnd>
+    fn step(
+        &mut self,
+        alloc: Global,
+        disk: &mut D,
+        number: usize,
+        line: &[u8],
+    ) -> Result<String, StepEnd>
         requires { goes_on self.old }
         ensures carried { MatchResult result
             (λ reply. answers (self.old, disk.old) number line.now (string_bytes reply) (self.new, disk.new))

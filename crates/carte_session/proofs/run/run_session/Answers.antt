@@ -64,9 +64,12 @@ loop-taken-preserved g c =
     let fits : count + c.loop-taken.taken ≤ c.args.limit = first_of (search rules, grind (arith, common_steps)) in
     let fit : count ≤ length piece = omega (arith, long, few) in
     record {
-      so = (so.0 ++ take count piece, read_whole_length count c.loop-taken.taken so.0 piece so.1 fit,
-          λ told. read_on count _ _ _ so.0 _ c.read.new.into (drop c.min-room.result c.loop-taken.piece) piece (so.2 told) (c.in_ok-count.ensures.bytes told) refl,
-          c.in_ok-feed.ensures.fed (c.args.machine.now, c.args.disk.now) (g.O.Sink.state c.args.out.now) so.0 so.3);
+      so = (
+        so.0 ++ take count piece,
+        read_whole_length count c.loop-taken.taken so.0 piece so.1 fit,
+        λ told. read_on count _ _ _ so.0 _ c.read.new.into (drop c.min-room.result c.loop-taken.piece) piece (so.2 told) (c.in_ok-count.ensures.bytes told) refl,
+        c.in_ok-feed.ensures.fed (c.args.machine.now, c.args.disk.now) (g.O.Sink.state c.args.out.now) so.0 so.3,
+      );
       on = c.in_ok-feed.ensures.on;
       long = long;
       within = omega (arith, fits);

@@ -7,7 +7,7 @@ invariant-loop-taken g l = record {
   so : (read : List ℕ) × (length read ≡ l.taken)
       × (g.S.Source.tells → (g.S.Source.state l.fn.script).left ≡ read ++ (g.S.Source.state l.script).left)
       × Progress g.M.Machine.answers (l.fn.machine, l.fn.disk) (l.machine, l.disk)
-          (record { tells = g.O.Sink.tells; old = g.O.Sink.state l.fn.out; new = g.O.Sink.state l.out }) read l.lines.count l.lines.rest.items;
+      (record { tells = g.O.Sink.tells; old = g.O.Sink.state l.fn.out; new = g.O.Sink.state l.out }) read l.lines.count l.lines.rest.items;
   on : g.M.Machine.goes_on l.machine;
   long : length l.piece ≡ 8192;
   within : l.taken ≤ l.limit;

@@ -9,4 +9,4 @@ returns-in_err-take_byte-clause-fed g c = λ m k read p.
     let bytes = c.args.bytes.now in
     let i = c.loop-byte.byte-index in
     rw (e.1, e.2) (stopped_item g.M.Machine.answers g.M.Machine.ends m _ (over g.O.Sink.tells k (g.O.Sink.state c.take_byte.new.out)) read bytes i _ _ (omega (arith, c.loop-byte-test.true)) refl
-        (c.in_err-take_byte.ensures.fed m k (read ++ take i bytes) (c.loop-byte.invariant.fed m k read p)))
+    (c.in_err-take_byte.ensures.fed m k (read ++ take i bytes) (c.loop-byte.invariant.fed m k read p)))

@@ -6,7 +6,7 @@ pub returns-in_err-carry_out-clause-fed : goal.returns-in_err-carry_out-clause-f
 returns-in_err-carry_out-clause-fed g c = λ m k read p.
     let e = err_from_is_err_and c.from_residual.result c.from_residual.ensures.1 in
     rw (e.1, e.2) (stopped_feed g.M.Machine.answers g.M.Machine.ends (Unit {0}) m _ _ g.O.Sink.tells k _ _ read _ _ _ c.args.byte _ c.if-byte-eq10.true
-        c.as_slice.ensures.value p c.in_err-carry_out.ensures.carried)
+    c.as_slice.ensures.value p c.in_err-carry_out.ensures.carried)
 
 pub returns-in_err-push-clause-fed : goal.returns-in_err-push-clause-fed
 returns-in_err-push-clause-fed g c = λ m k read p.
