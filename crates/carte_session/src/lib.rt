@@ -31,3 +31,6 @@ pub use laws::{
 };
 pub use machine::Machine;
 pub use run::run_session;
+
+#[cfg(test)]
+mod tests;
