@@ -1,7 +1,7 @@
 -- A chain of steps each of which leaves only sound files leaves only sound files.
 use Rattle.std.proofs.Common.{◌≡◌, ℕ, ◌+◌, List, [], ◌∷◌, ◌++◌, length, sym, ap, subst, arith, append_assoc}
 use Rattle.std.proofs.lemmas.List.{length-append}
-use Rattle.carte_io.specs.Disk.{IsImage, IsSettled, LeavesOnly, Story}
+use Rattle.carte_io.specs.Disk.{IsSettled, LeavesOnly, Story}
 use Rattle.carte_io.proofs.Images.{leaves_last, leaves_more, leaves_none, leaves_then}
 use Rattle.carte_session.specs.Leaving.{LinesLeave}
 use Rattle.carte_session.specs.Session.{Goes}

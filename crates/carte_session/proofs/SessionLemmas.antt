@@ -6,7 +6,7 @@ use Rattle.carte_io.specs.Causes.{HasCauseOf}
 use Rattle.carte_io.specs.Streams.{Moves, SinkState}
 use Rattle.carte_session.specs.Around.{OverSink, OverSource, Takes, TakesFront}
 use Rattle.carte_session.specs.Carried.{Carried, Finished, Progress, TakesOne, TakesSome}
-use Rattle.carte_session.specs.Lines.{AreAll, AreLines, IsCut, IsLine, IsNext, lines_of, spelled}
+use Rattle.carte_session.specs.Lines.{IsCut, IsNext, spelled}
 use Rattle.carte_session.specs.Session.{Ended, Goes, IsSession, Stopped}
 use Rattle.carte_session.specs.declared.end.SessionEnd.{SessionEnd}
 use Rattle.carte_session.specs.declared.end.SessionEnd.TheVariants.{ReadFault, WriteFault, TooLong, NoMemory, Machine}

@@ -1,5 +1,5 @@
 -- What a session reads from and writes to, before and after.
-use Rattle.std.specs.Prelude.{ℕ, ◌≡◌, ◌≢◌, ◌⊎◌, ◌+◌, ◌≤◌, List, [], ◌++◌, length, take}
+use Rattle.std.specs.Prelude.{ℕ, ◌≡◌, ◌⊎◌, ◌+◌, ◌≤◌, List, [], ◌++◌, length, take}
 use Rattle.carte_io.specs.Streams.{SinkState, SourceState}
 
 -- a source over a call: whether its type tells its bytes, and what it was and is

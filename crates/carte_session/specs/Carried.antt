@@ -1,6 +1,5 @@
 -- Steps on the way: one line, and the lines of what was read so far.
 use Rattle.std.specs.Prelude.{ℕ, ◌≡◌, ◌⊎◌, ◌≤◌, List, [], ◌++◌, length, take, Result, Ok, Err}
-use Rattle.carte_io.specs.Streams.{SinkState}
 use Rattle.carte_session.specs.Around.{OverSink, Takes}
 use Rattle.carte_session.specs.Lines.{AreAll, IsCut}
 use Rattle.carte_session.specs.Session.{Goes}

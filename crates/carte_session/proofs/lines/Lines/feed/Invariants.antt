@@ -1,4 +1,4 @@
-use Rattle.std.proofs.Common.{◌≡◌, ◌+◌, ◌<◌, ◌≤◌, ◌++◌, ℕ, List, take}
+use Rattle.std.proofs.Common.{◌≡◌, ◌+◌, ◌≤◌, ◌++◌, ℕ, List, take}
 use Rattle.carte_io.specs.Streams.{SinkState}
 use Rattle.carte_session.specs.Carried.{Progress}
 use Rattle.carte_session.proofs.lines.Lines.feed.Given as goal

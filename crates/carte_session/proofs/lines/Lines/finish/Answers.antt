@@ -1,4 +1,4 @@
-use Rattle.std.proofs.Common.{◌≡◌, List, [], ℕ, length, eqb, false, ap, ◌∙◌, sym}
+use Rattle.std.proofs.Common.{◌≡◌, List, [], ℕ, length, eqb, false, ap, ◌∙◌}
 use Rattle.std.proofs.lemmas.Bool.{eqb-false}
 use Rattle.carte_session.proofs.SessionLemmas.{finished_by}
 use Rattle.carte_session.proofs.lines.Lines.finish.Goals as goal
