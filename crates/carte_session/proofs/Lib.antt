@@ -1,0 +1,4 @@
+pub mod LineLemmas
+pub mod SessionLemmas
+pub mod SessionLaws
+pub mod Leaves

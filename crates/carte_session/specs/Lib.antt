@@ -1,0 +1,6 @@
+pub mod Around
+pub mod Carried
+pub mod Laws
+pub mod Leaving
+pub mod Lines
+pub mod Session
