@@ -16,6 +16,8 @@
 
 mod causes;
 mod target;
+#[cfg(test)]
+mod tests;
 mod traces;
 mod why;
 
