@@ -7,3 +7,4 @@ pub mod Digests
 pub mod Orders
 pub mod Stuck
 pub mod Reasoned
+pub mod Named

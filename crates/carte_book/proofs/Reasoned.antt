@@ -1,17 +1,17 @@
 -- Where a target has no clean value, its stuck needs lead round or astray: there is a reason.
-use Rattle.std.proofs.Common.{◌≡◌, ℕ, zero, suc, ◌+◌, ◌≤◌, ◌<◌, true, false, cond, List, [], ◌∷◌, length, map, Option, Some, None, Result, Ok, Err, refl, ap, sym, ◌∙◌, inl, inr, ◌⊎◌, arith}
+use Rattle.std.proofs.Common.{◌≡◌, ℕ, zero, suc, ◌+◌, ◌<◌, true, false, cond, List, [], ◌∷◌, length, Option, Some, None, Result, Ok, Err, refl, ap, sym, ◌∙◌, inl, inr, ◌⊎◌, arith}
 use Rattle.std.specs.Ordering.{eq_by_cmp}
-use Rattle.std.specs.FinMap.{entries, get, find, get-entries}
+use Rattle.std.specs.FinMap.{entries, find, get-entries}
 use Rattle.std.specs.Result.{result_ok}
 use Rattle.carte_value.specs.declared.value.Value.{Value}
-use Rattle.carte_value.specs.Names.{name_cmp, name_eq}
+use Rattle.carte_value.specs.Names.{name_cmp}
 use Rattle.carte_value.specs.Truths.{Among, NoneTwice}
 use Rattle.carte_value.proofs.Asks.{stop_open}
 use Rattle.carte_value.proofs.Members.{same_or_not, no_longer}
 use Rattle.carte_tree.specs.Tree.{Tree}
 use Rattle.carte_tree.specs.Meaning.{asks, eval}
 use Rattle.carte_book.specs.Book.{Item, input, rule, Book, content, rules_among, rules_of, clean}
-use Rattle.carte_book.specs.Reason.{IsClean, AllClean, StuckAt, Begins, GoesRound, GoesAstray, IsReason}
+use Rattle.carte_book.specs.Reason.{IsClean, StuckAt, Begins, GoesRound, GoesAstray}
 use Rattle.carte_book.specs.Stuck.{CleanOrReason}
 use Rattle.carte_book.specs.declared.reason.Reason.TheVariants.{Cycle, Missing, Dynamic}
 use Rattle.carte_book.proofs.Clean.{tied_name, rule_held, clean_input, clean_rule}

@@ -81,7 +81,7 @@ one_more m names new rest left k (RuleItem f) is has adds so = record {
       | false ↦ λ apart there. inr there
     ] refl
 
-rule_found : (o : Option CodeItem) (e : Tree) → option_map item_view o ≡ Some (rule e) → (f : Expr) × (o ≡ Some (RuleItem f))
+pub rule_found : (o : Option CodeItem) (e : Tree) → option_map item_view o ≡ Some (rule e) → (f : Expr) × (o ≡ Some (RuleItem f))
 rule_found None e h = cc
 rule_found (Some (InputItem v)) e h = cc
 rule_found (Some (RuleItem f)) e h = (f, refl)

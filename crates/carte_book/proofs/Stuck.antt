@@ -1,17 +1,16 @@
 -- What a rule without a clean value waits for is the last of its needs, and what waits so for ever has none.
-use Rattle.std.proofs.Common.{◌≡◌, ℕ, zero, suc, List, [], ◌∷◌, Option, Some, None, Result, Ok, Err, refl, ap, sym, ◌∙◌, inl, inr, ◌⊎◌}
+use Rattle.std.proofs.Common.{◌≡◌, ℕ, zero, suc, List, Option, Some, None, Result, Ok, Err, refl, sym, ◌∙◌, inl, inr}
 use Rattle.std.specs.Result.{result_ok}
 use Rattle.carte_value.specs.declared.value.Value.{Value}
-use Rattle.carte_value.specs.Lists.{IsLast}
-use Rattle.carte_value.specs.Truths.{Truth, Extends, Among}
-use Rattle.carte_value.specs.Asks.{run, asked, firsts}
+use Rattle.carte_value.specs.Truths.{Among}
+use Rattle.carte_value.specs.Asks.{asked}
 use Rattle.carte_value.proofs.Asks.{asked_kept, asked_known, stop_open}
-use Rattle.carte_value.proofs.Firsts.{among_firsts, firsts_among}
+use Rattle.carte_value.proofs.Firsts.{among_firsts}
 use Rattle.carte_value.proofs.Members.{last_among}
-use Rattle.carte_value.proofs.Stops.{asked_none, stop_last_once, last_once_stop}
+use Rattle.carte_value.proofs.Stops.{asked_none, stop_last_once}
 use Rattle.carte_tree.specs.Tree.{Tree}
 use Rattle.carte_tree.specs.Meaning.{asks, eval, fetched}
-use Rattle.carte_book.specs.Book.{Item, input, rule, Book, content, val, rules_of, clean}
+use Rattle.carte_book.specs.Book.{Item, input, rule, Book, content, val, clean}
 use Rattle.carte_book.specs.Needs.{needs, needs_of}
 use Rattle.carte_book.specs.Reason.{StuckAt}
 use Rattle.carte_book.specs.Stuck.{IsStuckAtLast, StuckIsLastNeed, IsBlockedBy}

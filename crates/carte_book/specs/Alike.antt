@@ -6,7 +6,7 @@ use Rattle.carte_value.specs.Kinds.{is_name_of}
 use Rattle.carte_value.specs.declared.area.Area.{Area}
 use Rattle.carte_value.specs.declared.kind.Kind.{Kind}
 use Rattle.carte_tree.specs.Tree.{level_of, Tree, number, text, ref, neg, chain, call, Steps, no_step, step, Args, no_arg, arg, Arg, one, cells, Arity, many, between, arity, takes_ranges}
-use Rattle.carte_tree.specs.Formula.{IsWhole, IsCount, args_count, HasStep, IsExpr, AreSteps, AreArgs, IsArg, HasNames, StepsNames, ArgsNames, ArgNames}
+use Rattle.carte_tree.specs.Formula.{IsWhole, IsCount, args_count, HasStep, IsExpr, AreSteps, AreArgs, IsArg, HasNames, StepsNames, ArgsNames, ArgNames, has_ranges}
 use Rattle.carte_tree.specs.declared.expr.Func.{Func}
 use Rattle.carte_tree.specs.declared.expr.Level.{Level}
 use Rattle.carte_tree.specs.contracts.expr.Level as levels
@@ -85,4 +85,4 @@ mutual
 
   arg_names_alike : (q : Kind) (x : Arg) → IsProp (ArgNames q x)
   arg_names_alike q (one e) = names_alike q e
-  arg_names_alike q (cells a) = Unit-prop
+  arg_names_alike q (cells a) = truth_alike (has_ranges q)

@@ -1,5 +1,6 @@
 -- The needs of names, and what is reached by them.
-use Rattle.std.specs.Prelude.{ℕ, ◌≡◌, List, [], Option, Some, None}
+use Rattle.std.specs.Prelude.{ℕ, ◌≡◌, List, [], Option, Some, None, IsTrue}
+use Rattle.carte_value.specs.Kinds.{is_name_of}
 use Rattle.carte_value.specs.Truths.{Among}
 use Rattle.carte_tree.specs.Tree.{Tree}
 use Rattle.carte_tree.specs.Meaning.{fetched}
@@ -13,6 +14,10 @@ needs_of (Some (rule e)) f = f e
 -- the names that a rule looks up over the clean values; an input has none
 abbrev pub needs : Book → List ℕ → List (List ℕ)
 needs b k = needs_of (content b k) (λ e. fetched b.kind (clean b) e)
+
+-- each of them is a name of the book's kind
+abbrev pub NeedsAreNames : Book → Type 0
+NeedsAreNames b = (k j : List ℕ) → Among (needs b k) j → IsTrue (is_name_of b.kind j)
 
 -- a target, or a need of what is reached
 pub data Reaches (b : Book) (targets : List (List ℕ)) : List ℕ → Type 0 where

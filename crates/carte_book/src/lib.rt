@@ -32,6 +32,7 @@ mod edits;
 mod fault;
 mod key_text;
 mod laws;
+mod needs;
 mod reason;
 #[cfg(test)]
 mod tests;
@@ -43,4 +44,5 @@ pub use laws::{
     clean_is_evaluated, clean_is_settled, clean_or_refused, one_digest, order_clean_or_refused,
     order_reason_is_unique, put_stands, reason_is_unique, reason_or_clean, stuck_need_is_last,
 };
+pub use needs::needs_are_names;
 pub use reason::Reason;

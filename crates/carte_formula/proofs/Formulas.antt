@@ -1,5 +1,5 @@
 -- What a text spells is a formula, with names of the book's kind.
-use Rattle.std.proofs.Common.{ℕ, ℤ, pos, negsuc, Bool, true, false, List, [], ◌∷◌, ◌++◌, length, ◌≡◌, ◌≤◌, ◌==◌, refl, arith, length-append}
+use Rattle.std.proofs.Common.{ℕ, ℤ, pos, negsuc, Bool, true, false, List, [], ◌∷◌, ◌++◌, length, ◌≡◌, ◌≤◌, ◌==◌, IsTrue, refl, arith, length-append}
 use Rattle.std.proofs.lemmas.Bool.{eqb-true, eqb-false}
 use Rattle.carte_value.specs.declared.kind.Kind.{Kind}
 use Rattle.carte_value.specs.declared.kind.Kind.TheVariants.{Rules, Sheet}
@@ -9,7 +9,7 @@ use Rattle.carte_formula.specs.Tokens.{Level, Func, Token, digits, word, cell, o
 use Rattle.carte_tree.specs.declared.expr.Func.TheVariants as functions
 use Rattle.carte_formula.specs.Grammar.{Counts, Spells, unary, single, chained, Repeats, none, more, Unary, primary, negated, posited, Primary, a_number, a_text, a_word, a_cell, a_call, a_group, Argument, formula, range, Arguments, last, next}
 use Rattle.carte_formula.specs.Print.{OfKind, AllOfKind}
-use Rattle.carte_tree.specs.Formula.{IsWhole, IsCount, args_count, IsExpr, AreSteps, AreArgs, IsArg, HasNames, StepsNames, ArgsNames, ArgNames}
+use Rattle.carte_tree.specs.Formula.{IsWhole, IsCount, args_count, IsExpr, AreSteps, AreArgs, IsArg, HasNames, StepsNames, ArgsNames, ArgNames, has_ranges}
 use Rattle.carte_formula.proofs.Again.{kind_both, Filled}
 use Rattle.carte_formula.proofs.Corners.{area_valid}
 
@@ -102,6 +102,10 @@ cell_named : (q : Kind) (k : List ℕ) → OfKind q (cell k) → HasNames q (ref
 cell_named Rules k h = absurd h
 cell_named Sheet k h = h
 
+range_named : (q : Kind) (a b : List ℕ) → AllOfKind q (cell a ∷ colon ∷ cell b ∷ []) → IsTrue (has_ranges q)
+range_named Rules a b h = absurd h.0
+range_named Sheet a b h = refl
+
 mutual
   pub spelt_names : {n : ℕ} {ts : List Token} {e : Tree} (q : Kind) → Spells n ts e → AllOfKind q ts → HasNames q e
   spelt_names q (unary u) h = unary_names q u h
@@ -129,7 +133,7 @@ mutual
 
   argument_names : {f : Func} {ts : List Token} {x : Arg} (q : Kind) → Argument f ts x → AllOfKind q ts → ArgNames q x
   argument_names q (formula s) h = spelt_names q s h
-  argument_names q (range is a b) h = tt
+  argument_names q (range is a b) h = range_named q a b h
 
   arguments_names : {f : Func} {ts : List Token} {xs : List Arg} (q : Kind) → Arguments f ts xs → AllOfKind q ts → ArgsNames q (args_of xs)
   arguments_names q (last x) h = (argument_names q x h, tt)

@@ -3,6 +3,7 @@ use Rattle.std.specs.Prelude.{ℕ, ℤ, pos, negsuc, Bool, true, false, List, []
 use Rattle.carte_value.specs.Areas.{IsArea, cells_of}
 use Rattle.carte_value.specs.Kinds.{is_name_of}
 use Rattle.carte_value.specs.declared.kind.Kind.{Kind}
+use Rattle.carte_value.specs.declared.kind.Kind.TheVariants.{Rules, Sheet}
 use Rattle.carte_value.specs.Asks.{firsts}
 use Rattle.carte_tree.specs.Tree.{Level, level_of, Func, Tree, number, text, ref, neg, chain, call, Steps, no_step, step, Args, no_arg, arg, Arg, one, cells, Arity, many, between, arity, takes_ranges}
 use Rattle.carte_tree.specs.declared.expr.Func.TheVariants as functions
@@ -54,6 +55,11 @@ AreCallArgs xs = (f : Func) × AreArgs f xs
 abbrev pub IsCallArg : Arg → Type 0
 IsCallArg x = (f : Func) × IsArg f x
 
+-- ranges stand in sheets alone
+abbrev pub has_ranges : Kind → Bool
+has_ranges Rules = false
+has_ranges Sheet = true
+
 abbrev mutual
   -- each reference is a name of the kind
   pub HasNames : Kind → Tree → Type 0
@@ -74,7 +80,7 @@ abbrev mutual
 
   pub ArgNames : Kind → Arg → Type 0
   ArgNames q (one e) = HasNames q e
-  ArgNames q (cells a) = Unit {0}
+  ArgNames q (cells a) = IsTrue (has_ranges q)
 
 abbrev mutual
   -- the references in the order in which they are written, ranges spelt out
