@@ -44,7 +44,7 @@ module _ (limit : ℕ) (w : Asked) (b : Book) (K : SomeKept) (B : Batch) where
     -- a batch that wasn't put in
     pub not_built : (d : OverDisk) (k : OverSink) (status : Status) → PutOrNot limit d K B (Err status) → IsUntouched k → BuiltWith limit w b K d k status
     not_built d k DiskFault put untouched = untouched
-    not_built d k (StateFull needed most) put untouched = (record { answer = a; batch = B; answers = answers; over = put }, untouched)
+    not_built d k (StateFull needed most) put untouched = (record { answer = a; batch = B; answers = answers; filled = put.0; over = put.1 }, untouched)
     not_built d k NoMemory put untouched = (untouched, put)
     not_built d k Done put untouched = absurd put
     not_built d k (BookRefused fault) put untouched = absurd put
@@ -67,7 +67,7 @@ module _ (limit : ℕ) (w : Asked) (b : Book) (K : SomeKept) (B : Batch) where
     done d k Done did = replies d k TakesAll did.0 did.1
     done d k WriteFault did = replies d k TakesFront did.0 did.1
     done d k DiskFault did = did
-    done d k (StateFull needed most) did = (record { answer = answer.Built built; batch = B; answers = answers; over = did.0 }, did.1)
+    done d k (StateFull needed most) did = (record { answer = answer.Built built; batch = B; answers = answers; filled = did.0; over = did.1 }, did.2)
     done d k NoMemory did = did
     done d k (BookRefused fault) did = absurd did
     done d k (Usage fault) did = absurd did

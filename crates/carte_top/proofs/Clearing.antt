@@ -1,19 +1,28 @@
--- The batch that clears a state leaves nothing.
-use Rattle.std.proofs.Common.{◌≡◌, ℕ, Bool, true, false, ◌&&◌, if◌then◌else◌, List, [], ◌∷◌, length, Option, Some, None, refl, ap, ◌∙◌, arith}
+-- The batch that clears a state leaves nothing, and has no more than that takes.
+use Rattle.std.proofs.Common.{◌≡◌, ℕ, Bool, true, false, ◌&&◌, if◌then◌else◌, List, [], ◌∷◌, length, Option, Some, None, refl, sym, ap, ◌∙◌, inl, inr, arith}
 use Rattle.std.proofs.lemmas.Bool.{eqb-true}
 use Rattle.std.specs.Prelude.{◌==◌, is_none}
+use Rattle.carte_value.specs.declared.digest.Digest.{Digest}
+use Rattle.carte_value.specs.declared.link.Link.{Link}
+use Rattle.carte_value.specs.declared.value.Value.{Value}
+use Rattle.carte_value.specs.Names.{name_eq}
+use Rattle.carte_value.specs.Spelling.{digest_of}
+use Rattle.carte_record.specs.declared.entry.Entry.{Entry}
 use Rattle.carte_record.specs.declared.kept.Kept.{Kept}
 use Rattle.carte_record.specs.declared.start.Start.TheVariants.{Cleared}
+use Rattle.carte_record.specs.declared.trace.Trace.{Trace}
 use Rattle.carte_record.specs.declared.way.Way.{Way}
 use Rattle.carte_record.specs.declared.way.Way.TheVariants.{Verifying, Constructive, Deep}
 use Rattle.carte_record.specs.Folds.{apply, batch_traces}
-use Rattle.carte_record.specs.Kept.{SomeKept, kept_view, nothing_kept, traces_in}
+use Rattle.carte_record.specs.Kept.{SomeKept, kept_view, newest, nothing_kept, traces_in}
 use Rattle.carte_record.specs.Lookups.{first_link, first_entry, first_value}
 use Rattle.carte_record.proofs.Growing.{kept_same, no_traces}
 use Rattle.carte_sound.specs.LeadsTo.{empty_batch}
 use Rattle.carte_sound.proofs.Emptied.{empty_applied}
+use Rattle.carte_sound.proofs.Tests.{name_self, digest_self}
 use Rattle.carte_state.specs.States.{Stand, kept_in}
 use Rattle.carte_engine.specs.Clearing.{clearing, is_bare}
+use Rattle.carte_top.specs.Found.{IsClearing}
 
 both : (b c : Bool) → b && c ≡ true → (b ≡ true) × (c ≡ true)
 both true c is = (refl, is)
@@ -51,9 +60,48 @@ cleared_keeps K = kept_same (apply (record empty_batch { start = Cleared }) K) n
     none Constructive k = refl
     none Deep k = refl
 
-by_bare : (s : Stand) (t : Bool) → is_bare s.kept ≡ t → apply (if t then empty_batch else record empty_batch { start = Cleared }) (kept_in s) ≡ nothing_kept
-by_bare s true bare = empty_applied (kept_in s) ∙ bare_keeps s.kept bare
-by_bare s false bare = cleared_keeps (kept_in s)
+-- and where nothing is kept, nothing does
+no_link : (ls : List Link) → ((k : List ℕ) → first_link ls k ≡ None) → ls ≡ []
+no_link [] none = refl
+no_link (l ∷ ls) none = let there : first_link (l ∷ ls) l.name ≡ Some l.digest = rw (name_self l.name) refl in let here = none l.name in cc
 
-pub clearing_clears : (s : Stand) → apply (clearing s) (kept_in s) ≡ nothing_kept
-clearing_clears s = by_bare s (is_bare s.kept) refl
+no_entry : (es : List Entry) → ((k : List ℕ) → first_entry es k ≡ None) → es ≡ []
+no_entry [] none = refl
+no_entry (e ∷ es) none = let there : first_entry (e ∷ es) e.key ≡ Some e = rw (name_self e.key) refl in let here = none e.key in cc
+
+no_value : (vs : List Value) → ((d : Digest) → first_value vs d ≡ None) → vs ≡ []
+no_value [] none = refl
+no_value (v ∷ vs) none = let there : first_value (v ∷ vs) (digest_of v) ≡ Some v = rw (digest_self (digest_of v)) refl in let here = none (digest_of v) in cc
+
+some_newest : (b : Bool) (t : Trace) (old : List Trace) → ¬ (old ≡ []) → ¬ ((if b then newest t old else old) ≡ [])
+some_newest true t old some is = cc
+some_newest false t old some is = some is
+
+still_some : (k : List ℕ) (ts old : List Trace) → ¬ (old ≡ []) → ¬ (traces_in k ts old ≡ [])
+still_some k [] old some is = some is
+still_some k (t ∷ ts) old some is = still_some k ts (if name_eq k t.key then newest t old else old) (some_newest (name_eq k t.key) t old some) is
+
+no_trace : (ts : List Trace) → ((k : List ℕ) → traces_in k ts [] ≡ []) → ts ≡ []
+no_trace [] none = refl
+no_trace (t ∷ ts) none =
+    let there : traces_in t.key (t ∷ ts) [] ≡ traces_in t.key ts (t ∷ []) = rw (name_self t.key) refl in
+    absurd (still_some t.key ts (t ∷ []) (λ is. cc) (sym there ∙ none t.key))
+
+nothing_bare : (K : Kept) → kept_view K ≡ nothing_kept → is_bare K ≡ true
+nothing_bare K is =
+    let rules : K.rules ≡ None = ap (λ (L : SomeKept). L.rules) is in
+    let chain : K.chain ≡ [] = ap (λ (L : SomeKept). L.chain) is in
+    let seen = no_link K.seen (λ k. ap (λ (L : SomeKept). L.seen k) is) in
+    let entries = no_entry K.entries (λ k. ap (λ (L : SomeKept). L.entries k) is) in
+    let verifying = no_trace K.verifying (λ k. ap (λ (L : SomeKept). L.traces Verifying k) is) in
+    let constructive = no_trace K.constructive (λ k. ap (λ (L : SomeKept). L.traces Constructive k) is) in
+    let deep = no_trace K.deep (λ k. ap (λ (L : SomeKept). L.traces Deep k) is) in
+    let values = no_value K.values (λ d. ap (λ (L : SomeKept). L.stored d) is) in
+    rw (rules, chain, seen, entries, verifying, constructive, deep, values) refl
+
+by_bare : (s : Stand) (t : Bool) → is_bare s.kept ≡ t → IsClearing (kept_in s) (if t then empty_batch else record empty_batch { start = Cleared })
+by_bare s true bare = record { leaves = empty_applied (kept_in s) ∙ bare_keeps s.kept bare; least = inl (bare_keeps s.kept bare, refl) }
+by_bare s false bare = record { leaves = cleared_keeps (kept_in s); least = inr (λ nothing. let all = nothing_bare s.kept nothing in cc, refl) }
+
+pub is_clearing : (s : Stand) → IsClearing (kept_in s) (clearing s)
+is_clearing s = by_bare s (is_bare s.kept) refl

@@ -3,21 +3,17 @@ use Rattle.std.proofs.Common.{◌≡◌, ℕ, List, [], ◌∷◌, ◌++◌, Ok,
 use Rattle.std.proofs.lemmas.List.{append_cancel_right}
 use Rattle.carte_io.specs.Disk.{EachMoment, Leaves, LeavesOnly, Moment, Story, moments}
 use Rattle.carte_value.specs.Lists.{Has}
-use Rattle.carte_value.specs.declared.kind.Kind.{Kind}
-use Rattle.carte_value.specs.declared.kind.Kind.TheVariants.{Rules, Sheet}
 use Rattle.carte_book.specs.Book.{Book}
 use Rattle.carte_record.specs.Kept.{nothing_kept}
-use Rattle.carte_rules.proofs.Unique.{one_book}
-use Rattle.carte_sheet.proofs.Unique.{one_sheet}
 use Rattle.carte_sound.specs.Base.{HasDistinctDigests}
 use Rattle.carte_sound.specs.Sound.{IsSound}
 use Rattle.carte_sound.proofs.Begins.{behind_sound, front_distinct}
 use Rattle.carte_sound.proofs.Histories.{nothing_sound}
-use Rattle.carte_words.specs.Words.{words_of}
 use Rattle.carte_words.specs.declared.words.Words.{Words as Asked}
 use Rattle.carte_top.specs.Chosen.{BookOfKind}
 use Rattle.carte_top.specs.Sound.{AreRead, KeepsSound, StaysSound}
 use Rattle.carte_top.specs.Histories.{AreBooks, AreRuns, IsLeft, IsRunFrom, Run, WholeHistories, around_of}
+use Rattle.carte_top.proofs.Unique.{one_meant, one_of_kind}
 
 at_moment : (Q : Moment → Type 0) (ms : List Moment) (m : Moment) → EachMoment Q ms → Has ms m → Q m
 at_moment Q [] m each here = absurd here
@@ -29,13 +25,6 @@ left_has : (old new : Story) (P : List ℕ → Type 0) (file : List ℕ) → Lea
 left_has old new P file all left =
     let same : left.later ≡ all.later = append_cancel_right left.later all.later (moments old) (sym left.goes_on ∙ all.goes_on) in
     at_moment (Leaves P) (old.now ∷ all.later) left.moment (all.first, all.each) (subst (λ ms. Has (old.now ∷ ms) left.moment) same left.passed) file left.image
-
-one_of_kind : (kind : Kind) (bytes : List ℕ) (b c : Book) → BookOfKind kind bytes (Ok b) → BookOfKind kind bytes (Ok c) → b ≡ c
-one_of_kind Rules bytes b c one other = let same : Ok b ≡ Ok c = one_book bytes (Ok b) (Ok c) one other in cc
-one_of_kind Sheet bytes b c one other = let same : Ok b ≡ Ok c = one_sheet bytes (Ok b) (Ok c) one other in cc
-
-one_meant : (words : List (List ℕ)) (w v : Asked) → words_of words ≡ Ok w → words_of words ≡ Ok v → w ≡ v
-one_meant words w v one other = cc
 
 -- the book that a run has read is its own
 module _ (r : Run) (b : Book) (read : AreRead r.words (around_of r).book (b ∷ [])) where

@@ -1,3 +1,4 @@
+pub mod Unique
 pub mod Putting
 pub mod Keeping
 pub mod Clearing
@@ -6,5 +7,6 @@ pub mod Building
 pub mod Opening
 pub mod Books
 pub mod Sounds
+pub mod Completing
 pub mod Outcomes
 pub mod HistoryRuns

@@ -13,9 +13,9 @@ use Rattle.carte_engine.specs.declared.answer.Answer.TheVariants as answer
 use Rattle.carte_report.specs.declared.status.Status.{Status}
 use Rattle.carte_report.specs.declared.status.Status.TheVariants.{Done, BookRefused, Usage, BuildRefused, ReadFault, WriteFault, DiskFault, BadState, StateFull, NoMemory}
 use Rattle.carte_top.specs.Around.{OverDisk, OverSink, IsUntouched, TakesAll, TakesFront}
-use Rattle.carte_top.specs.Found.{Commits, FitsIn, IsNeeded, IsOver, IsPut, Overfills, Replies}
-use Rattle.carte_top.specs.Outcome.{Cleaned, Clears, TellsDisk, TellsSink}
-use Rattle.carte_top.specs.Sound.{IsStation, MayBuild, MayClean, StaysAt}
+use Rattle.carte_top.specs.Found.{Clears, ClearsNot, Commits, FitsIn, GrowsBy, IsClearing, IsNeeded, IsOver, IsPut, Overfills, Replies}
+use Rattle.carte_top.specs.Outcome.{Cleaned, TellsDisk, TellsSink}
+use Rattle.carte_top.specs.Sound.{IsStation, MayBuild, StaysAt}
 use Rattle.carte_top.specs.Running.{BuildsOver, BuildsWith, BuiltOver, BuiltWith, CleanedWith, Cleans, CleansWith, LoadedOr, StaysOver}
 use Rattle.carte_top.proofs.Putting.{stays_kept}
 
@@ -31,11 +31,11 @@ module _ (limit : ℕ) (o : OverDisk) (m : Story) (f : ℕ) (q : Type 0) (e : o.
   put_from K B put = record {
     room = λ told. subst (λ (x : Story). FitsIn limit x.now.reads B) (e told) (put.room told);
     ends = λ told settled. put.ends told (settled_there told settled);
+    grows = λ told settled. subst (λ (x : Story). GrowsBy limit B x.now.reads o.new.now.reads) (e told) (put.grows told (settled_there told settled));
   }
 
   over_from : (B : Batch) (needed most : ℕ) → IsOver limit (loaded_from o m f q) B needed most → IsOver limit o B needed most
   over_from B needed most over = record {
-    filled = over.filled;
     needed_is = λ told. subst (λ (x : Story). IsNeeded limit x.now.reads B needed) (e told) (over.needed_is told);
     most_is = over.most_is;
     over = over.over;
@@ -50,7 +50,7 @@ module _ (limit : ℕ) (o : OverDisk) (m : Story) (f : ℕ) (q : Type 0) (e : o.
   replies_from w b K k Takes r = record { built = r.built; commits = commits_from w b K (answer.Built r.built) r.commits; keeps = r.keeps; takes = r.takes }
 
   overfills_from : (w : Asked) (b : Book) (K : SomeKept) (needed most : ℕ) → Overfills limit w (loaded_from o m f q) needed most b K → Overfills limit w o needed most b K
-  overfills_from w b K needed most r = record { answer = r.answer; batch = r.batch; answers = r.answers; over = over_from r.batch needed most r.over }
+  overfills_from w b K needed most r = record { answer = r.answer; batch = r.batch; answers = r.answers; filled = r.filled; over = over_from r.batch needed most r.over }
 
   told_from : (status : Status) → TellsDisk (loaded_from o m f q) status → TellsDisk o status
   told_from DiskFault told = subst (λ (n : ℕ). Rose n o.failed) count told
@@ -82,14 +82,17 @@ module _ (limit : ℕ) (o : OverDisk) (m : Story) (f : ℕ) (q : Type 0) (e : o.
     sink = builds.sink;
   }
 
-  clears_from : (k : OverSink) (Takes : OverSink → List ℕ → Type 0) → Clears limit (loaded_from o m f q) k Takes → Clears limit o k Takes
-  clears_from k Takes clears = (λ told settled. clears.0 told (settled_there told settled), clears.1)
+  clears_from : (K : SomeKept) (k : OverSink) (Takes : OverSink → List ℕ → Type 0) → Clears limit (loaded_from o m f q) k Takes K → Clears limit o k Takes K
+  clears_from K k Takes r = record { batch = r.batch; clearing = r.clearing; put = put_from K r.batch r.put; takes = r.takes }
 
-  cleaned_from : (K : SomeKept) (k : OverSink) (status : Status) → (o.tells → Keeps limit K o.old.now.reads) → CleanedWith limit (loaded_from o m f q) k status → Cleaned limit o k status
-  cleaned_from K k Done found did = (K, found, clears_from k TakesAll did)
-  cleaned_from K k WriteFault found did = (K, found, clears_from k TakesFront did)
+  clears_not_from : (K : SomeKept) (needed most : ℕ) → ClearsNot limit (loaded_from o m f q) needed most K → ClearsNot limit o needed most K
+  clears_not_from K needed most r = record { batch = r.batch; clearing = r.clearing; over = over_from r.batch needed most r.over }
+
+  cleaned_from : (K : SomeKept) (k : OverSink) (status : Status) → (o.tells → Keeps limit K o.old.now.reads) → CleanedWith limit K (loaded_from o m f q) k status → Cleaned limit o k status
+  cleaned_from K k Done found did = (K, found, clears_from K k TakesAll did)
+  cleaned_from K k WriteFault found did = (K, found, clears_from K k TakesFront did)
   cleaned_from K k DiskFault found did = did
-  cleaned_from K k (StateFull needed most) found did = (did.0, did.1, λ told. did.2 told ∙ e told, did.3)
+  cleaned_from K k (StateFull needed most) found did = ((K, found, clears_not_from K needed most did.0), did.1)
   cleaned_from K k NoMemory found did = (did.0, λ told. did.1 told ∙ e told)
   cleaned_from K k (BookRefused fault) found did = absurd did
   cleaned_from K k (Usage fault) found did = absurd did
@@ -100,7 +103,7 @@ module _ (limit : ℕ) (o : OverDisk) (m : Story) (f : ℕ) (q : Type 0) (e : o.
   pub cleans_from : (K : SomeKept) (k : OverSink) (status : Status) → (o.tells → Keeps limit K o.old.now.reads) → CleansWith limit K (loaded_from o m f q) k status → Cleans limit o k status
   cleans_from K k status found cleans = record {
     did = cleaned_from K k status found cleans.did;
-    stays = stays_from MayClean K found cleans.stays;
+    stays = stays_from IsClearing K found cleans.stays;
     disk = told_from status cleans.disk;
     sink = cleans.sink;
   }
@@ -138,4 +141,4 @@ module _ (limit : ℕ) (d : OverDisk) (k : OverSink) (story : d.tells → d.new 
   uncleaned (StateFull needed most) loaded = absurd loaded
 
   pub cleans_nothing : (status : Status) → LoadedOr limit d (Err status) → TellsDisk d status → Cleans limit d k status
-  cleans_nothing status loaded told = let parts = uncleaned status loaded in record { did = parts.0; stays = stays_unloaded MayClean; disk = told; sink = parts.1 }
+  cleans_nothing status loaded told = let parts = uncleaned status loaded in record { did = parts.0; stays = stays_unloaded IsClearing; disk = told; sink = parts.1 }

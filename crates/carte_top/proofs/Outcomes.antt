@@ -13,6 +13,7 @@ use Rattle.carte_top.specs.Sound.{KeepsOn}
 use Rattle.carte_top.specs.Outcome.{Asks, Does, Ended, IsSpared, KeepsRefused, Ran}
 use Rattle.carte_top.specs.Running.{IsRun, ReadsEnough, Reports, Runs, is_brief, is_spoken, usage_of}
 use Rattle.carte_top.specs.Whole.{IsOutcome}
+use Rattle.carte_top.proofs.Completing.{comes}
 use Rattle.carte_top.proofs.Sounds.{sound_run}
 
 module _ (limit : ℕ) (w : Asked) (s : OverSource) (d : OverDisk) (k : OverSink) where
@@ -34,7 +35,7 @@ module _ (limit : ℕ) (w : Asked) (s : OverSource) (d : OverDisk) (k : OverSink
 
   of_full : (c : Command) (needed most : ℕ) → Does c limit w s d k (StateFull needed most) → IsUntouched k × IsSpared d
   of_full command.Build needed most did = (did.1, did.0.4.2.over.story)
-  of_full command.Clean needed most did = (did.1.3, did.1.2)
+  of_full command.Clean needed most did = (did.1.1, did.1.0.2.over.story)
 
   of_memory : (c : Command) → Does c limit w s d k NoMemory → IsUntouched k × IsSpared d
   of_memory command.Build did = did
@@ -96,4 +97,5 @@ outcome limit a old new was reports ended =
       disk = run.disk;
       sink = run.sink;
       ended = ended;
+      complete = λ due is. comes limit a.words a.book a.state a.out new due run.did is;
     }

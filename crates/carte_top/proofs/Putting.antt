@@ -5,20 +5,20 @@ use Rattle.carte_io.specs.Disk.{CountsUp, IsSettled, LeavesOnly, Story, moments}
 use Rattle.carte_io.specs.Stations.{IsAtOneOf, Step, StepsThrough}
 use Rattle.carte_io.proofs.Acknowledged.{steps_leave}
 use Rattle.carte_io.proofs.Images.{leaves_more, leaves_none, settled_image}
-use Rattle.carte_journal.specs.Frames.{Ends, end_of, reading}
-use Rattle.carte_journal.specs.Journals.{calls_of}
+use Rattle.carte_journal.specs.Frames.{BodyAt, Ends, Reading, end_of, reading}
+use Rattle.carte_journal.specs.Journals.{Standing, calls_of, committed}
 use Rattle.carte_record.specs.Bodies.{spelled_batch}
 use Rattle.carte_record.specs.Empty.{is_empty}
 use Rattle.carte_record.specs.Folds.{apply}
 use Rattle.carte_record.specs.Kept.{SomeKept, nothing_kept}
 use Rattle.carte_record.specs.declared.batch.Batch.{Batch}
 use Rattle.carte_state.specs.Folding.{IsFolded, Keeps}
-use Rattle.carte_state.specs.States.{HasRoom, IsKeptOn, IsLoaded, Stand, kept_in, needs_for, step_for}
+use Rattle.carte_state.specs.States.{HasRoom, IsAfter, IsKeptOn, IsLoaded, Stand, kept_in, needs_for, step_for}
 use Rattle.carte_state.specs.declared.fault.ApplyFault.{ApplyFault}
 use Rattle.carte_state.specs.declared.fault.ApplyFault.TheVariants as applying
 use Rattle.carte_state.proofs.Applies.{kept_leaves}
 use Rattle.carte_top.specs.Around.{OverDisk}
-use Rattle.carte_top.specs.Found.{EndsWith, FitsIn, IsNeeded}
+use Rattle.carte_top.specs.Found.{EndsWith, FitsIn, GrowsBy, IsNeeded, IsOver, IsPut}
 use Rattle.carte_top.specs.Outcome.{TellsDisk}
 use Rattle.carte_top.specs.Running.{PutOrNot, uncommitted_of}
 
@@ -28,6 +28,13 @@ kept_on e s loaded settled = record { bodies = loaded.bodies; rest = record { re
 pub keeps_loaded : (e : Stand) (file : List ℕ) → IsLoaded e file → Keeps e.journal.limit (kept_in e) file
 keeps_loaded e file loaded = record { gate = e.journal.gate; bodies = loaded.bodies; reads = loaded.read.reads; folded = loaded.folded }
 
+grown : (e f : Stand) (B : Batch) (empty : Bool) → f.journal ≡ (if empty then e.journal else committed e.journal (spelled_batch B)) → f.journal.gate ≡ (if empty then e.journal.gate else end_of e.journal.gate (spelled_batch B))
+grown e f B true is = ap (λ (j : Standing). j.gate) is
+grown e f B false is = ap (λ (j : Standing). j.gate) is
+
+one_end : (r : Reading) (gate end : ℕ) (bodies more : List BodyAt) → r ≡ Ends gate bodies → r ≡ Ends end more → gate ≡ end
+one_end r gate end bodies more one two = let both : Ends gate bodies ≡ Ends end more = sym one ∙ two in cc
+
 -- room in the journal is room in the file
 pub fits_in : (e : Stand) (file : List ℕ) (B : Batch) → IsLoaded e file → HasRoom e B → FitsIn e.journal.limit file B
 fits_in e file B loaded (inl empty) = inl empty
@@ -35,8 +42,7 @@ fits_in e file B loaded (inr room) = inr (λ needed is. subst (λ n. n ≤ e.jou
 
 pub needed_in : (e : Stand) (file : List ℕ) (B : Batch) (needed : ℕ) → IsLoaded e file → needed ≡ needs_for e B → IsNeeded e.journal.limit file B needed
 needed_in e file B needed loaded is gate bodies reads =
-    let both : Ends gate bodies ≡ Ends e.journal.gate loaded.bodies = sym reads ∙ loaded.read.reads in
-    let same : gate ≡ e.journal.gate = cc in
+    let same : gate ≡ e.journal.gate = one_end (reading e.journal.limit file) gate e.journal.gate bodies loaded.bodies reads loaded.read.reads in
     is ∙ ap (λ g. end_of g (spelled_batch B) + 1) (sym same)
 
 -- what the file keeps behind a commit
@@ -50,6 +56,22 @@ ends_with limit L f u limit_is kept on = record {
     folded = subst (IsFolded nothing_kept on.bodies) kept on.folded;
   };
 }
+
+-- a commit that has passed
+pub is_put : (e f : Stand) (d : OverDisk) (B : Batch) → (d.tells → IsLoaded e d.old.now.reads) → HasRoom e B → IsAfter B e f → f.journal.limit ≡ e.journal.limit → (d.tells → IsKeptOn e d.old → IsKeptOn f d.new)
+    → IsPut e.journal.limit d (kept_in e) B
+is_put e f d B loaded room after limit rest = record {
+  room = λ told. fits_in e d.old.now.reads B (loaded told) room;
+  ends = λ told settled. ends_with e.journal.limit (apply B (kept_in e)) f d.new limit after.kept (rest told (kept_on e d.old (loaded told) settled));
+  grows = λ told settled. grows told settled;
+}
+  where
+    grows : d.tells → IsSettled d.old.now → GrowsBy e.journal.limit B d.old.now.reads d.new.now.reads
+    grows told settled gate bodies reads =
+        let on = rest told (kept_on e d.old (loaded told) settled) in
+        let same : gate ≡ e.journal.gate = one_end (reading e.journal.limit d.old.now.reads) gate e.journal.gate bodies (loaded told).bodies reads (loaded told).read.reads in
+        let end : f.journal.gate ≡ (if is_empty B then gate else end_of gate (spelled_batch B)) = subst (λ (g : ℕ). f.journal.gate ≡ (if is_empty B then g else end_of g (spelled_batch B))) (sym same) (grown e f B (is_empty B) after.journal) in
+        (on.bodies, ap (λ l. reading l d.new.now.reads) (sym limit) ∙ on.rest.read.reads ∙ ap (λ g. Ends g on.bodies) end)
 
 station : (limit : ℕ) (K : SomeKept) (empty : Bool) (step : Step SomeKept) (file : List ℕ) → IsAtOneOf (Keeps limit) K (if empty then [] else step ∷ []) file
     → Keeps limit K file ⊎ Keeps limit step.to file
@@ -79,6 +101,14 @@ not_true false never = refl
 
 -- why a batch wasn't put in
 module _ (e : Stand) (d : OverDisk) (B : Batch) (loaded : d.tells → IsLoaded e d.old.now.reads) where
+  pub is_over : (needed limit : ℕ) → needed ≡ needs_for e B → limit ≡ e.journal.limit → limit < needed → (d.tells → d.new ≡ d.old) → IsOver e.journal.limit d B needed limit
+  is_over needed limit needed_is limit_is over story = record {
+    needed_is = λ told. needed_in e d.old.now.reads B needed (loaded told) needed_is;
+    most_is = limit_is;
+    over = subst (λ n. n < needed) limit_is over;
+    story = story;
+  }
+
   pub not_put : (fault : ApplyFault) → ¬ (is_empty B ≡ true)
       → ((needed limit : ℕ) → fault ≡ applying.Full needed limit → (needed ≡ needs_for e B) × (limit ≡ e.journal.limit) × (limit < needed) × (d.tells → d.new ≡ d.old))
       → (fault ≡ applying.NoMemory → d.tells → d.new ≡ d.old)
@@ -86,13 +116,7 @@ module _ (e : Stand) (d : OverDisk) (B : Batch) (loaded : d.tells → IsLoaded e
   not_put applying.DiskFault filled full spared = tt
   not_put (applying.Full needed limit) filled full spared =
       let why = full needed limit refl in
-      record {
-        filled = not_true (is_empty B) filled;
-        needed_is = λ told. needed_in e d.old.now.reads B needed (loaded told) why.0;
-        most_is = why.1;
-        over = subst (λ n. n < needed) why.1 why.2;
-        story = why.3;
-      }
+      (not_true (is_empty B) filled, is_over needed limit why.0 why.1 why.2 why.3)
   not_put applying.NoMemory filled full spared = spared refl
 
 pub told_put : (d : OverDisk) (fault : ApplyFault) → (fault ≡ applying.DiskFault → Rose d.failed_before d.failed) → (¬ (fault ≡ applying.DiskFault) → d.failed ≡ d.failed_before) → TellsDisk d (uncommitted_of fault)

@@ -10,7 +10,8 @@ use Rattle.carte_sound.proofs.Histories.{nothing_sound}
 use Rattle.carte_words.specs.declared.words.Words.{Words as Asked}
 use Rattle.carte_top.specs.Around.{OverSource, OverDisk, IsUnvisited}
 use Rattle.carte_top.specs.Chosen.{scheduler_of, how_of}
-use Rattle.carte_top.specs.Sound.{IsSoundRun, IsStation, KeepsSound, MayBuild, MayClean, StaysAt, StaysSound, Visits}
+use Rattle.carte_top.specs.Found.{IsClearing}
+use Rattle.carte_top.specs.Sound.{IsSoundRun, IsStation, KeepsSound, MayBuild, StaysAt, StaysSound, Visits}
 use Rattle.carte_top.proofs.Keeping.{lead_sound}
 use Rattle.carte_top.proofs.Putting.{stays_kept}
 
@@ -31,13 +32,13 @@ built_sound limit w b d stays told settled H (K, keeps, sound) distinct =
         (apply B K, there, lead_sound (how_of w.rebuilder) K H b w.targets B sound distinct (scheduler_of w.scheduler) leads.0 leads.1)
 
 -- under a clearing
-cleaned_sound : (limit : ℕ) (d : OverDisk) → StaysAt limit MayClean d → StaysSound limit [] d
+cleaned_sound : (limit : ℕ) (d : OverDisk) → StaysAt limit IsClearing d → StaysSound limit [] d
 cleaned_sound limit d stays told settled H (K, keeps, sound) distinct =
-    leaves_more d.old d.new (IsStation limit MayClean K) (KeepsSound limit (H ++ [])) at (stays told settled K keeps)
+    leaves_more d.old d.new (IsStation limit IsClearing K) (KeepsSound limit (H ++ [])) at (stays told settled K keeps)
   where
-    at : (file : List ℕ) → IsStation limit MayClean K file → KeepsSound limit (H ++ []) file
+    at : (file : List ℕ) → IsStation limit IsClearing K file → KeepsSound limit (H ++ []) file
     at file (inl there) = (K, there, behind_sound K H [] sound)
-    at file (inr (B, may, there)) = (apply B K, there, subst (λ (L : SomeKept). IsSound L (H ++ [])) (sym may) (nothing_sound (H ++ [])))
+    at file (inr (B, may, there)) = (apply B K, there, subst (λ (L : SomeKept). IsSound L (H ++ [])) (sym may.leaves) (nothing_sound (H ++ [])))
 
 pub sound_run : (limit : ℕ) (words : List (List ℕ)) (s : OverSource) (d : OverDisk) → Visits limit words s d → IsSoundRun limit words s d
 sound_run limit words s d (inl unvisited) = ([], tt, unvisited_sound limit d unvisited)

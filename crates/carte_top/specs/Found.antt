@@ -1,5 +1,5 @@
 -- What a run has found, and what a build has made of it.
-use Rattle.std.specs.Prelude.{ℕ, ◌≡◌, ◌⊎◌, ◌+◌, ◌<◌, ◌≤◌, true, false, List, [], ◌++◌, length, Ok, Err}
+use Rattle.std.specs.Prelude.{ℕ, ◌≡◌, ◌⊎◌, ◌+◌, ◌<◌, ◌≤◌, true, false, List, [], ◌∷◌, ◌++◌, codes, length, Ok, Err, if◌then◌else◌}
 use Rattle.carte_io.specs.Disk.{IsSettled, Moment}
 use Rattle.carte_journal.specs.Frames.{BodyAt, Ends, end_of, reading}
 use Rattle.carte_value.specs.declared.kind.Kind.{Kind}
@@ -7,10 +7,12 @@ use Rattle.carte_book.specs.Book.{Book}
 use Rattle.carte_book.specs.declared.fault.BookFault.{BookFault}
 use Rattle.carte_book.specs.declared.fault.BookFault.TheVariants.{NoMemory as BookNoMemory}
 use Rattle.carte_record.specs.declared.batch.Batch.{Batch}
+use Rattle.carte_record.specs.declared.start.Start.TheVariants.{Cleared}
 use Rattle.carte_record.specs.Bodies.{spelled_batch}
 use Rattle.carte_record.specs.Empty.{is_empty}
 use Rattle.carte_record.specs.Folds.{apply}
-use Rattle.carte_record.specs.Kept.{SomeKept}
+use Rattle.carte_record.specs.Kept.{SomeKept, nothing_kept}
+use Rattle.carte_sound.specs.LeadsTo.{empty_batch}
 use Rattle.carte_state.specs.Folding.{Keeps}
 use Rattle.carte_words.specs.declared.words.Words.{Words as Asked}
 use Rattle.carte_engine.specs.declared.answer.Answer.{Answer}
@@ -59,16 +61,35 @@ pub record EndsWith (limit : ℕ) (K : SomeKept) (m : Moment) : Type 0 where
 abbrev pub IsNeeded : ℕ → List ℕ → Batch → ℕ → Type 0
 IsNeeded limit file B needed = (gate : ℕ) (bodies : List BodyAt) → reading limit file ≡ Ends gate bodies → needed ≡ end_of gate (spelled_batch B) + 1
 
+-- which aren't more than the limit
+abbrev pub HasRoomFor : ℕ → List ℕ → Batch → Type 0
+HasRoomFor limit file B = (needed : ℕ) → IsNeeded limit file B needed → needed ≤ limit
+
 -- there is room for the batch; an empty one takes none
 abbrev pub FitsIn : ℕ → List ℕ → Batch → Type 0
-FitsIn limit file B = (is_empty B ≡ true) ⊎ ((needed : ℕ) → IsNeeded limit file B needed → needed ≤ limit)
+FitsIn limit file B = (is_empty B ≡ true) ⊎ HasRoomFor limit file B
 
--- ---- the build
+-- the frames of a file have grown by just that of the batch, and by none for an empty one
+abbrev pub GrowsBy : ℕ → Batch → List ℕ → List ℕ → Type 0
+GrowsBy limit B file after = (gate : ℕ) (bodies : List BodyAt) → reading limit file ≡ Ends gate bodies
+    → (all : List BodyAt) × (reading limit after ≡ Ends (if is_empty B then gate else end_of gate (spelled_batch B)) all)
 
--- It was put into what was kept. Under a crash at any later moment the file keeps it.
+-- ---- the commit
+
+-- The batch was put into what was kept, and nothing besides. Under a crash at any later moment the file keeps it.
 pub record IsPut (limit : ℕ) (d : OverDisk) (K : SomeKept) (B : Batch) : Type 0 where
   pub room : d.tells → FitsIn limit d.old.now.reads B
   pub ends : d.tells → IsSettled d.old.now → EndsWith limit (apply B K) d.new.now
+  pub grows : d.tells → IsSettled d.old.now → GrowsBy limit B d.old.now.reads d.new.now.reads
+
+-- the file would need so many bytes with the batch, which are more than the limit; nothing was written
+pub record IsOver (limit : ℕ) (d : OverDisk) (B : Batch) (needed most : ℕ) : Type 0 where
+  pub needed_is : d.tells → IsNeeded limit d.old.now.reads B needed
+  pub most_is : most ≡ limit
+  pub over : limit < needed
+  pub story : d.tells → d.new ≡ d.old
+
+-- ---- the build
 
 -- a build of the words' targets answers so, rightly, and may commit the batch
 abbrev pub Answers : Asked → Book → SomeKept → Answer → Batch → Type 0
@@ -91,17 +112,30 @@ pub record Replies (limit : ℕ) (w : Asked) (d : OverDisk) (k : OverSink) (Take
   pub keeps : Under K b (KeepsBy (scheduler_of w.scheduler) (how_of w.rebuilder) K (apply commits.batch K) b w.targets)
   pub takes : k.tells → Takes k (reply_to w built)
 
--- the batch isn't empty, and the file would need so many bytes with it, which are more than the limit
-pub record IsOver (limit : ℕ) (d : OverDisk) (B : Batch) (needed most : ℕ) : Type 0 where
-  pub filled : is_empty B ≡ false
-  pub needed_is : d.tells → IsNeeded limit d.old.now.reads B needed
-  pub most_is : most ≡ limit
-  pub over : limit < needed
-  pub story : d.tells → d.new ≡ d.old
-
--- a batch that a build may commit is
+-- a batch that a build may commit isn't empty, and is too much
 pub record Overfills (limit : ℕ) (w : Asked) (d : OverDisk) (needed most : ℕ) (b : Book) (K : SomeKept) : Type 0 where
   pub answer : Answer
   pub batch : Batch
   pub answers : Answers w b K answer batch
+  pub filled : is_empty batch ≡ false
+  pub over : IsOver limit d batch needed most
+
+-- ---- the clearing
+
+-- its batch leaves nothing: an empty one where nothing is kept, and else one that clears and brings nothing
+pub record IsClearing (K : SomeKept) (B : Batch) : Type 0 where
+  pub leaves : apply B K ≡ nothing_kept
+  pub least : ((K ≡ nothing_kept) × (B ≡ empty_batch)) ⊎ (¬ (K ≡ nothing_kept) × (B ≡ record empty_batch { start = Cleared }))
+
+-- nothing is kept any more, and that was said
+pub record Clears (limit : ℕ) (d : OverDisk) (k : OverSink) (Takes : OverSink → List ℕ → Type 0) (K : SomeKept) : Type 0 where
+  pub batch : Batch
+  pub clearing : IsClearing K batch
+  pub put : IsPut limit d K batch
+  pub takes : k.tells → Takes k (codes "cleaned" ++ 10 ∷ [])
+
+-- the clearing's batch is too much
+pub record ClearsNot (limit : ℕ) (d : OverDisk) (needed most : ℕ) (K : SomeKept) : Type 0 where
+  pub batch : Batch
+  pub clearing : IsClearing K batch
   pub over : IsOver limit d batch needed most

@@ -3,6 +3,7 @@ pub mod Chosen
 pub mod Found
 pub mod Outcome
 pub mod Sound
+pub mod Due
 pub mod Whole
 pub mod Running
 pub mod Histories

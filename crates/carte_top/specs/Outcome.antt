@@ -1,9 +1,7 @@
 -- What a run has done, status by status.
-use Rattle.std.specs.Prelude.{ℕ, ◌≡◌, ◌⊎◌, ◌<◌, List, ◌∷◌, [], ◌++◌, codes, Ok, Err}
+use Rattle.std.specs.Prelude.{ℕ, ◌≡◌, ◌⊎◌, List, Ok, Err}
 use Rattle.carte_io.specs.Causes.{Rose}
-use Rattle.carte_io.specs.Disk.{IsSettled}
 use Rattle.carte_book.specs.declared.reason.Reason.{Reason}
-use Rattle.carte_record.specs.Kept.{nothing_kept}
 use Rattle.carte_state.specs.Folding.{IsBadState}
 use Rattle.carte_words.specs.Words.{words_of}
 use Rattle.carte_words.specs.declared.words.Command.{Command}
@@ -14,7 +12,7 @@ use Rattle.carte_report.specs.declared.status.Status.{Status}
 use Rattle.carte_report.specs.declared.status.Status.TheVariants.{Done, BookRefused, Usage, BuildRefused, ReadFault, WriteFault, DiskFault, BadState, StateFull, NoMemory}
 use Rattle.carte_report.specs.Texts.{error_line}
 use Rattle.carte_top.specs.Around.{OverSource, OverDisk, OverSink, IsUnread, IsUnvisited, IsUntouched, TakesAll, TakesFront, Says}
-use Rattle.carte_top.specs.Found.{Holds, HasBook, Refuses, Found, EndsWith, Commits, Replies, Overfills}
+use Rattle.carte_top.specs.Found.{Holds, HasBook, Refuses, Found, Commits, Replies, Overfills, Clears, ClearsNot}
 
 -- the words ask for something that is so
 abbrev pub Asks : List (List ℕ) → (Asked → Type 0) → Type 0
@@ -41,17 +39,13 @@ Built limit w s d k (BadState offset) = HasBook w.kind s × IsBad limit d offset
 Built limit w s d k (StateFull needed most) = Holds w.kind s (λ b. Found limit d (Overfills limit w d needed most b)) × IsUntouched k
 Built limit w s d k NoMemory = IsUntouched k × IsSpared d
 
--- nothing is kept any more, and that was said
-abbrev pub Clears : ℕ → OverDisk → OverSink → (OverSink → List ℕ → Type 0) → Type 0
-Clears limit d k Takes = (d.tells → IsSettled d.old.now → EndsWith limit nothing_kept d.new.now) × (k.tells → Takes k (codes "cleaned" ++ 10 ∷ []))
-
 -- what a clearing of the state has done
 abbrev pub Cleaned : ℕ → OverDisk → OverSink → Status → Type 0
-Cleaned limit d k Done = Found limit d (λ K. Clears limit d k TakesAll)
-Cleaned limit d k WriteFault = Found limit d (λ K. Clears limit d k TakesFront)
+Cleaned limit d k Done = Found limit d (Clears limit d k TakesAll)
+Cleaned limit d k WriteFault = Found limit d (Clears limit d k TakesFront)
 Cleaned limit d k DiskFault = IsUntouched k
 Cleaned limit d k (BadState offset) = IsBad limit d offset × IsUntouched k
-Cleaned limit d k (StateFull needed most) = (limit < needed) × (most ≡ limit) × (d.tells → d.new ≡ d.old) × IsUntouched k
+Cleaned limit d k (StateFull needed most) = Found limit d (ClearsNot limit d needed most) × IsUntouched k
 Cleaned limit d k NoMemory = IsUntouched k × IsSpared d
 Cleaned limit d k _ = ⊥
 

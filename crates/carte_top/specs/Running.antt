@@ -14,6 +14,7 @@ use Rattle.carte_book.specs.declared.fault.BookFault.{BookFault}
 use Rattle.carte_book.specs.declared.fault.BookFault.TheVariants.{Limit, NoMemory as BookNoMemory}
 use Rattle.carte_book.specs.declared.fault.Which.TheVariants.{Bytes}
 use Rattle.carte_record.specs.declared.batch.Batch.{Batch}
+use Rattle.carte_record.specs.Empty.{is_empty}
 use Rattle.carte_record.specs.Folds.{apply}
 use Rattle.carte_record.specs.Kept.{SomeKept}
 use Rattle.carte_state.specs.Folding.{Keeps, IsBadState}
@@ -28,9 +29,9 @@ use Rattle.carte_report.specs.declared.status.Status.{Status}
 use Rattle.carte_report.specs.declared.status.Status.TheVariants.{Done, BookRefused, Usage, BuildRefused, ReadFault, WriteFault, DiskFault, BadState, StateFull, NoMemory}
 use Rattle.carte_top.specs.Around.{OverSource, OverDisk, OverSink, IsUnvisited, IsUntouched, TakesAll, TakesFront}
 use Rattle.carte_top.specs.Chosen.{BookOfKind}
-use Rattle.carte_top.specs.Found.{Holds, Refuses, Found, IsPut, IsOver, Commits, Replies, Overfills}
-use Rattle.carte_top.specs.Outcome.{Asks, IsBad, IsSpared, Built, Clears, Cleaned, Does, Ran, TellsSource, TellsDisk, TellsSink}
-use Rattle.carte_top.specs.Sound.{IsStation, StaysAt, MayBuild, MayClean, KeepsOn}
+use Rattle.carte_top.specs.Found.{Holds, Refuses, Found, IsPut, IsOver, Commits, Replies, Overfills, IsClearing, Clears, ClearsNot}
+use Rattle.carte_top.specs.Outcome.{Asks, IsBad, IsSpared, Built, Cleaned, Does, Ran, TellsSource, TellsDisk, TellsSink}
+use Rattle.carte_top.specs.Sound.{IsStation, StaysAt, MayBuild, KeepsOn}
 
 -- ---- the book
 
@@ -91,7 +92,7 @@ pub record LoadsState (limit : ℕ) (d : OverDisk) (result : Result Stand Status
 abbrev pub PutOrNot : ℕ → OverDisk → SomeKept → Batch → Result (Unit {0}) Status → Type 0
 PutOrNot limit d K B (Ok u) = IsPut limit d K B
 PutOrNot limit d K B (Err DiskFault) = Unit {0}
-PutOrNot limit d K B (Err (StateFull needed most)) = IsOver limit d B needed most
+PutOrNot limit d K B (Err (StateFull needed most)) = (is_empty B ≡ false) × IsOver limit d B needed most
 PutOrNot limit d K B (Err NoMemory) = IsSpared d
 PutOrNot limit d K B (Err status) = ⊥
 
@@ -122,7 +123,7 @@ abbrev pub Settled : ℕ → List ℕ → SomeKept → Batch → OverDisk → Ov
 Settled limit text K B d k Done = IsPut limit d K B × (k.tells → TakesAll k text)
 Settled limit text K B d k WriteFault = IsPut limit d K B × (k.tells → TakesFront k text)
 Settled limit text K B d k DiskFault = IsUntouched k
-Settled limit text K B d k (StateFull needed most) = IsOver limit d B needed most × IsUntouched k
+Settled limit text K B d k (StateFull needed most) = (is_empty B ≡ false) × IsOver limit d B needed most × IsUntouched k
 Settled limit text K B d k NoMemory = IsUntouched k × IsSpared d
 Settled limit text K B d k status = ⊥
 
@@ -161,19 +162,19 @@ abbrev pub BuildsOver : ℕ → Asked → Book → OverDisk → OverSink → Sta
 BuildsOver limit w b d k status = StateRun (BuiltOver limit w b d k status) (StaysAt limit (MayBuild w b) d) d k status
 
 -- a clearing of what is kept, and of a disk
-abbrev pub CleanedWith : ℕ → OverDisk → OverSink → Status → Type 0
-CleanedWith limit d k Done = Clears limit d k TakesAll
-CleanedWith limit d k WriteFault = Clears limit d k TakesFront
-CleanedWith limit d k DiskFault = IsUntouched k
-CleanedWith limit d k (StateFull needed most) = (limit < needed) × (most ≡ limit) × (d.tells → d.new ≡ d.old) × IsUntouched k
-CleanedWith limit d k NoMemory = IsUntouched k × IsSpared d
-CleanedWith limit d k status = ⊥
+abbrev pub CleanedWith : ℕ → SomeKept → OverDisk → OverSink → Status → Type 0
+CleanedWith limit K d k Done = Clears limit d k TakesAll K
+CleanedWith limit K d k WriteFault = Clears limit d k TakesFront K
+CleanedWith limit K d k DiskFault = IsUntouched k
+CleanedWith limit K d k (StateFull needed most) = ClearsNot limit d needed most K × IsUntouched k
+CleanedWith limit K d k NoMemory = IsUntouched k × IsSpared d
+CleanedWith limit K d k status = ⊥
 
 abbrev pub CleansWith : ℕ → SomeKept → OverDisk → OverSink → Status → Type 0
-CleansWith limit K d k status = StateRun (CleanedWith limit d k status) (StaysOver limit MayClean K d) d k status
+CleansWith limit K d k status = StateRun (CleanedWith limit K d k status) (StaysOver limit IsClearing K d) d k status
 
 abbrev pub Cleans : ℕ → OverDisk → OverSink → Status → Type 0
-Cleans limit d k status = StateRun (Cleaned limit d k status) (StaysAt limit MayClean d) d k status
+Cleans limit d k status = StateRun (Cleaned limit d k status) (StaysAt limit IsClearing d) d k status
 
 -- ---- a run over a book and a state
 

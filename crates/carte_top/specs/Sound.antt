@@ -4,7 +4,7 @@ use Rattle.carte_io.specs.Disk.{IsSettled, LeavesOnly}
 use Rattle.carte_book.specs.Book.{Book}
 use Rattle.carte_record.specs.declared.batch.Batch.{Batch}
 use Rattle.carte_record.specs.Folds.{apply}
-use Rattle.carte_record.specs.Kept.{SomeKept, nothing_kept}
+use Rattle.carte_record.specs.Kept.{SomeKept}
 use Rattle.carte_sound.specs.Base.{HasDistinctDigests}
 use Rattle.carte_sound.specs.Sound.{IsSound}
 use Rattle.carte_state.specs.Folding.{Keeps}
@@ -14,7 +14,7 @@ use Rattle.carte_engine.specs.declared.answer.Answer.{Answer}
 use Rattle.carte_engine.specs.Answers.{Leads, Under}
 use Rattle.carte_top.specs.Around.{OverSource, OverDisk, IsUnvisited}
 use Rattle.carte_top.specs.Chosen.{scheduler_of, how_of}
-use Rattle.carte_top.specs.Found.{Holds}
+use Rattle.carte_top.specs.Found.{Holds, IsClearing}
 use Rattle.carte_top.specs.Outcome.{Asks}
 
 -- a file keeps what was kept before a run, or what such a batch makes of that
@@ -29,12 +29,8 @@ StaysAt limit May d = d.tells → IsSettled d.old.now → (K : SomeKept) → Kee
 abbrev pub MayBuild : Asked → Book → SomeKept → Batch → Type 0
 MayBuild w b K B = Under K b ((a : Answer) × Leads (scheduler_of w.scheduler) (how_of w.rebuilder) K b w.targets a B)
 
--- the batch leaves nothing
-abbrev pub MayClean : SomeKept → Batch → Type 0
-MayClean K B = apply B K ≡ nothing_kept
-
 abbrev pub KeepsOn : ℕ → Asked → OverSource → OverDisk → Type 0
-KeepsOn limit w s d = ((w.command ≡ command.Build) × Holds w.kind s (λ b. StaysAt limit (MayBuild w b) d)) ⊎ ((w.command ≡ command.Clean) × StaysAt limit MayClean d)
+KeepsOn limit w s d = ((w.command ≡ command.Build) × Holds w.kind s (λ b. StaysAt limit (MayBuild w b) d)) ⊎ ((w.command ≡ command.Clean) × StaysAt limit IsClearing d)
 
 -- the disk was called for a build whose book was read, or for a clearing; and then a crash leaves what is said above
 abbrev pub Visits : ℕ → List (List ℕ) → OverSource → OverDisk → Type 0

@@ -1,9 +1,8 @@
 use Rattle.std.proofs.Common.{Err, ap}
-use Rattle.carte_record.specs.Folds.{apply}
 use Rattle.carte_state.specs.States.{kept_in}
 use Rattle.carte_state.specs.declared.fault.ApplyFault.{ApplyFault}
 use Rattle.carte_top.specs.Around.{over_disk}
-use Rattle.carte_top.proofs.Putting.{ends_with, fits_in, kept_on, not_put, stays_with, told_put}
+use Rattle.carte_top.proofs.Putting.{is_put, kept_on, not_put, stays_with, told_put}
 use Rattle.carte_top.proofs.commit.commit.Goals as goal
 
 pub returns-in-Ok : goal.returns-in-Ok
@@ -11,12 +10,9 @@ returns-in-Ok g c =
     let e = c.args.engine.now in
     let s = g.D.Disk.story c.args.state.now in
     let u = g.D.Disk.story c.commit.new.disk in
+    let d = over_disk g.D.Disk.tells g.D.Disk.story g.D.Disk.faults c.args.state.now c.commit.new.disk in
     record {
-      put = record {
-        room = λ told. fits_in e s.now.reads c.args.batch.now (c.requires.loaded told) c.in-Ok.ensures.room;
-        ends = λ told settled. ends_with e.journal.limit (apply c.args.batch.now (kept_in e)) c.commit.new.self u c.in-Ok.ensures.limit c.in-Ok.ensures.place.kept
-            (c.in-Ok.ensures.rest told (kept_on e s (c.requires.loaded told) settled));
-      };
+      put = is_put e c.commit.new.self d c.args.batch.now c.requires.loaded c.in-Ok.ensures.room c.in-Ok.ensures.place c.in-Ok.ensures.limit c.in-Ok.ensures.rest;
       stays = λ told settled. stays_with e s u c.args.batch.now (g.met.D.Disk.in_order c.commit.new.disk told) (c.commit.ensures.any_moment told (kept_on e s (c.requires.loaded told) settled));
       disk = c.in-Ok.ensures.cause.passed (λ is. cc);
     }

@@ -1,0 +1,86 @@
+-- Which status is due, where bytes are told: by the words first, then by the book, the state, the room for a batch, and last by what a build answers.
+use Rattle.std.specs.Prelude.{ℕ, ◌≡◌, ◌<◌, false, List, [], ◌∷◌, ◌++◌, Ok, Err}
+use Rattle.carte_value.specs.declared.kind.Kind.{Kind}
+use Rattle.carte_book.specs.Book.{Book}
+use Rattle.carte_record.specs.declared.batch.Batch.{Batch}
+use Rattle.carte_record.specs.Empty.{is_empty}
+use Rattle.carte_record.specs.Kept.{SomeKept}
+use Rattle.carte_sound.specs.Base.{HasDistinctDigests}
+use Rattle.carte_sound.specs.Sound.{IsSound}
+use Rattle.carte_state.specs.Folding.{Keeps, IsBadState}
+use Rattle.carte_words.specs.Words.{words_of}
+use Rattle.carte_words.specs.declared.words.Command.{Command}
+use Rattle.carte_words.specs.declared.words.Command.TheVariants as command
+use Rattle.carte_words.specs.declared.words.Words.{Words as Asked}
+use Rattle.carte_engine.specs.declared.answer.Answer.{Answer}
+use Rattle.carte_engine.specs.Answers.{IsPlan}
+use Rattle.carte_engine.specs.Schedulers.{IsServed, IsRefusedFor}
+use Rattle.carte_report.specs.declared.status.Status.{Status}
+use Rattle.carte_report.specs.declared.status.Status.TheVariants.{Done, BookRefused, Usage, BuildRefused, ReadFault, WriteFault, DiskFault, BadState, StateFull, NoMemory}
+use Rattle.carte_top.specs.Around.{OverSource, OverDisk}
+use Rattle.carte_top.specs.Chosen.{scheduler_of, how_of, BookOfKind}
+use Rattle.carte_top.specs.Found.{FitsIn, HasRoomFor, IsNeeded, IsClearing}
+use Rattle.carte_top.specs.Outcome.{Asks}
+
+-- ---- what is there
+
+-- the source tells its bytes, and they are such a book
+abbrev pub IsBook : Kind → OverSource → (Book → Type 0) → Type 0
+IsBook kind s P = s.tells × (b : Book) × BookOfKind kind s.old.left (Ok b) × P b
+
+-- the disk tells what it reads, and the file keeps this
+abbrev pub IsKept : ℕ → OverDisk → (SomeKept → Type 0) → Type 0
+IsKept limit d P = d.tells × (K : SomeKept) × Keeps limit K d.old.now.reads × P K
+
+-- which is sound for a history, whose digests and the book's are distinct
+abbrev pub IsFound : ℕ → OverDisk → Book → (SomeKept → Type 0) → Type 0
+IsFound limit d b P = IsKept limit d (λ K. (H : List Book) × IsSound K H × HasDistinctDigests (H ++ b ∷ []) × P K)
+
+abbrev pub IsBadNow : ℕ → OverDisk → ℕ → Type 0
+IsBadNow limit d at = d.tells × IsBadState limit d.old.now.reads at
+
+-- ---- room
+
+-- the batch is that of a right plan
+abbrev pub IsPlanned : Asked → Book → SomeKept → Batch → Type 0
+IsPlanned w b K B = (a : Answer) × IsPlan (scheduler_of w.scheduler) (how_of w.rebuilder) K b w.targets (record { batch = B; answer = a })
+
+-- there is room for each such batch
+abbrev pub AllFit : ℕ → OverDisk → (Batch → Type 0) → Type 0
+AllFit limit d May = (B : Batch) → May B → FitsIn limit d.old.now.reads B
+
+-- none is empty, and with each the file needs just so many bytes, which are more than the limit
+abbrev pub AllOver : ℕ → OverDisk → ℕ → ℕ → (Batch → Type 0) → Type 0
+AllOver limit d needed most May = (most ≡ limit) × (limit < needed) × ((B : Batch) → May B → (is_empty B ≡ false) × IsNeeded limit d.old.now.reads B needed)
+
+-- ---- the status
+
+abbrev pub IsBuildDue : ℕ → Asked → OverSource → OverDisk → Status → Type 0
+IsBuildDue limit w s d Done = IsBook w.kind s (λ b. IsServed (scheduler_of w.scheduler) b w.targets × IsFound limit d b (λ K. AllFit limit d (IsPlanned w b K)))
+IsBuildDue limit w s d (BookRefused fault) = s.tells × BookOfKind w.kind s.old.left (Err fault)
+IsBuildDue limit w s d (BuildRefused reason) = IsBook w.kind s (λ b. IsRefusedFor (scheduler_of w.scheduler) b w.targets reason × IsFound limit d b (λ K. AllFit limit d (IsPlanned w b K)))
+IsBuildDue limit w s d (BadState at) = IsBook w.kind s (λ b. IsBadNow limit d at)
+IsBuildDue limit w s d (StateFull needed most) = IsBook w.kind s (λ b. IsFound limit d b (λ K. AllOver limit d needed most (IsPlanned w b K)))
+IsBuildDue limit w s d _ = ⊥
+
+abbrev pub IsCleanDue : ℕ → OverDisk → Status → Type 0
+IsCleanDue limit d Done = IsKept limit d (λ K. (B : Batch) → IsClearing K B → HasRoomFor limit d.old.now.reads B)
+IsCleanDue limit d (BadState at) = IsBadNow limit d at
+IsCleanDue limit d (StateFull needed most) = IsKept limit d (λ K. AllOver limit d needed most (IsClearing K))
+IsCleanDue limit d _ = ⊥
+
+abbrev pub IsDueFor : Command → ℕ → Asked → OverSource → OverDisk → Status → Type 0
+IsDueFor command.Build limit w s d due = IsBuildDue limit w s d due
+IsDueFor command.Clean limit w s d due = IsCleanDue limit d due
+
+abbrev pub IsDue : ℕ → List (List ℕ) → OverSource → OverDisk → Status → Type 0
+IsDue limit words s d (Usage fault) = words_of words ≡ Err fault
+IsDue limit words s d due = Asks words (λ w. IsDueFor w.command limit w s d due)
+
+-- a device failed, or memory ran out
+abbrev pub IsHindered : Status → Type 0
+IsHindered ReadFault = Unit {0}
+IsHindered WriteFault = Unit {0}
+IsHindered DiskFault = Unit {0}
+IsHindered NoMemory = Unit {0}
+IsHindered _ = ⊥
