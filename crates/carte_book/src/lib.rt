@@ -33,8 +33,6 @@ mod fault;
 mod key_text;
 mod laws;
 mod reason;
-#[cfg(test)]
-mod tests;
 
 pub use book::{Book, Item, Looked};
 pub use fault::{AddFault, BookFault, SetFault, Which};
