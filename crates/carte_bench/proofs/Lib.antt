@@ -1,7 +1,6 @@
 pub mod Puts
 pub mod Cores
 pub mod Turning
-pub mod Demanded
 pub mod Places
 pub mod Ways
 pub mod Whys

@@ -19,8 +19,6 @@ mod look;
 mod place;
 mod reason;
 mod slot;
-#[cfg(test)]
-mod tests;
 mod turn;
 mod way;
 

@@ -34,8 +34,6 @@ mod key_text;
 mod laws;
 mod needs;
 mod reason;
-#[cfg(test)]
-mod tests;
 
 pub use book::{Book, Item, Looked};
 pub use fault::{AddFault, BookFault, SetFault, Which};

@@ -27,8 +27,6 @@ mod name;
 mod option;
 mod pair;
 mod spelled;
-#[cfg(test)]
-mod tests;
 mod truth;
 mod unread;
 mod value;

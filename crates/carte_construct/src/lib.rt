@@ -14,9 +14,6 @@ ghost use Rattle.carte_record.specs.Kept.{kept_view};
 ghost use Rattle.carte_record.specs.declared.way.Way.TheVariants.{Constructive};
 ghost use Rattle.carte_rebuild.specs.Traced.{AreTried};
 
-#[cfg(test)]
-mod tests;
-
 use carte_book::Book;
 use carte_note::{Finished, Method, note_finished};
 use carte_rebuild::{Rebuilder, Tries, checks_of};

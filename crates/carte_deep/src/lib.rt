@@ -20,8 +20,6 @@
 
 mod held;
 mod job;
-#[cfg(test)]
-mod tests;
 
 ghost use Rattle.std.specs.Prelude.{◌≡◌, IfOk};
 

@@ -13,9 +13,6 @@ ghost use Rattle.std.specs.Prelude.{◌≡◌, option_copied, IfOk};
 ghost use Rattle.carte_record.specs.Kept.{kept_view, is_fresh as fresh};
 ghost use Rattle.carte_dirty.specs.Fresh.{fresh_value as value_kept, fresh_checks};
 
-#[cfg(test)]
-mod tests;
-
 use carte_book::Book;
 use carte_note::{Finished, Method, note_finished};
 use carte_rebuild::{Rebuilder, Tries};

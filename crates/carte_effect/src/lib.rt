@@ -24,8 +24,6 @@ mod look;
 mod outcome;
 mod refs_only;
 mod runs;
-#[cfg(test)]
-mod tests;
 mod tracked;
 
 pub use each::Each;

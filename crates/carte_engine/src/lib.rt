@@ -29,8 +29,6 @@ mod laws;
 mod planned;
 mod reckon;
 mod scheduler;
-#[cfg(test)]
-mod tests;
 
 pub use answer::{Answer, Built, Plan};
 pub use carte_state::{ApplyFault, LoadFault};

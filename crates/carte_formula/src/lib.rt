@@ -21,12 +21,8 @@
 mod cell;
 mod laws;
 mod lexer;
-#[cfg(test)]
-mod limit_tests;
 mod parser;
 mod reader;
-#[cfg(test)]
-mod tests;
 mod tokens;
 mod width;
 

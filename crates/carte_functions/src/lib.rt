@@ -19,8 +19,3 @@ mod texts;
 
 pub use applied::{apply, call, condition, negate};
 pub use found::{name_in, names_in};
-
-#[cfg(test)]
-mod meaning_rows;
-#[cfg(test)]
-mod tests;

@@ -51,6 +51,3 @@ pub use sink::{Sink, write_all};
 pub use source::Source;
 pub use whole::{ReadEnd, read_whole};
 pub use write_sinks::WriteSink;
-
-#[cfg(test)]
-mod tests;

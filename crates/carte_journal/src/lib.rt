@@ -31,6 +31,3 @@ pub use faults::{CommitFault, LoadFault};
 pub use frame::Frame;
 pub use journal::Journal;
 pub use many::commit_all;
-
-#[cfg(test)]
-mod tests;

@@ -21,8 +21,6 @@ mod list;
 mod method;
 mod note;
 mod see;
-#[cfg(test)]
-mod tests;
 
 pub use finished::Finished;
 pub use list::FinishedList;

@@ -15,8 +15,6 @@
 
 mod laws;
 mod planning;
-#[cfg(test)]
-mod tests;
 
 pub use laws::batches_have_one_length;
 pub use planning::plan;

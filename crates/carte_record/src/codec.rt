@@ -4,8 +4,6 @@ mod batch;
 mod entry;
 mod lists;
 mod start;
-#[cfg(test)]
-mod tests;
 mod trace;
 
 pub use batch::one_body;

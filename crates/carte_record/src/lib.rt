@@ -27,8 +27,6 @@ mod seen;
 mod start;
 mod store;
 mod table;
-#[cfg(test)]
-mod tests;
 mod trace;
 mod traces;
 mod way;

@@ -18,8 +18,6 @@ mod book_texts;
 mod pieces;
 mod replies;
 mod status;
-#[cfg(test)]
-mod tests;
 mod texts;
 
 pub use replies::reply;

@@ -21,8 +21,6 @@ mod laws;
 mod names;
 mod read;
 mod rules;
-#[cfg(test)]
-mod tests;
 
 pub use laws::{book_is_unique, book_some, fault_is_of_bytes};
 pub use read::read_rules;

@@ -31,6 +31,3 @@ pub use laws::{
 };
 pub use machine::Machine;
 pub use run::run_session;
-
-#[cfg(test)]
-mod tests;

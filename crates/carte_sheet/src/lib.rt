@@ -20,10 +20,6 @@ mod fill;
 mod laws;
 mod read;
 mod rows;
-#[cfg(test)]
-mod sheet_rows;
-#[cfg(test)]
-mod tests;
 
 pub use laws::{fault_is_of_bytes, sheet_is_unique, sheet_some};
 pub use read::read_sheet;

@@ -23,8 +23,6 @@ mod laws;
 mod load;
 mod many;
 mod state;
-#[cfg(test)]
-mod tests;
 
 pub use carte_journal::LoadFault;
 pub use fault::ApplyFault;

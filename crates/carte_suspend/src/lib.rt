@@ -21,8 +21,6 @@
 mod building;
 mod opening;
 mod reasons;
-#[cfg(test)]
-mod tests;
 mod turns;
 
 pub use building::build;

@@ -27,20 +27,14 @@ mod check;
 mod code;
 mod compile;
 mod execute;
-#[cfg(test)]
-mod formula_rows;
 mod machine;
 mod machine_job;
 mod mentioned;
 mod progress;
 mod range;
-#[cfg(test)]
-mod shown;
 mod static_run;
 mod static_task;
 mod task;
-#[cfg(test)]
-mod tests;
 
 pub use carte_effect::{
     Answers, Each, Effect, Ended, FetchList, Halt, Job, Look, Made, Never, RefsOnly, Reuse, Runs,

@@ -23,14 +23,8 @@ mod build;
 mod chosen;
 mod clean;
 mod commit;
-#[cfg(test)]
-mod device_tests;
 mod laws;
 mod say;
-#[cfg(test)]
-mod test_runs;
-#[cfg(test)]
-mod tests;
 mod top;
 
 pub use carte_report::Status;

@@ -27,8 +27,6 @@ mod building;
 mod dynamic_paths;
 mod plan;
 mod search;
-#[cfg(test)]
-mod tests;
 mod walk;
 
 pub use building::build;

@@ -33,8 +33,6 @@ mod kind;
 mod link;
 mod name;
 mod name_fault;
-#[cfg(test)]
-mod name_tests;
 mod name_text;
 mod place;
 mod printing;
@@ -42,8 +40,6 @@ mod reading;
 mod reading_law;
 mod spelling;
 mod spelling_law;
-#[cfg(test)]
-mod tests;
 mod text;
 mod text_fault;
 mod value;

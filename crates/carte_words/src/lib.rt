@@ -20,17 +20,11 @@ mod cuts;
 mod fault;
 mod laws;
 mod line;
-#[cfg(test)]
-mod line_rows;
 mod parse;
 mod script;
 mod tables;
 mod targets;
-#[cfg(test)]
-mod tests;
 mod word;
-#[cfg(test)]
-mod word_rows;
 mod words;
 
 pub use asked::read_words;

@@ -1,0 +1,90 @@
+//! A look for tests, over values that stand in a map.
+
+ghost use Rattle.std.specs.Prelude.{◌≡◌, if◌then◌else◌};
+ghost use Rattle.carte_value.specs.Once.{answer_in};
+ghost use Rattle.carte_effect.specs.Sights.{seen_or, not_done, missing};
+
+use crate::texts::value_of;
+use carte_effect::{Look, Seen};
+use carte_value::{Kind, Name, Text, Value};
+use indexmap::IndexMap;
+use std::alloc::Global;
+use std::test::Fail;
+
+#[derive(Drop)]
+pub(crate) struct Shown {
+    kind: Kind,
+    values: IndexMap<Name, Value>,
+    // What every other name has, as in a sheet.
+    other: Option<Value>,
+    // Whether other names will never have a value.
+    missing: bool,
+}
+
+impl Look for Shown {
+    ghost sight = { λ s k. seen_or (answer_in s.values.entries k) (seen_or s.other (if s.missing then missing else not_done)) };
+
+    fn look(&self, name: &Name) -> Seen<'_> {
+        if let Some(value) = self.values.get(name) {
+            return Seen::Value(value);
+        }
+        match &self.other {
+            Some(value) => Seen::Value(value),
+            None => {
+                if self.missing {
+                    Seen::Missing
+                } else {
+                    Seen::NotDone
+                }
+            }
+        }
+    }
+}
+
+impl Shown {
+    /// A rule file in which the names that aren't given have no value.
+    pub(crate) fn rules(alloc: Global, missing: bool) -> Shown {
+        Shown {
+            kind: Kind::Rules,
+            values: IndexMap::new(alloc),
+            other: None,
+            missing,
+        }
+    }
+
+    /// A sheet, whose other cells are Empty.
+    pub(crate) fn sheet(alloc: Global) -> Shown {
+        Shown {
+            kind: Kind::Sheet,
+            values: IndexMap::new(alloc),
+            other: Some(Value::Empty),
+            missing: false,
+        }
+    }
+
+    pub(crate) fn kind(&self) -> Kind {
+        self.kind
+    }
+
+    pub(crate) fn put(&mut self, alloc: Global, name: &str, value: Value) -> Result<(), Fail> {
+        let name = Name::of(alloc, self.kind, name)?;
+        match self.values.insert(name, value) {
+            Ok(_) => Ok(()),
+            Err(_) => Err(Fail::new("out of memory")),
+        }
+    }
+
+    /// Puts `NAME VALUE` of each line, with values in printed form.
+    pub(crate) fn put_lines(&mut self, alloc: Global, lines: &str) -> Result<(), Fail> {
+        for line in lines.lines() {
+            let (name, value) = line.split_once(' ').ok_or("no value")?;
+            self.put(alloc, name, value_of(alloc, value)?)?;
+        }
+        Ok(())
+    }
+}
+
+/// A text as a value.
+pub(crate) fn text_of(alloc: Global, text: &str) -> Result<Value, Fail> {
+    Ok(Value::Text(Text::of(alloc, text)?))
+}

@@ -1,0 +1,55 @@
+//! Runs of the top call over memory, as texts.
+
+use carte_io::{Disk, MemDisk, MemSink, MemSource, Sink, Source};
+use carte_top::{Word, carte};
+use std::alloc::Global;
+use std::str;
+use std::test::Fail;
+
+fn words_of(alloc: Global, text: &str) -> Result<Vec<Word>, Fail> {
+    let mut words = Vec::new(alloc);
+    for word in text.split(' ') {
+        words.push(Word::of(alloc, word)?)?;
+    }
+    Ok(words)
+}
+
+pub(crate) fn code_of<B: Source, D: Disk, O: Sink, E: Sink>(
+    alloc: Global,
+    words: &str,
+    book: &mut B,
+    state: &mut D,
+    out: &mut O,
+    err: &mut E,
+) -> Result<u8, Fail> {
+    let words = words_of(alloc, words)?;
+    let status = carte(alloc, words.as_slice(), book, state, out, err);
+    Ok(status.code())
+}
+
+/// The exit status, a line feed, and what stands on both outputs.
+pub(crate) fn shown(
+    alloc: Global,
+    words: &str,
+    book: &str,
+    state: &mut MemDisk,
+) -> Result<String, Fail> {
+    let mut book = MemSource::of(alloc, book.as_bytes(), &[])?;
+    let mut out = MemSink::new(alloc, 4096, &[])?;
+    let mut err = MemSink::new(alloc, 4096, &[])?;
+    let code = code_of(alloc, words, &mut book, state, &mut out, &mut err)?;
+    let out = str::from_utf8(out.bytes())?;
+    let err = str::from_utf8(err.bytes())?;
+    Ok(format!(in alloc; "{code}\n{out}{err}")?)
+}
+
+/// The same over a state of these bytes.
+pub(crate) fn shown_over(
+    alloc: Global,
+    words: &str,
+    book: &str,
+    state: &[u8],
+) -> Result<String, Fail> {
+    let mut state = MemDisk::of(alloc, state, &[])?;
+    shown(alloc, words, book, &mut state)
+}

@@ -1,0 +1,240 @@
+//! Sources, sinks and disks: what they pass on, where they fail, and what a crash leaves.
+
+use carte_io::{
+    Absent, Disk, FileDisk, MemDisk, MemSink, MemSource, NoMemory, Pick, ReadEnd, ReadSource, Sink,
+    Source, WriteSink, read_whole, write_all,
+};
+use std::alloc::Global;
+use std::fs::OpenOptions;
+use std::io::{self, ErrorKind, Read, Write};
+use std::test::Fail;
+
+// A reader whose second call fails, and whose others give two bytes each.
+#[derive(Drop)]
+struct Flaky {
+    calls: u8,
+}
+
+impl Read for Flaky {
+    fn read(&mut self, buf: &mut [u8]) -> io::Result<usize> {
+        self.calls = self.calls.saturating_add(1);
+        if self.calls == 2 {
+            return Err(io::Error::from(ErrorKind::Other));
+        }
+        let count = buf.len().min(2);
+        Ok(count)
+    }
+}
+
+// A writer that takes nothing.
+#[derive(Drop)]
+struct Stuck;
+
+impl Write for Stuck {
+    fn write(&mut self, _buf: &[u8]) -> io::Result<usize> {
+        Ok(0)
+    }
+
+    fn flush(&mut self) -> io::Result<()> {
+        Ok(())
+    }
+}
+
+// A writer that takes all of it, and can't hand it on.
+#[derive(Drop)]
+struct Unflushable;
+
+impl Write for Unflushable {
+    fn write(&mut self, buf: &[u8]) -> io::Result<usize> {
+        Ok(buf.len())
+    }
+
+    fn flush(&mut self) -> io::Result<()> {
+        Err(io::Error::from(ErrorKind::Other))
+    }
+}
+
+#[test]
+fn a_source_is_read_whole(rt: HostRuntime) -> Result<(), Fail> {
+    let mut source = MemSource::of(rt.alloc(), b"abcdef", &[1])?;
+    assert!(rt;
+        read_whole(rt.alloc(), &mut source, 6).is_err(),
+        "the first call fails"
+    );
+    let bytes = read_whole(rt.alloc(), &mut source, 6)?;
+    assert_eq!(rt; bytes.as_slice(), b"abcdef".as_slice());
+    let mut longer = MemSource::of(rt.alloc(), b"abcdef", &[])?;
+    assert!(rt;
+        matches!(
+            read_whole(rt.alloc(), &mut longer, 5),
+            Err(ReadEnd::TooLong)
+        )
+    );
+    let long = vec![in rt.alloc(); 7u8; 20000]?;
+    let mut pieces = MemSource::of(rt.alloc(), &long, &[])?;
+    let bytes = read_whole(rt.alloc(), &mut pieces, 20000)?;
+    assert_eq!(rt; bytes.as_slice(), long.as_slice(), "by three pieces");
+    let mut slice = ReadSource::of(b"xyz".as_slice());
+    let bytes = read_whole(rt.alloc(), &mut slice, 100)?;
+    assert_eq!(rt; bytes.as_slice(), b"xyz".as_slice());
+    Ok(())
+}
+
+#[test]
+fn an_error_is_no_end(rt: HostRuntime) -> Result<(), Fail> {
+    let mut source = ReadSource::of(Flaky { calls: 0 });
+    let mut into = [0; 8];
+    assert_eq!(rt; source.read(&mut into).ok(), Some(2));
+    assert!(rt; source.read(&mut into).is_err());
+    assert_eq!(rt; source.read(&mut into).ok(), Some(2));
+    let mut absent = Absent::of();
+    assert!(rt; matches!(read_whole(rt.alloc(), &mut absent, 9), Err(ReadEnd::Failed)));
+    let mut stuck = WriteSink::of(Stuck);
+    assert!(rt; write_all(&mut stuck, b"ab").is_err());
+    assert!(rt; write_all(&mut stuck, b"").is_ok());
+    Ok(())
+}
+
+#[test]
+fn a_sink_takes_it_all(rt: HostRuntime) -> Result<(), Fail> {
+    let mut sink = MemSink::new(rt.alloc(), 3, &[5])?;
+    assert!(rt; write_all(&mut sink, b"abcdefgh").is_ok());
+    assert!(rt; sink.finish().is_ok());
+    assert!(rt;
+        write_all(&mut sink, b"ij").is_err(),
+        "the fifth call fails"
+    );
+    assert_eq!(rt; sink.bytes(), b"abcdefgh".as_slice());
+    assert_eq!(rt; (sink.handed(), sink.faults()), (8, 1));
+    let mut writer = WriteSink::of(Vec::new(rt.alloc()));
+    assert!(rt; write_all(&mut writer, b"ab").is_ok());
+    assert!(rt; writer.finish().is_ok());
+    Ok(())
+}
+
+#[test]
+fn what_cannot_hand_on_fails(rt: HostRuntime) -> Result<(), Fail> {
+    let mut sink = WriteSink::of(Unflushable);
+    assert!(rt; write_all(&mut sink, b"ab").is_ok());
+    assert!(rt; sink.finish().is_err(), "a writer that can't flush");
+    let null = OpenOptions::new()
+        .read(true)
+        .write(true)
+        .open(&rt, "/dev/null")?;
+    let mut disk = FileDisk::of(null);
+    assert!(rt; disk.write_at(0, b"ab").is_ok());
+    assert!(rt; disk.sync().is_err(), "a device that can't sync");
+    assert!(rt; disk.len().is_err(), "a device has no length");
+    Ok(())
+}
+
+#[test]
+fn what_is_absent_fails(rt: HostRuntime) -> Result<(), Fail> {
+    let mut absent = Absent::of();
+    let mut into = [7; 1];
+    assert!(rt; absent.len().is_err());
+    assert!(rt; absent.read_at(0, &mut into).is_err());
+    assert!(rt; absent.write_at(0, b"a").is_err());
+    assert!(rt; absent.sync().is_err());
+    assert_eq!(rt; into, [7]);
+    Ok(())
+}
+
+// The image after some calls: `XY` at 1, a sync, and `Z` at 5, over `abcd`.
+fn crashed(alloc: Global, calls: u64, pick: Pick) -> Result<Vec<u8>, NoMemory> {
+    let mut disk = MemDisk::of(alloc, b"abcd", &[])?;
+    disk.stop_after(calls);
+    let _ = disk.write_at(1, b"XY");
+    let _ = disk.sync();
+    let _ = disk.write_at(5, b"Z");
+    let image = disk.crash(alloc, pick)?;
+    Ok(image.bytes().to_vec(alloc)?)
+}
+
+#[test]
+fn crashes_leave_what_is_picked(rt: HostRuntime) -> Result<(), Fail> {
+    let cases = [
+        (
+            0,
+            b"abcd".as_slice(),
+            b"abcd".as_slice(),
+            b"abcd".as_slice(),
+        ),
+        (
+            1,
+            b"abcd".as_slice(),
+            b"aXYd".as_slice(),
+            b"a..d".as_slice(),
+        ),
+        (
+            2,
+            b"aXYd".as_slice(),
+            b"aXYd".as_slice(),
+            b"aXYd".as_slice(),
+        ),
+        (
+            3,
+            b"aXYd".as_slice(),
+            b"aXYd\0Z".as_slice(),
+            b"aXYd..".as_slice(),
+        ),
+    ];
+    for (calls, lost, kept, filled) in cases {
+        assert_eq!(rt;
+            crashed(rt.alloc(), calls, Pick::Lost)?.as_slice(),
+            lost,
+            "lost at {calls}"
+        );
+        assert_eq!(rt;
+            crashed(rt.alloc(), calls, Pick::Kept)?.as_slice(),
+            kept,
+            "kept at {calls}"
+        );
+        assert_eq!(rt;
+            crashed(rt.alloc(), calls, Pick::Fill(b'.'))?.as_slice(),
+            filled,
+            "filled at {calls}"
+        );
+    }
+    Ok(())
+}
+
+#[test]
+fn a_disk_reads_and_fails_by_the_list(rt: HostRuntime) -> Result<(), Fail> {
+    let mut disk = MemDisk::of(rt.alloc(), b"abc", &[2])?;
+    assert_eq!(rt; disk.len().ok(), Some(3));
+    assert!(rt; disk.write_at(0, b"z").is_err(), "the second call fails");
+    let mut into = [0; 2];
+    assert!(rt; disk.read_at(1, &mut into).is_ok());
+    assert_eq!(rt; into, *b"bc");
+    assert_eq!(rt; disk.passed(), 0);
+    Ok(())
+}
+
+#[test]
+fn a_file_is_a_disk(rt: HostRuntime) -> Result<(), Fail> {
+    let file = OpenOptions::new()
+        .read(true)
+        .write(true)
+        .create(true)
+        .truncate(true)
+        .open(&rt, "file_disk_of_a_test")?;
+    let mut disk = FileDisk::of(file);
+    assert!(rt; disk.write_at(2, b"cd").is_ok());
+    assert!(rt; disk.write_at(0, b"ab").is_ok());
+    assert!(rt; disk.sync().is_ok());
+    assert_eq!(rt; disk.len().ok(), Some(4));
+    assert!(rt; disk.write_at(4090, b"over a page").is_ok());
+    let mut over = [0; 14];
+    assert!(rt; disk.read_at(4087, &mut over).is_ok());
+    assert_eq!(rt; over.as_slice(), b"\0\0\0over a page".as_slice());
+    let mut into = [0; 3];
+    assert!(rt; disk.read_at(1, &mut into).is_ok());
+    assert_eq!(rt; into, *b"bcd");
+    assert!(rt;
+        disk.read_at(4100, &mut into).is_err(),
+        "a range that isn't there"
+    );
+    std::fs::remove_file(&rt, "file_disk_of_a_test")?;
+    Ok(())
+}

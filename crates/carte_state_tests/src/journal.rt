@@ -1,0 +1,298 @@
+//! Which bytes are a journal, what commits leave, and what crashes do to them.
+
+use carte_io::{Disk, FileDisk, MemDisk, Pick};
+use carte_journal::{Body, CommitFault, Frame, Journal, LoadFault, commit_all};
+use carte_value::NoMemory;
+use std::alloc::Global;
+use std::fs::OpenOptions;
+use std::test::Fail;
+
+// Three frames, of `a`, `bc` and no bytes, at 8, 14 and 21, and the closed gate byte at 26.
+const FILE: [u8; 27] = *b"CARTE01\n\x01\0\0\0\x01a\x01\0\0\0\x02bc\x01\0\0\0\0\0";
+
+// What a prefix of that file gives, for each length from 0 on: a number of bodies, or A to E for a bad state at 0, 8,
+// 14, 21 or 26. From a reading of the format by a script.
+const PREFIXES: [u8; 28] = *b"0000000000BBBBBCCCCCCCDDDDD3";
+
+// What the file gives with one bit turned, the lowest of each byte first. From the same script.
+const FLIPS: [u8; 216] =
+    *b"AAAAAAAAAAAAAAAAAAAAAAAAAAAAAAAAAAAAAAAAAAAAAAAAAAAAAAAAAAAAAAAA00000000BBBBBBBBBBBBBBBBBBBBBBBB1111BBBB3333333311111111CCCCCCCCCCCCCCCCCCCCCCCC222CCCCC333333333333333322222222DDDDDDDDDDDDDDDDDDDDDDDDDDDDDDDDE3333333";
+
+// How a file loads within a limit, in the letters of the tables.
+fn code(alloc: Global, bytes: &[u8], limit: u16) -> Result<u8, NoMemory> {
+    let mut disk = MemDisk::of(alloc, bytes, &[])?;
+    match Journal::load(alloc, &mut disk, limit as u64) {
+        Ok((_journal, bodies)) => Ok(b'0' + bodies.len().min(9) as u8),
+        Err(LoadFault::BadState(0)) => Ok(b'A'),
+        Err(LoadFault::BadState(8)) => Ok(b'B'),
+        Err(LoadFault::BadState(14)) => Ok(b'C'),
+        Err(LoadFault::BadState(21)) => Ok(b'D'),
+        Err(LoadFault::BadState(26)) => Ok(b'E'),
+        Err(_) => Ok(b'?'),
+    }
+}
+
+fn flipped(alloc: Global, bit: usize) -> Result<Vec<u8>, NoMemory> {
+    let mut bytes = FILE.to_vec(alloc)?;
+    if let Some(byte) = bytes.get_mut(bit / 8) {
+        *byte ^= 1u8 << (bit % 8);
+    }
+    Ok(bytes)
+}
+
+#[test]
+fn damaged_files_load_by_the_format(rt: HostRuntime) -> Result<(), Fail> {
+    for (len, want) in PREFIXES.iter().enumerate() {
+        let prefix = FILE.get(..len).unwrap_or(&FILE);
+        assert_eq!(rt; code(rt.alloc(), prefix, 1000)?, *want, "a prefix of {len}");
+    }
+    for (bit, want) in FLIPS.iter().enumerate() {
+        let bytes = flipped(rt.alloc(), bit)?;
+        assert_eq!(rt; code(rt.alloc(), &bytes, 1000)?, *want, "bit {bit} turned");
+    }
+    let cases = [
+        (b"CARTE01\n\x01\0\0\0\x10\x01\0".as_slice(), b'B'),
+        ([0xff; 9].as_slice(), b'0'),
+        ([0xff; 10].as_slice(), b'A'),
+    ];
+    for (bytes, want) in cases {
+        assert_eq!(rt; code(rt.alloc(), bytes, 1000)?, want);
+    }
+    // The gate bytes behind the three frames are at 14, 21 and 26.
+    let limits = [
+        (0, b'B'),
+        (14, b'B'),
+        (15, b'C'),
+        (21, b'C'),
+        (22, b'D'),
+        (26, b'D'),
+        (27, b'3'),
+    ];
+    for (limit, want) in limits {
+        assert_eq!(rt; code(rt.alloc(), &FILE, limit)?, want, "a limit of {limit}");
+    }
+    Ok(())
+}
+
+#[test]
+fn a_load_ends_at_a_failing_call(rt: HostRuntime) -> Result<(), Fail> {
+    // The length, the header, three reads for each frame, and the closed gate byte.
+    for call in 1..14 {
+        let mut disk = MemDisk::of(rt.alloc(), &FILE, [call].as_slice())?;
+        let loaded = Journal::load(rt.alloc(), &mut disk, 1000);
+        let failed = matches!(loaded, Err(LoadFault::DiskFault));
+        assert_eq!(rt; failed, call <= 12, "call {call}");
+    }
+    Ok(())
+}
+
+// A file of one body, `ab`.
+const ONE: [u8; 16] = *b"CARTE01\n\x01\0\0\0\x02ab\0";
+
+// A disk after a commit of `ab` that was let make so many calls in all but those of the list, and whether it was Ok.
+fn committed(
+    alloc: Global,
+    bytes: &[u8],
+    failing: &[u64],
+    calls: u64,
+) -> Result<(MemDisk, bool), NoMemory> {
+    let mut disk = MemDisk::of(alloc, bytes, failing)?;
+    let frame = Frame::of(alloc, b"ab")?;
+    let Ok((mut journal, _bodies)) = Journal::load(alloc, &mut disk, 1000) else {
+        return Ok((disk, false));
+    };
+    disk.stop_after(calls);
+    let done = journal.commit(&mut disk, &frame).is_ok();
+    Ok((disk, done && !journal.is_broken()))
+}
+
+// The number of bodies of a disk, and whether there is one more after one more commit.
+fn bodies_then(alloc: Global, disk: &mut MemDisk) -> Result<(usize, bool), NoMemory> {
+    let frame = Frame::of(alloc, b"cd")?;
+    let Ok((mut journal, bodies)) = Journal::load(alloc, disk, 1000) else {
+        return Ok((99, false));
+    };
+    let _ = journal.commit(disk, &frame);
+    match Journal::load(alloc, disk, 1000) {
+        Ok((_journal, more)) => Ok((bodies.len(), more.len() == bodies.len() + 1)),
+        Err(_) => Ok((bodies.len(), false)),
+    }
+}
+
+// The numbers of bodies after a crash, for Lost, Kept, Fill 0x77 and Fill 0x01; 99 where one more commit adds none.
+fn after_crash(alloc: Global, disk: &MemDisk) -> Result<[usize; 4], NoMemory> {
+    let picks = [Pick::Lost, Pick::Kept, Pick::Fill(0x77), Pick::Fill(0x01)];
+    let mut counts = [99; 4];
+    for (pick, count) in picks.iter().zip(counts.iter_mut()) {
+        let mut image = disk.crash(alloc, *pick)?;
+        if let (bodies, true) = bodies_then(alloc, &mut image)? {
+            *count = bodies;
+        }
+    }
+    Ok(counts)
+}
+
+#[test]
+fn crashes_of_a_first_and_a_later_commit(rt: HostRuntime) -> Result<(), Fail> {
+    let first = [
+        (0, [0, 0, 0, 0]),
+        (1, [0, 0, 0, 0]),
+        (2, [0, 0, 0, 0]),
+        (3, [0, 0, 0, 0]),
+        (4, [0, 0, 0, 0]),
+        (5, [0, 1, 0, 1]),
+        (6, [1, 1, 1, 1]),
+    ];
+    for (calls, want) in first {
+        let (disk, done) = committed(rt.alloc(), b"", &[], calls)?;
+        assert_eq!(rt; done, calls == 6);
+        assert_eq!(rt; after_crash(rt.alloc(), &disk)?, want, "{calls} calls");
+    }
+    let later = [
+        (0, [1, 1, 1, 1]),
+        (1, [1, 1, 1, 1]),
+        (2, [1, 1, 1, 1]),
+        (3, [1, 2, 1, 2]),
+        (4, [2, 2, 2, 2]),
+    ];
+    for (calls, want) in later {
+        let (disk, done) = committed(rt.alloc(), &ONE, &[], calls)?;
+        assert_eq!(rt; done, calls == 4);
+        assert_eq!(rt;
+            after_crash(rt.alloc(), &disk)?,
+            want,
+            "{calls} later calls"
+        );
+    }
+    Ok(())
+}
+
+#[test]
+fn each_call_fails_in_turn(rt: HostRuntime) -> Result<(), Fail> {
+    // The length, three writes with a sync each, and none.
+    let cases = [
+        (1, 0),
+        (2, 0),
+        (3, 0),
+        (4, 0),
+        (5, 0),
+        (6, 0),
+        (7, 1),
+        (8, 1),
+    ];
+    for (call, want) in cases {
+        let (disk, done) = committed(rt.alloc(), b"", [call].as_slice(), 100)?;
+        assert_eq!(rt; done, call == 8);
+        let mut image = disk.crash(rt.alloc(), Pick::Kept)?;
+        assert_eq!(rt;
+            bodies_then(rt.alloc(), &mut image)?,
+            (want, true),
+            "call {call}"
+        );
+    }
+    Ok(())
+}
+
+#[test]
+fn a_commit_has_its_bytes(rt: HostRuntime) -> Result<(), Fail> {
+    let (mut disk, done) = committed(rt.alloc(), b"", &[], 100)?;
+    assert!(rt; done);
+    assert_eq!(rt; disk.bytes(), ONE.as_slice());
+    assert_eq!(rt; disk.passed(), 6);
+    let Ok((journal, bodies)) = Journal::load(rt.alloc(), &mut disk, 1000) else {
+        return Err(Fail::from("it loads"));
+    };
+    assert!(rt; !journal.is_broken());
+    let mut copy = bodies.copy(rt.alloc())?;
+    let first = copy.get(0).ok_or("a body")?;
+    assert_eq!(rt; (first.offset(), first.bytes()), (8, b"ab".as_slice()));
+    if copy.len() == 1 {
+        copy.push(Body::of(rt.alloc(), 15, b"cd")?)?;
+    }
+    assert_eq!(rt; copy.as_slice().len(), 2);
+    assert!(rt; copy.get(2).is_none());
+    Ok(())
+}
+
+#[test]
+fn full_is_exact(rt: HostRuntime) -> Result<(), Fail> {
+    let frame = Frame::of(rt.alloc(), b"ab")?;
+    let mut disk = MemDisk::of(rt.alloc(), b"", &[])?;
+    let Ok((mut small, _bodies)) = Journal::load(rt.alloc(), &mut disk, 15) else {
+        return Err(Fail::from("it loads"));
+    };
+    let full = small.commit(&mut disk, &frame);
+    assert!(rt;
+        matches!(
+            full,
+            Err(CommitFault::Full {
+                needed: 16,
+                limit: 15
+            })
+        )
+    );
+    assert_eq!(rt;
+        (disk.passed(), small.needed(2), small.limit()),
+        (0, 16, 15)
+    );
+    let Ok((mut large, _bodies)) = Journal::load(rt.alloc(), &mut disk, 16) else {
+        return Err(Fail::from("it loads"));
+    };
+    assert!(rt; large.commit(&mut disk, &frame).is_ok());
+    Ok(())
+}
+
+// A body whose bytes differ from place to place, and from one number to another.
+fn long_body(alloc: Global, number: u8, length: u16) -> Result<Vec<u8>, NoMemory> {
+    let mut bytes = Vec::new(alloc);
+    for place in 0..length {
+        bytes.push(number.wrapping_add((place % 251) as u8))?;
+    }
+    Ok(bytes)
+}
+
+// Whether twenty bodies of 10,000 bytes are read again, behind one that makes the next gate byte the first of a page.
+fn holds_long_bodies<D: Disk>(alloc: Global, disk: &mut D) -> Result<bool, NoMemory> {
+    let mut frames = Vec::new(alloc);
+    for number in 0..21 {
+        let body = long_body(alloc, number, if number == 0 { 4083 } else { 10000 })?;
+        if body.len() < 65536 {
+            frames.push(Frame::of(alloc, &body)?)?;
+        }
+    }
+    let Ok((mut journal, _bodies)) = Journal::load(alloc, disk, 1 << 20) else {
+        return Ok(false);
+    };
+    if commit_all(&mut journal, disk, &frames).is_err() {
+        return Ok(false);
+    }
+    let Ok((_journal, bodies)) = Journal::load(alloc, disk, 1 << 20) else {
+        return Ok(false);
+    };
+    for (body, number) in bodies.as_slice().iter().zip(0..21) {
+        let want = long_body(alloc, number, if number == 0 { 4083 } else { 10000 })?;
+        if body.bytes() != want.as_slice() {
+            return Ok(false);
+        }
+    }
+    Ok(bodies.len() == 21)
+}
+
+#[test]
+fn a_disk_and_a_file_hold_a_journal(rt: HostRuntime) -> Result<(), Fail> {
+    let mut disk = MemDisk::of(rt.alloc(), b"", &[])?;
+    assert!(rt; holds_long_bodies(rt.alloc(), &mut disk)?);
+    let file = OpenOptions::new()
+        .read(true)
+        .write(true)
+        .create(true)
+        .truncate(true)
+        .open(&rt, "journal_of_a_test")?;
+    let mut disk = FileDisk::of(file);
+    assert!(rt; holds_long_bodies(rt.alloc(), &mut disk)?);
+    let bytes = std::fs::read(&rt, "journal_of_a_test")?;
+    assert_eq!(rt; bytes.len(), 8 + 4088 + 20 * 10005 + 1);
+    assert_eq!(rt; (bytes.get(4095), bytes.get(4096)), (Some(&66), Some(&1)));
+    std::fs::remove_file(&rt, "journal_of_a_test")?;
+    Ok(())
+}
