@@ -15,6 +15,7 @@ pub mod Lexed
 pub mod Texts
 pub mod Round
 pub mod Depths
+pub mod Signs
 pub mod Running
 pub mod Unpaired
 pub mod Taking
