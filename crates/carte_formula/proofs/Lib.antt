@@ -19,6 +19,8 @@ pub mod Signs
 pub mod Running
 pub mod Unpaired
 pub mod Taking
+pub mod Ranging
+pub mod Resuming
 pub mod Formulas
 pub mod ReadWhole
 pub mod Longest
