@@ -15,9 +15,12 @@ pub mod Lexed
 pub mod Texts
 pub mod Round
 pub mod Depths
+pub mod Signs
 pub mod Running
 pub mod Unpaired
 pub mod Taking
+pub mod Ranging
+pub mod Resuming
 pub mod Formulas
 pub mod ReadWhole
 pub mod Longest

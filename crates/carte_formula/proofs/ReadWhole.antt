@@ -5,23 +5,14 @@ use Rattle.carte_tree.specs.Tree.{Tree}
 use Rattle.carte_formula.specs.Machine.{wants}
 use Rattle.carte_formula.specs.Reading.{FormulaFault, BadToken, BadSyntax, TooDeep, TooLong, TooWide, NoMemory, Placed, ReadAs, tokens_read}
 use Rattle.carte_formula.specs.Lexer.{idle, lexed}
-use Rattle.carte_formula.specs.Takes.{LexedTo}
 use Rattle.carte_tree.specs.Code.{tree_of}
 use Rattle.carte_formula.specs.Parser.{ReadsTo}
-use Rattle.carte_formula.specs.Whole.{wide_from, with_width, as_tree, Reads}
+use Rattle.carte_formula.specs.Whole.{wide_from, with_width, with_tokens, as_tree, Reads}
 use Rattle.carte_tree.specs.Formula.{IsExpr, HasNames}
 use Rattle.carte_tree.specs.declared.expr.Expr.{Expr}
 use Rattle.carte_formula.proofs.Faults.{reads}
 use Rattle.carte_formula.proofs.Lexed.{lexed_kind}
 use Rattle.carte_formula.proofs.Formulas.{spelt_expr, spelt_names}
-
-pub bad_token : (q : Kind) (bytes : List ℕ) (f : FormulaFault) → length bytes ≤ 4096 → LexedTo (lexed q idle 0 bytes) (Err f) → Reads q bytes (Err f)
-bad_token q bytes (BadToken place) low h = (low, h)
-bad_token q bytes NoMemory low h = low
-bad_token q bytes (BadSyntax place) low h = absurd h
-bad_token q bytes (TooDeep place) low h = absurd h
-bad_token q bytes (TooLong place) low h = absurd h
-bad_token q bytes (TooWide place) low h = absurd h
 
 -- what tokens are read as, with the width of their ranges
 pub with_both : (q : Kind) (bytes : List ℕ) (ps : List Placed) (r : Result Tree FormulaFault) (w : Option ℕ) → length bytes ≤ 4096 → lexed q idle 0 bytes ≡ Ok ps → ReadAs ps (length bytes) r → wide_from 0 ps ≡ w → Reads q bytes (with_width r w)
@@ -43,8 +34,12 @@ told q bytes (Err (BadToken place)) s low is h = rw is at h
 told q bytes (Err (TooLong place)) s low is h = rw is at h
 told q bytes (Err (TooWide place)) s low is h = rw is at h
 
-pub tokens_told : (q : Kind) (bytes : List ℕ) (ps : List Placed) (r : Result Expr FormulaFault) → length bytes ≤ 4096 → lexed q idle 0 bytes ≡ Ok ps → ReadsTo r (with_width (tokens_read (wants []) ps (length bytes)) (wide_from 0 ps)) → Reads q bytes (as_tree r)
-tokens_told q bytes ps r low is h = told q bytes r (with_width (tokens_read (wants []) ps (length bytes)) (wide_from 0 ps)) low h (with_both q bytes ps (tokens_read (wants []) ps (length bytes)) (wide_from 0 ps) low is (reads ps (length bytes)) refl)
+of_tokens : (q : Kind) (bytes : List ℕ) (x : Result (List Placed) ℕ) → length bytes ≤ 4096 → lexed q idle 0 bytes ≡ x → Reads q bytes (with_tokens x (length bytes))
+of_tokens q bytes (Ok ps) low is = with_both q bytes ps (tokens_read (wants []) ps (length bytes)) (wide_from 0 ps) low is (reads ps (length bytes)) refl
+of_tokens q bytes (Err place) low is = (low, is)
+
+pub text_told : (q : Kind) (bytes : List ℕ) (r : Result Expr FormulaFault) → length bytes ≤ 4096 → ReadsTo r (with_tokens (lexed q idle 0 bytes) (length bytes)) → Reads q bytes (as_tree r)
+text_told q bytes r low h = told q bytes r (with_tokens (lexed q idle 0 bytes) (length bytes)) low h (of_tokens q bytes (lexed q idle 0 bytes) low refl)
 
 pub read_expr : (q : Kind) (bytes : List ℕ) (e : Tree) → Reads q bytes (Ok e) → IsExpr e
 read_expr q bytes e (low, ps, is, (spells, shallow), w) = spelt_expr q spells (lexed_kind q bytes ps is)

@@ -1,18 +1,17 @@
 -- How tokens are taken from the bytes of a text.
-use Rattle.std.proofs.Common.{ℕ, zero, suc, Bool, true, false, List, [], ◌∷◌, ◌++◌, length, drop, ◌≡◌, ◌≤◌, ◌<◌, ◌+◌, ◌-◌, ◌==◌, Option, Some, None, Result, Ok, Err, if◌then◌else◌, refl, sym, ◌∙◌, ap, subst, add-one, arith, slice_index, slice_range, get_or, drop-cons}
+use Rattle.std.proofs.Common.{ℕ, zero, suc, Bool, true, false, List, [], ◌∷◌, ◌++◌, length, drop, ◌≡◌, ◌≤◌, ◌<◌, ◌+◌, ◌-◌, ◌==◌, Option, Some, None, Ok, Err, if◌then◌else◌, refl, sym, ◌∙◌, ap, subst, add-one, arith, slice_index, slice_range, get_or, drop-cons}
 use Rattle.std.specs.List.{list_all}
 use Rattle.std.specs.Str.{IsUtf8, IsCharBoundary}
 use Rattle.std.proofs.lemmas.Bool.{eqb-true}
-use Rattle.std.proofs.lemmas.List.{append-nil, drop_all, get_or-take, get_or-drop}
+use Rattle.std.proofs.lemmas.List.{get_or-take, get_or-drop}
 use Rattle.std.proofs.lemmas.Str.{IsCharBoundary-before_ascii, IsCharBoundary-after_ascii}
 use Rattle.carte_value.specs.Names.{is_digit, is_lower, is_upper}
 use Rattle.carte_value.specs.declared.kind.Kind.{Kind}
 use Rattle.carte_value.specs.declared.kind.Kind.TheVariants.{Rules, Sheet}
 use Rattle.carte_formula.specs.Tokens.{Token, op, lpar, rpar, comma, colon, add, sub, mul, div, join, eq}
-use Rattle.carte_formula.specs.Reading.{FormulaFault, BadToken, BadSyntax, TooDeep, TooLong, TooWide, NoMemory, Placed}
-use Rattle.carte_formula.specs.Lexer.{Class, numeral, small, capitals, letters, less, greater, inside, closing, Start, blank, single, begins, wrong, is_blank, sign_of, start_of, low_class, high_class, idle, run, before, emit, from_start, token_of, lexed}
+use Rattle.carte_formula.specs.Lexer.{Class, numeral, small, capitals, letters, less, greater, inside, closing, Start, blank, single, begins, wrong, is_blank, sign_of, start_of, low_class, high_class, idle, run, emit, from_start, token_of, lexed}
 use Rattle.carte_formula.specs.Runs.{RunOk, RunsTo}
-use Rattle.carte_formula.specs.Takes.{put_before, PutTo, TakesTo, LexedTo}
+use Rattle.carte_formula.specs.Takes.{MeetsTo}
 use Rattle.carte_formula.proofs.Bytes.{and_both, and_left, and_right}
 use Rattle.carte_formula.proofs.Running.{slice_more, slice_length, digit_low, lower_low, upper_low}
 
@@ -115,46 +114,20 @@ run_is_over bytes at c d end u r other =
     let e : (end - 1) + 1 ≡ end = omega arith in
     subst (λ i. IsCharBoundary bytes i) e (IsCharBoundary-after_ascii bytes (end - 1) u (omega arith) b)
 
--- tokens put before others
-pub put_append : (ps qs : List Placed) (r : Result (List Placed) ℕ) → put_before (ps ++ qs) r ≡ put_before ps (put_before qs r)
-put_append [] qs r = refl
-put_append (p ∷ ps) qs r = ap (λ x. before p x) (put_append ps qs r)
-
-pub put_all : (ps : List Placed) → put_before ps (Ok []) ≡ Ok ps
-put_all [] = refl
-put_all (p ∷ ps) = ap (λ x. before p x) (put_all ps)
-
-pub put_bad : (ps : List Placed) (place : ℕ) → put_before ps (Err place) ≡ Err place
-put_bad [] place = refl
-put_bad (p ∷ ps) place = ap (λ x. before p x) (put_bad ps place)
-
-pub put_takes : (q : Kind) (bytes : List ℕ) (at : ℕ) (old new : List Placed) (token : Token) (end : ℕ) (r : Result ℕ FormulaFault) → PutTo old new at token end r → at < end → end ≤ length bytes
-    → lexed q idle at (drop at bytes) ≡ before (record { place = at; token = token }) (lexed q idle end (drop end bytes)) → TakesTo q bytes at old new r
-put_takes q bytes at old new token end (Ok n) p low high h =
-    (rw p.1 low, rw p.1 high, record { place = at; token = token } ∷ [], p.0, rw p.1 h)
-put_takes q bytes at old new token end (Err NoMemory) p low high h = tt
-put_takes q bytes at old new token end (Err (BadToken place)) p low high h = absurd p
-put_takes q bytes at old new token end (Err (BadSyntax place)) p low high h = absurd p
-put_takes q bytes at old new token end (Err (TooDeep place)) p low high h = absurd p
-put_takes q bytes at old new token end (Err (TooLong place)) p low high h = absurd p
-put_takes q bytes at old new token end (Err (TooWide place)) p low high h = absurd p
-
 -- a blank, a sign, and a byte that begins nothing
-pub blank_taken : (q : Kind) (bytes : List ℕ) (at : ℕ) (old : List Placed) → at < length bytes → start_of q (slice_index bytes at) ≡ blank → TakesTo q bytes at old old (Ok (at + 1))
-blank_taken q bytes at old h is = ((omega arith), (omega arith), [], sym (append-nil old), started q bytes at blank h is)
+pub blank_met : (q : Kind) (bytes : List ℕ) (at : ℕ) → at < length bytes → start_of q (slice_index bytes at) ≡ blank → MeetsTo q bytes at (Ok (None, at + 1))
+blank_met q bytes at h is = ((omega arith), (omega arith), started q bytes at blank h is)
 
-pub sign_taken : (q : Kind) (bytes : List ℕ) (at : ℕ) (old new : List Placed) (token : Token) (r : Result ℕ FormulaFault) → at < length bytes → start_of q (slice_index bytes at) ≡ single token → PutTo old new at token (at + 1) r
-    → TakesTo q bytes at old new r
-sign_taken q bytes at old new token r h is p = put_takes q bytes at old new token (at + 1) r p (omega arith) (omega arith) (started q bytes at (single token) h is)
+pub sign_met : (q : Kind) (bytes : List ℕ) (at : ℕ) (token : Token) → at < length bytes → start_of q (slice_index bytes at) ≡ single token → MeetsTo q bytes at (Ok (Some token, at + 1))
+sign_met q bytes at token h is = ((omega arith), (omega arith), started q bytes at (single token) h is)
 
 pub wrong_taken : (q : Kind) (bytes : List ℕ) (at : ℕ) → at < length bytes → start_of q (slice_index bytes at) ≡ wrong → lexed q idle at (drop at bytes) ≡ Err at
 wrong_taken q bytes at h is = started q bytes at wrong h is
 
 -- a run that is a token, and one that is none
-pub run_put : (q : Kind) (bytes : List ℕ) (at : ℕ) (c d : Class) (end : ℕ) (token : Token) (old new : List Placed) (r : Result ℕ FormulaFault) → at < length bytes → start_of q (slice_index bytes at) ≡ begins c → RunsTo c bytes at d end
-    → Some token ≡ token_of d (slice_range bytes at end) → PutTo old new at token end r → TakesTo q bytes at old new r
-run_put q bytes at c d end token old new r h is runs made p =
-    put_takes q bytes at old new token end r p runs.after runs.within (run_taken q bytes at c d end (Some token) h is runs made)
+pub run_met : (q : Kind) (bytes : List ℕ) (at : ℕ) (c d : Class) (end : ℕ) (token : Token) → at < length bytes → start_of q (slice_index bytes at) ≡ begins c → RunsTo c bytes at d end → Some token ≡ token_of d (slice_range bytes at end)
+    → MeetsTo q bytes at (Ok (Some token, end))
+run_met q bytes at c d end token h is runs made = (runs.after, runs.within, run_taken q bytes at c d end (Some token) h is runs made)
 
 pub run_bad : (q : Kind) (bytes : List ℕ) (at : ℕ) (c d : Class) (end : ℕ) → at < length bytes → start_of q (slice_index bytes at) ≡ begins c → RunsTo c bytes at d end → None ≡ token_of d (slice_range bytes at end)
     → lexed q idle at (drop at bytes) ≡ Err at
@@ -162,21 +135,3 @@ run_bad q bytes at c d end h is runs made = run_taken q bytes at c d end None h 
 
 pub run_along : (bytes text : List ℕ) (c d : Class) (at end : ℕ) → bytes ≡ text → RunsTo c bytes at d end → RunsTo c text at d end
 run_along bytes text c d at end is r = subst (λ bs. RunsTo c bs at d end) is r
-
--- the tokens so far and those of the rest stay all tokens
-pub takes_on : (q : Kind) (bytes : List ℕ) (at end : ℕ) (old new : List Placed) (all : Result (List Placed) ℕ) → TakesTo q bytes at old new (Ok end) → put_before old (lexed q idle at (drop at bytes)) ≡ all
-    → (end ≤ length bytes) × (put_before new (lexed q idle end (drop end bytes)) ≡ all)
-takes_on q bytes at end old new all t h =
-    (t.1, ap (λ ps. put_before ps (lexed q idle end (drop end bytes))) t.3 ∙ put_append old t.2 (lexed q idle end (drop end bytes)) ∙ ap (λ r. put_before old r) (sym t.4) ∙ h)
-
-pub takes_bad : (q : Kind) (bytes : List ℕ) (at : ℕ) (old new : List Placed) (f : FormulaFault) (all : Result (List Placed) ℕ) → TakesTo q bytes at old new (Err f) → put_before old (lexed q idle at (drop at bytes)) ≡ all
-    → LexedTo all (Err f)
-takes_bad q bytes at old new (BadToken place) all t h = sym h ∙ ap (λ r. put_before old r) t ∙ put_bad old place
-takes_bad q bytes at old new NoMemory all t h = tt
-takes_bad q bytes at old new (BadSyntax place) all t h = absurd t
-takes_bad q bytes at old new (TooDeep place) all t h = absurd t
-takes_bad q bytes at old new (TooLong place) all t h = absurd t
-takes_bad q bytes at old new (TooWide place) all t h = absurd t
-
-pub takes_all : (q : Kind) (bytes : List ℕ) (at : ℕ) (ps : List Placed) (all : Result (List Placed) ℕ) → length bytes ≤ at → put_before ps (lexed q idle at (drop at bytes)) ≡ all → all ≡ Ok ps
-takes_all q bytes at ps all high h = sym h ∙ ap (λ xs. put_before ps (lexed q idle at xs)) (drop_all at bytes high) ∙ put_all ps

@@ -10,3 +10,5 @@ pub mod Parser
 pub mod Runs
 pub mod Takes
 pub mod Longest
+pub mod Ranges
+pub mod Resumed

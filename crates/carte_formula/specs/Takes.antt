@@ -1,38 +1,18 @@
--- What taking tokens from bytes leaves to be done.
-use Rattle.std.specs.Prelude.{ℕ, List, [], ◌∷◌, ◌++◌, ◌≡◌, ◌≤◌, ◌<◌, length, drop, Result, Ok, Err}
-use Rattle.std.specs.declared.alloc.Global.{Global}
-use Rattle.std.specs.declared.collections.VecDeque.{VecDeque}
+-- What meeting tokens in bytes leaves to be done.
+use Rattle.std.specs.Prelude.{ℕ, List, ◌≡◌, ◌≤◌, ◌<◌, length, drop, Option, Some, None, Result, Ok, Err}
 use Rattle.carte_value.specs.declared.kind.Kind.{Kind}
 use Rattle.carte_formula.specs.Tokens.{Token}
 use Rattle.carte_formula.specs.Reading.{FormulaFault, BadToken, NoMemory, Placed}
 use Rattle.carte_formula.specs.Lexer.{idle, before, lexed}
 
--- the tokens so far, and then those of the rest
-abbrev pub put_before : List Placed → Result (List Placed) ℕ → Result (List Placed) ℕ
-put_before [] r = r
-put_before (p ∷ ps) r = before p (put_before ps r)
+-- a token at a place, if any, and then those of the rest
+abbrev pub met : Option Token → ℕ → Result (List Placed) ℕ → Result (List Placed) ℕ
+met None place later = later
+met (Some t) place later = before (record { place = place; token = t }) later
 
--- from a place on: up to where, with which tokens more
-abbrev pub TakesTo : Kind → List ℕ → ℕ → List Placed → List Placed → Result ℕ FormulaFault → Type 0
-TakesTo q bytes at old new (Ok end) =
-    (at < end) × (end ≤ length bytes) × (ts : List Placed) × (new ≡ old ++ ts) × (lexed q idle at (drop at bytes) ≡ put_before ts (lexed q idle end (drop end bytes)))
-TakesTo q bytes at old new (Err (BadToken place)) = lexed q idle at (drop at bytes) ≡ Err place
-TakesTo q bytes at old new (Err NoMemory) = Unit {0}
-TakesTo q bytes at old new (Err _) = ⊥
-
--- all tokens of a text
-abbrev pub LexedTo : Result (List Placed) ℕ → Result (List Placed) FormulaFault → Type 0
-LexedTo r (Ok ps) = r ≡ Ok ps
-LexedTo r (Err (BadToken place)) = r ≡ Err place
-LexedTo r (Err NoMemory) = Unit {0}
-LexedTo r (Err _) = ⊥
-
-abbrev pub DequeLexedTo : Result (List Placed) ℕ → Result (VecDeque Placed Global) FormulaFault → Type 0
-DequeLexedTo r (Ok v) = LexedTo r (Ok v.items)
-DequeLexedTo r (Err f) = LexedTo r (Err f)
-
--- a token was put behind the others, and the next place told
-abbrev pub PutTo : List Placed → List Placed → ℕ → Token → ℕ → Result ℕ FormulaFault → Type 0
-PutTo old new place token end (Ok n) = (new ≡ old ++ record { place = place; token = token } ∷ []) × (n ≡ end)
-PutTo old new place token end (Err NoMemory) = Unit {0}
-PutTo old new place token end (Err _) = ⊥
+-- what stands at a place: a blank or a token, and up to where
+abbrev pub MeetsTo : Kind → List ℕ → ℕ → Result (Option Token × ℕ) FormulaFault → Type 0
+MeetsTo q bytes at (Ok n) = (at < n.1) × (n.1 ≤ length bytes) × (lexed q idle at (drop at bytes) ≡ met n.0 at (lexed q idle n.1 (drop n.1 bytes)))
+MeetsTo q bytes at (Err (BadToken place)) = lexed q idle at (drop at bytes) ≡ Err place
+MeetsTo q bytes at (Err NoMemory) = Unit {0}
+MeetsTo q bytes at (Err _) = ⊥

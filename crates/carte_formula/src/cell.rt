@@ -1,8 +1,9 @@
-ghost use Rattle.std.specs.Prelude.{◌≡◌, IsTrue};
+ghost use Rattle.std.specs.Prelude.{◌≡◌, IfOk, IsTrue};
 ghost use Rattle.carte_value.specs.Names.{is_cell_name};
 ghost use Rattle.carte_value.specs.Areas.{area_of, IsArea};
 
-use carte_value::{Area, Name};
+use carte_value::{Area, Name, NoMemory};
+use std::alloc::Global;
 use std::marker::Model;
 
 /// The name of a cell of a sheet.
@@ -28,6 +29,14 @@ impl Cell {
         ensures { result ≡ name }
     {
         Cell { name }
+    }
+
+    /// The same cell. It shares the name's text.
+    pub fn copy(&self, alloc: Global) -> Result<Cell, NoMemory>
+        ensures { IfOk result (λ c. c ≡ self.now) }
+    {
+        let name = self.name.copy(alloc)?;
+        Ok(Cell { name })
     }
 
     pub fn into_name(self) -> Name

@@ -1,7 +1,11 @@
-ghost use Rattle.std.specs.Prelude.{◌≡◌, nat_lt, []};
-ghost use Rattle.carte_formula.specs.Machine.{next_state, wants};
-ghost use Rattle.carte_formula.specs.Reading.{depth, tokens_read};
+ghost use Rattle.std.specs.Prelude.{◌≡◌, nat_lt, [], length, Ok};
+ghost use Rattle.carte_tree.specs.Code.{tree_of};
+ghost use Rattle.carte_formula.specs.Lexer.{idle, lexed};
+ghost use Rattle.carte_formula.specs.Machine.{next_state};
+ghost use Rattle.carte_formula.specs.Reading.{depth};
 ghost use Rattle.carte_formula.specs.Parser.{state_of, StepsTo, ReadsTo};
+ghost use Rattle.carte_formula.specs.Whole.{with_tokens, with_width};
+ghost use Rattle.carte_formula.specs.Resumed.{resumed};
 
 mod building;
 mod chains;
@@ -10,33 +14,64 @@ mod operand;
 mod states;
 mod steps;
 
+use crate::lexer::{first_fault, meet};
 use crate::parser::frames::Stack;
 use crate::parser::states::State;
 use crate::parser::steps::{finish, step};
 use crate::tokens::Placed;
+use crate::width::Ranges;
 use crate::{Expr, FormulaFault};
+use carte_value::Kind;
 use std::alloc::Global;
-use std::collections::VecDeque;
 
 /// How many groups, calls and unary signs may stand round a place.
 const MOST_LEVELS: usize = 64;
 
-/// Reads the tokens of a text of so many bytes.
-pub fn formula_of(
-    alloc: Global,
-    mut tokens: VecDeque<Placed>,
-    size: usize,
-) -> Result<Expr, FormulaFault>
-    ensures { ReadsTo result (tokens_read (wants []) tokens.items size) }
+/// Reads a text token by token, and beside it how wide its ranges are.
+pub fn formula_of(alloc: Global, kind: Kind, text: &str) -> Result<Expr, FormulaFault>
+    ensures { ReadsTo result (with_tokens (lexed kind idle 0 text.now) (length text.now)) }
 {
     let mut stack = Stack::new(alloc);
+    let mut ranges = Ranges::new();
     let mut state = State::Wants;
-    while let Some(placed) = tokens.pop_front() {
-        state = go_on(alloc, state, placed, &mut stack)?;
+    let mut at = 0;
+    while at < text.len() {
+        let (token, end) = meet(alloc, kind, text, at)?;
+        if let Some(token) = token {
+            let placed = Placed { place: at, token };
+            ranges.take(alloc, &placed)?;
+            match go_on(alloc, state, placed, &mut stack) {
+                Ok(next) => state = next,
+                Err(fault) => return Err(first_fault(alloc, kind, text, end, fault)),
+            }
+        }
+        at = end;
     }
-    match finish(alloc, state, &mut stack)? {
-        Some(formula) => Ok(formula),
+    whole(alloc, state, &mut stack, &ranges, text.len())
+}
+
+/// The formula where a text of so many bytes ends.
+fn whole(
+    alloc: Global,
+    state: State,
+    stack: &mut Stack,
+    ranges: &Ranges,
+    size: usize,
+) -> Result<Expr, FormulaFault>
+    ensures { ReadsTo result (resumed (state_of state stack.old.frames.items) ranges.now size (Ok [])) }
+{
+    match finish(alloc, state, stack)? {
+        Some(formula) => not_wide(formula, ranges.too_wide()),
         None => Err(FormulaFault::BadSyntax(size)),
+    }
+}
+
+fn not_wide(formula: Expr, too_wide: Option<usize>) -> Result<Expr, FormulaFault>
+    ensures { ReadsTo result (with_width (Ok (tree_of formula)) too_wide) }
+{
+    match too_wide {
+        Some(place) => Err(FormulaFault::TooWide(place)),
+        None => Ok(formula),
     }
 }
 

@@ -1,57 +1,109 @@
-ghost use Rattle.std.specs.Prelude.{◌≡◌, ◌<◌, ◌∷◌, [], length, drop};
-ghost use Rattle.carte_formula.specs.Whole.{range_size, size_at, wide_from};
+ghost use Rattle.std.specs.Prelude.{◌≡◌, ◌≤◌, ◌∷◌, [], List, OnOk};
+ghost use Rattle.carte_formula.specs.declared.tokens.Token.TheVariants as tokens;
+ghost use Rattle.carte_formula.specs.Reading.{Placed};
+ghost use Rattle.carte_formula.specs.Whole.{wide_from};
 
+use crate::cell::Cell;
 use crate::tokens::{Placed, Token};
-use std::collections::VecDeque;
+use carte_value::NoMemory;
+use std::alloc::Global;
+use std::mem;
 
 /// How many cells the ranges of a formula may have together.
 const MOST_CELLS: u64 = 65_536;
 
-/// The place of the first cell of the range with which all ranges have more than 65,536 cells.
-pub fn wide(tokens: &VecDeque<Placed>) -> Option<usize>
-    ensures { result ≡ wide_from 0 tokens.now.items }
-{
-    let mut sum = 0;
-    let mut at = 0;
-    while let Some(placed) = tokens.get(at) {
-        let size = size_at(tokens, at);
-        if size > MOST_CELLS - sum {
-            return Some(placed.place);
+/// The last tokens and their places, where a range may have begun with them.
+#[derive(Drop)]
+pub enum Begun {
+    /// No range.
+    Nothing,
+    /// A cell.
+    Corner(usize, Cell),
+    /// A cell and a colon.
+    Half(usize, Cell, usize),
+}
+
+/// The ranges among the tokens so far: how many cells they have, or where they became too many.
+#[derive(Drop)]
+pub struct Ranges {
+    pub cells: u64,
+    pub too_wide: Option<usize>,
+    pub begun: Begun,
+    ghost few: { cells ≤ 65536 },
+}
+
+impl Ranges {
+    ghost use Rattle.carte_formula.specs.Ranges.{wide_behind, wide_after, wide_counted};
+
+    pub fn new() -> Ranges
+        ensures { (ps : List Placed) → wide_after result ps ≡ wide_from 0 ps }
+    {
+        Ranges {
+            cells: 0,
+            too_wide: None,
+            begun: Begun::Nothing,
         }
-        sum += size;
-        at += 1;
     }
-    None
-}
 
-/// How many cells the range has that begins at a token, and 0 where none begins.
-fn size_at(tokens: &VecDeque<Placed>, at: usize) -> u64
-    requires { at < length tokens.now.items }
-    ensures { result ≡ size_at (drop at tokens.now.items) }
-{
-    let Some(first) = tokens.get(at) else {
-        return 0;
-    };
-    let Some(second) = tokens.get(at + 1) else {
-        return 0;
-    };
-    let Some(third) = tokens.get(at + 2) else {
-        return 0;
-    };
-    range_size(&first.token, &second.token, &third.token)
-}
+    /// A token follows.
+    pub fn take(&mut self, alloc: Global, placed: &Placed) -> Result<(), NoMemory>
+        ensures { OnOk result ((ps : List Placed) → wide_after self.old (placed.now ∷ ps) ≡ wide_after self.new ps) }
+    {
+        match &placed.token {
+            Token::Cell(cell) => self.take_cell(alloc, placed.place, cell),
+            Token::Colon => {
+                self.take_colon(placed.place);
+                Ok(())
+            }
+            _ => {
+                self.begun = Begun::Nothing;
+                Ok(())
+            }
+        }
+    }
 
-fn range_size(first: &Token, second: &Token, third: &Token) -> u64
-    ensures { result ≡ range_size first.now (second.now ∷ third.now ∷ []) }
-{
-    match first {
-        Token::Cell(corner) => match second {
-            Token::Colon => match third {
-                Token::Cell(opposite) => corner.to(opposite).size(),
-                _ => 0,
-            },
-            _ => 0,
-        },
-        _ => 0,
+    fn take_cell(&mut self, alloc: Global, place: usize, cell: &Cell) -> Result<(), NoMemory>
+        ensures { OnOk result ((ps : List Placed) → wide_after self.old (record { place = place; token = tokens.Cell cell.now } ∷ ps) ≡ wide_after self.new ps) }
+    {
+        let corner = cell.copy(alloc)?;
+        let begun = mem::replace(&mut self.begun, Begun::Corner(place, corner));
+        match begun {
+            Begun::Half(first, opposite, _) => {
+                self.count(first, opposite.to(cell).size());
+                Ok(())
+            }
+            _ => Ok(()),
+        }
+    }
+
+    fn take_colon(&mut self, place: usize)
+        ensures { (ps : List Placed) → wide_after self.old (record { place = place; token = tokens.Colon } ∷ ps) ≡ wide_after self.new ps }
+    {
+        if let Begun::Corner(first, corner) = mem::replace(&mut self.begun, Begun::Nothing) {
+            self.begun = Begun::Half(first, corner, place);
+        }
+    }
+
+    /// A range that begins at a place has so many cells.
+    fn count(&mut self, place: usize, size: u64)
+        ensures begun { self.new.begun ≡ self.old.begun }
+        ensures cells { (ps : List Placed) → wide_behind self.new ps ≡ wide_counted self.old place size ps }
+    {
+        if self.too_wide.is_some() {
+            return;
+        }
+        if size > MOST_CELLS - self.cells {
+            self.too_wide = Some(place);
+        } else {
+            self.cells += size;
+        }
+    }
+
+    /// The place of the first cell of the range with which all ranges have more than 65,536 cells.
+    #[tactic(auto, using(crate::proofs::Ranging::none_after))]
+    pub fn too_wide(&self) -> Option<usize>
+        ensures { result ≡ wide_after self.now [] }
+    {
+        self.too_wide
     }
 }

@@ -1,5 +1,5 @@
 ghost use Rattle.std.specs.Prelude.{◌≡◌, [], ◌∷◌, drop, slice_get, OnOk};
-ghost use Rattle.carte_formula.specs.Frames.{weight_of, depth_in};
+ghost use Rattle.carte_formula.specs.Frames.{weight_of, depth_in, PopsSign};
 
 use crate::{Arg, Expr, Func, Level, Op};
 use carte_value::NoMemory;
@@ -74,6 +74,19 @@ impl Stack {
             }
             None => None,
         }
+    }
+
+    /// Takes the newest frame away where it is a sign, and says which: true for minus.
+    pub fn pop_sign(&mut self) -> Option<bool>
+        ensures { PopsSign self.old.frames.items self.new.frames.items result }
+    {
+        let Some(Frame::Sign(minus)) = self.frames.front() else {
+            return None;
+        };
+        let minus = *minus;
+        self.frames.pop_front();
+        self.depth -= 1;
+        Some(minus)
     }
 }
 

@@ -13,15 +13,12 @@ use carte_value::NoMemory;
 use std::alloc::Global;
 
 /// An operand is whole, and so are the signs before it.
+#[tactic(auto, using(crate::proofs::Signs::had_after))]
 pub fn after(alloc: Global, operand: Expr, stack: &mut Stack) -> Result<State, NoMemory>
     ensures { IfOk result (λ s. state_of s stack.new.frames.items ≡ after (tree_of operand) (frames_of stack.old.frames.items)) }
 {
-    match stack.pop() {
-        Some(Frame::Sign(minus)) => after(alloc, signed(alloc, minus, operand)?, stack),
-        Some(frame) => {
-            stack.push(frame)?;
-            Ok(State::Had(operand))
-        }
+    match stack.pop_sign() {
+        Some(minus) => after(alloc, signed(alloc, minus, operand)?, stack),
         None => Ok(State::Had(operand)),
     }
 }

@@ -1,7 +1,7 @@
 use Rattle.std.proofs.Common.{sym, ◌∙◌, ap, slice_range}
 use Rattle.carte_formula.specs.Lexer.{token_of}
-use Rattle.carte_formula.proofs.Taking.{run_known, run_along, run_put, run_bad, run_is_over}
-use Rattle.carte_formula.proofs.lexer.take_run.Goals as goal
+use Rattle.carte_formula.proofs.Taking.{run_known, run_along, run_met, run_bad, run_is_over}
+use Rattle.carte_formula.proofs.lexer.meet_run.Goals as goal
 
 pub run_end-last-requires-clause-known : goal.run_end-last-requires-clause-known
 run_end-last-requires-clause-known c = rw c.as_bytes.ensures.value (run_known c.args.kind c.args.text.now c.args.at c.args.class c.requires.place c.requires.start)
@@ -17,8 +17,8 @@ range-requires-clause-end_boundary c =
 
 pub returns-in-Some : goal.returns-in-Some
 returns-in-Some c =
-    run_put c.args.kind c.args.text.now c.args.at c.args.class c.run_end-last.result.0 c.run_end-last.result.1 c.in-Some.token c.args.tokens.now.items c.put.new.tokens.items c.put.result c.requires.place c.requires.start
-    (run_along c.as_bytes.result.now c.args.text.now c.args.class c.run_end-last.result.0 c.args.at c.run_end-last.result.1 c.as_bytes.ensures.value c.run_end-last.ensures) (sym c.in-Some.is ∙ c.in_ok-token.ensures ∙ ap (λ bs. token_of c.run_end-last.result.0 bs) c.range.ensures.value) c.put.ensures
+    run_met c.args.kind c.args.text.now c.args.at c.args.class c.run_end-last.result.0 c.run_end-last.result.1 c.in-Some.token c.requires.place c.requires.start
+    (run_along c.as_bytes.result.now c.args.text.now c.args.class c.run_end-last.result.0 c.args.at c.run_end-last.result.1 c.as_bytes.ensures.value c.run_end-last.ensures) (sym c.in-Some.is ∙ c.in_ok-token.ensures ∙ ap (λ bs. token_of c.run_end-last.result.0 bs) c.range.ensures.value)
 
 pub returns-in-None : goal.returns-in-None
 returns-in-None c =
