@@ -71,9 +71,9 @@ from_each q (k ∷ ks) each = (each k (inl refl), from_each q ks (λ j here. eac
 -- a text that is read as a name
 text_named : (q : Kind) (t k : List ℕ) → named q t ≡ Some k → IsTrue (is_name_of q k)
 text_named q t k = elim (is_text_of q t) as (λ b. is_text_of q t ≡ b → cond b (Some (name_of q t)) None ≡ Some k → IsTrue (is_name_of q k)) [
-    | true ↦ λ reads is. let same : name_of q t ≡ k = cc in rw (← same) (read_name q reads)
-    | false ↦ λ _ never. cc
-  ] refl
+  | true ↦ λ reads is. let same : name_of q t ≡ k = cc in rw (← same) (read_name q reads)
+  | false ↦ λ _ never. cc
+] refl
   where
     read_name : (q : Kind) → is_text_of q t ≡ true → IsTrue (is_name_of q (name_of q t))
     read_name Rules reads = reads
