@@ -36,6 +36,12 @@ def split(words):
     return places, options
 
 
+def meaning(name, value):
+    """A number of workers may have a plus and zeros in front."""
+    is_number = name == b"workers" and re.fullmatch(rb"\+?[0-9]+", value)
+    return b"%d" % int(value) if is_number else value
+
+
 def take(word, words, options):
     """Puts an option, whose value may be the next word, to those that there are."""
     name, equals, value = word[2:].partition(b"=")
@@ -44,7 +50,7 @@ def take(word, words, options):
     if name == b"list" and not equals:
         options[name] = True
     elif name in OPTIONS and (equals or words):
-        options[name] = value if equals else words.pop(0)
+        options[name] = meaning(name, value if equals else words.pop(0))
     else:
         raise NO_COMMAND
     if name in OPTIONS and options[name] not in OPTIONS[name]:
