@@ -21,9 +21,10 @@ def output_of(words):
     return subprocess.run(words, capture_output=True, check=True).stdout
 
 
-def instructions(words, folder):
+def instructions(words, folder, status=0):
     done = subprocess.run(["valgrind", "--tool=callgrind", f"--callgrind-out-file={folder}/callgrind", *words],
-                          capture_output=True, check=True, text=True)
+                          capture_output=True, text=True)
+    assert done.returncode == status, done.stderr
     return int(re.search(r"Collected : (\d+)", done.stderr)[1])
 
 

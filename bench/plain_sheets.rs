@@ -1,8 +1,9 @@
 // What `carte build` does with a sheet and a cell that needs nothing, as a plain Rust program without contracts, to measure beside it:
-//     rustc -O --edition 2021 -o /tmp/plain_sheets bench/plain_sheets.rs; /tmp/plain_sheets sheet.csv A1
+//     rustc -O --edition 2021 -o /tmp/plain_sheets bench/plain_sheets.rs; /tmp/plain_sheets sheet.csv A1 map
 // It splits records and fields by hand, tells numbers from texts, reads each formula into a tree by precedence, with
-// cells as numbers, keeps what it read in a BTreeMap by place, and prints the same reply. It takes what bench/sheets.py
-// writes and ends at the first fault; it says no place of a fault, and has no limits but those of its numbers.
+// cells as numbers, keeps what it read by place, and prints the same reply. With `map` a BTreeMap keeps it, as in the
+// program, and with `list` a list in the order of the file. It takes what bench/sheets.py writes and ends at the first
+// fault; it says no place of a fault, and has no limits but those of its numbers.
 use std::collections::BTreeMap;
 use std::{env, fs, str};
 
@@ -203,8 +204,6 @@ fn item(field: &[u8]) -> Item {
     }
 }
 
-type Book = BTreeMap<Place, Item>;
-
 /// One field into `field`, and what stands behind it.
 fn split<'t>(text: &'t [u8], field: &mut Vec<u8>) -> &'t [u8] {
     field.clear();
@@ -225,8 +224,7 @@ fn split<'t>(text: &'t [u8], field: &mut Vec<u8>) -> &'t [u8] {
     }
 }
 
-fn read(mut text: &[u8]) -> Book {
-    let mut book = Book::new();
+fn read(mut text: &[u8], mut keep: impl FnMut(Place, Item)) {
     let mut field = Vec::new();
     let mut row = 1;
     while !text.is_empty() {
@@ -234,7 +232,7 @@ fn read(mut text: &[u8]) -> Book {
         loop {
             text = split(text, &mut field);
             if !field.is_empty() {
-                book.insert(row * COLUMNS + column, item(&field));
+                keep(row * COLUMNS + column, item(&field));
             }
             match text.strip_prefix(b",") {
                 Some(rest) => text = rest,
@@ -247,7 +245,6 @@ fn read(mut text: &[u8]) -> Book {
         }
         row += 1;
     }
-    book
 }
 
 fn cells(expr: &Expr) -> usize {
@@ -268,16 +265,29 @@ fn in_argument(argument: &Argument) -> usize {
     }
 }
 
-fn main() {
-    let words: Vec<String> = env::args().collect();
-    let text = fs::read(&words[1]).expect("a readable sheet");
-    let book = read(text.strip_prefix(b"\xEF\xBB\xBF").unwrap_or(&text));
-    let target = &words[2];
-    match book.get(&cell(target.as_bytes()).expect("a cell")) {
+fn reply(target: &str, found: Option<&Item>) {
+    match found {
         Some(Item::Number(number)) => println!("{target} = {number}"),
         Some(Item::Text(text)) => println!("{target} = \"{text}\""),
         Some(Item::Rule(rule)) => panic!("{target} isn't an input, but a rule of {}", cells(rule)),
         None => println!("{target} = empty"),
     }
     println!("ran 0, given up 0, reused 0");
+}
+
+fn main() {
+    let words: Vec<String> = env::args().collect();
+    let text = fs::read(&words[1]).expect("a readable sheet");
+    let text = text.strip_prefix(b"\xEF\xBB\xBF").unwrap_or(&text);
+    let target = cell(words[2].as_bytes()).expect("a cell");
+    if words[3] == "map" {
+        let mut book = BTreeMap::new();
+        read(text, |place, item| drop(book.insert(place, item)));
+        reply(&words[2], book.get(&target));
+    } else {
+        let mut book = Vec::new();
+        read(text, |place, item| book.push((place, item)));
+        let at = book.binary_search_by_key(&target, |(place, _)| *place);
+        reply(&words[2], at.ok().map(|at| &book[at].1));
+    }
 }

@@ -3,11 +3,12 @@
 
 Both read the same sheet of 64 columns and print one of its inputs, so nothing is computed. What is printed is the
 instructions a cell, counted by callgrind, without those of a run on a sheet of no bytes, their ratio, and the greatest
-memory of each in a run of its own. It ends with 1 where the ratio is above 4 or `carte` takes more than 150 MB.
+memory of each in a run of its own; once beside the plain program that keeps its cells in a map, and once beside the one
+with a list. It ends with 1 where the ratio to the first is above 4 or `carte` takes more than 150 MB.
 
 Of eight columns four hold numbers, one a text, one a quoted text with a comma, one a formula of two operators and one a
-quoted formula of two calls, one of them over a range; in the second sheet numbers stand in place of the formulas. The
-third figure is of a run that ends once all is read: the first sheet with a formula behind it that is none.
+quoted formula of two calls, one of them over a range. In the second sheet numbers stand in place of the formulas. The
+last line is of a run that ends once all is read: the first sheet with a formula behind it that is none.
 """
 import os
 import pathlib
@@ -50,8 +51,8 @@ def sheet(cells, has_formulas):
                    for _ in range(rows))
 
 
-def cost(words, start, cells, folder):
-    return (instructions(words, folder) - instructions(start, folder)) / cells
+def cost(words, start, cells, folder, status=0):
+    return (instructions(words, folder, status) - instructions(start, folder, status)) / cells
 
 
 def measure(what, program, plain, text, cells, folder):
@@ -59,15 +60,15 @@ def measure(what, program, plain, text, cells, folder):
     book, empty, state = f"{folder}/sheet.csv", f"{folder}/empty.csv", f"{folder}/state"
     pathlib.Path(book).write_text(text)
     pathlib.Path(empty).write_text("")
-    runs = [([program, "build", book, state, "A1"], [program, "build", empty, state, "A1"]),
-            ([plain, book, "A1"], [plain, empty, "A1"])]
-    assert output_of(runs[0][0]) == output_of(runs[1][0]), "the replies differ"
-    costs = [cost(*words, cells, folder) for words in runs]
+    runs = [([program, "build", book, state, "A1"], [program, "build", empty, state, "A1"])]
+    runs += [([plain, book, "A1", keeps], [plain, empty, "A1", keeps]) for keeps in ("map", "list")]
+    assert len({output_of(words) for words, _ in runs}) == 1, "the replies differ"
+    proved, *bare = [cost(*words, cells, folder) for words in runs]
     most = [memory(words) for words, _ in runs]
-    ratio = costs[0] / costs[1]
-    print(f"{cells} cells, {what}, {len(text)} bytes: {costs[0]:.0f} and {costs[1]:.0f} instructions a cell, "
-          f"ratio {ratio:.2f}; {most[0]} and {most[1]} KB", flush=True)
-    return ratio <= MOST_RATIO and most[0] <= MOST_MEMORY
+    print(f"{cells} cells, {what}, {len(text)} bytes: {proved:.0f} instructions a cell and {most[0]} KB")
+    for keeps, count, memory_of in zip(("a map", "a list"), bare, most[1:]):
+        print(f"  beside {keeps}: {count:.0f} and {memory_of} KB, ratio {proved / count:.2f}", flush=True)
+    return proved <= MOST_RATIO * bare[0] and most[0] <= MOST_MEMORY
 
 
 def refused(program, text, cells, folder):
@@ -76,7 +77,7 @@ def refused(program, text, cells, folder):
     pathlib.Path(book).write_text(text + "=(\n")
     pathlib.Path(empty).write_text("=(\n")
     words = [[program, "build", path, state, "A1"] for path in (book, empty)]
-    print(f"read and refused: {cost(*words, cells, folder):.0f} instructions a cell")
+    print(f"read and refused: {cost(*words, cells, folder, 1):.0f} instructions a cell")
 
 
 def main(program, cells=65_536):

@@ -1,7 +1,7 @@
 """Sheets, read a second time: which book the bytes of a sheet are, or the first fault.
 
-It shares no code with the program. Records are read by Python's own `csv`, which reads the sheets of the comparisons
-as the program does; lone carriage returns, nulls and unclosed quotes are left to the tests of `carte_sheet`.
+It shares no code with the program. Records are read by Python's own `csv`, which was seen to read all sheets of the
+tables (`tables/sheets.tsv`) as the program does, lone carriage returns, nulls and unclosed quotes among them.
 """
 import csv
 import io
