@@ -1,18 +1,19 @@
 #!/usr/bin/env python3
-"""Flips each bit of a small state and builds over what is there then: bit_flips.py PROGRAM [SCHEDULER]
+"""Flips each bit of small states and builds over what is there then: bit_flips.py PROGRAM [SCHEDULER]
 
-The state is one that all four rebuilders wrote, of a small book before and after an edit. Over each damaged state each
-rebuilder builds four books: the same, one with an input put back, and two with another input changed. What comes of a bit
-is the worst of these builds, in this order:
+Each rebuilder writes a state of its own, by a build of a small book and one after an edit. Over its state with one bit
+flipped it builds four books: the same again, one with the edit undone, and two with another input changed. What comes of
+a bit is the worst of these builds, in this order:
 
     refused   the state is bad (status 7), and nothing is built
-    wrong     status 0, and a target has another value than a build from nothing gives it
+    wrong     status 0, and the target has another value than a build from nothing gives it
     counts    each value is right, and other rules ran or were reused than over the state without damage
     same      nothing is seen of it
 
-A table for docs/STATE.md goes to standard output: of each part of the file, as docs/STATE.md and docs/STATE-BATCHES.md
-name them, how many bits it has and what came of them. Whatever else comes (another status, a run that doesn't end) is
-printed, and the end is 1 then. The files lie in the folder that TMPDIR names; one in memory spares the syncs.
+The tables of docs/STATE.md go to standard output: what came of the bits by rebuilder, with the offset that was told where
+a state was refused, and how many wrong values each part of the file led to, by its name there and in
+docs/STATE-BATCHES.md. Whatever else comes (another status, a run that doesn't end) is printed, and the end is 1 then. The
+files lie in the folder that TMPDIR names; one in memory spares the syncs.
 """
 import collections
 import pathlib
@@ -30,7 +31,8 @@ RULES = '[rules]\np = "a + b"\nq = "b + c"\nr = "p * q"\n'
 TARGET = "r"
 FIRST, NOW = dict(a=2, b=3, c=3), dict(a=4, b=3, c=3)
 LATER = [NOW, FIRST, dict(a=4, b=5, c=3), dict(a=4, b=3, c=5)]
-WORST = ["refused", "wrong", "counts", "same"]
+OUTCOMES = ["refused", "wrong", "counts", "same"]
+ODD = "something else"
 
 
 def book(inputs):
@@ -38,7 +40,7 @@ def book(inputs):
 
 
 class Runs:
-    """A folder with the books, and one state file that is written before each run."""
+    """A folder with a book and a state file, both written before each run."""
 
     def __init__(self, program, scheduler, folder):
         self.program, self.scheduler, self.folder = str(pathlib.Path(program).resolve()), scheduler, pathlib.Path(folder)
@@ -53,14 +55,12 @@ class Runs:
         done = subprocess.run(words, stdin=subprocess.DEVNULL, capture_output=True, close_fds=False, timeout=20)
         return done.returncode, (done.stdout + done.stderr).decode().splitlines()
 
-
-def whole_state(runs):
-    state = b""
-    for inputs in (FIRST, NOW):
-        for rebuilder in REBUILDERS:
-            runs.build(inputs, rebuilder, state)
-            state = runs.state.read_bytes()
-    return state
+    def state_of(self, rebuilder):
+        state = b""
+        for inputs in (FIRST, NOW):
+            self.build(inputs, rebuilder, state)
+            state = self.state.read_bytes()
+        return state
 
 
 def parts(state):
@@ -68,83 +68,76 @@ def parts(state):
     names, at = ["header"] * 8, 8
     while state[at] == 1:
         length = int.from_bytes(state[at + 1 : at + 5], "big")
-        names += ["gate bytes"] + ["lengths"] * 4
+        names += ["gate byte"] + ["length"] * 4
         for name, piece in batches.spell_parts(batches.read(state[at + 5 : at + 5 + length])):
             names += [name] * len(piece)
         at += 5 + length
     assert at + 1 == len(state)
-    return [*names, "gate bytes"]
-
-
-def outcome(got, right, whole):
-    """What one build over a damaged state came to, beside the right values and the build over the whole state."""
-    status, lines = got
-    if status == 7:
-        return "refused"
-    if status != 0:
-        return None
-    if lines[:-1] != right:
-        return "wrong"
-    return "same" if lines == whole else "counts"
+    return [*names, "gate byte"]
 
 
 class Count:
-    """What came of each bit, by part and rebuilder."""
+    """What came of each bit of a rebuilder's own state."""
 
-    def __init__(self, runs):
-        self.runs, self.state = runs, whole_state(runs)
-        self.right = [runs.build(inputs, "verifying", b"")[1][:-1] for inputs in LATER]
-        self.whole = {way: [runs.build(inputs, way, self.state)[1] for inputs in LATER] for way in REBUILDERS}
-        self.bits, self.offsets, self.odd = collections.Counter(), collections.Counter(), []
-        self.came = {way: collections.Counter() for way in REBUILDERS}
-
-    def worst(self, way, damaged, bit):
-        found = set()
-        for inputs, right, whole in zip(LATER, self.right, self.whole[way]):
-            got = self.runs.build(inputs, way, damaged)
-            found.add(outcome(got, right, whole))
-            if None in found:
-                self.odd.append((bit, way, inputs, got))
-                return "odd"
-            if "refused" in found:
-                return "refused"
-        return min(found, key=WORST.index)
-
-    def all(self):
+    def __init__(self, runs, rebuilder):
+        self.runs, self.rebuilder, self.state = runs, rebuilder, runs.state_of(rebuilder)
+        whole = [self.build(inputs, self.state)[1] for inputs in LATER]
+        right = [self.build(inputs, b"")[1][:-1] for inputs in LATER]
+        self.later = list(zip(LATER, right, whole))
+        self.bits, self.came, self.offsets, self.odd = (collections.Counter() for _ in range(4))
         for at, part in enumerate(parts(self.state)):
             for bit in range(8 * at, 8 * at + 8):
-                damaged = batches.turned(self.state, bit)
                 self.bits[part] += 1
-                first = self.runs.build(NOW, REBUILDERS[0], damaged)
-                if first[0] == 7:
-                    self.offsets[first[1][0]] += 1
-                for way in REBUILDERS:
-                    came = "refused" if first[0] == 7 else self.worst(way, damaged, bit)
-                    self.came[way][part, came] += 1
+                self.came[part, self.worst(bit)] += 1
+
+    def build(self, inputs, state):
+        return self.runs.build(inputs, self.rebuilder, state)
+
+    def worst(self, bit):
+        damaged, found = batches.turned(self.state, bit), set()
+        for inputs, right, whole in self.later:
+            status, lines = self.build(inputs, damaged)
+            if status == 7:
+                self.offsets[lines[0]] += 1
+                return "refused"
+            if status != 0:
+                self.odd[f"{self.rebuilder}, bit {bit}, {inputs}: status {status}, {lines}"] += 1
+                return ODD
+            found.add("wrong" if lines[:-1] != right else "same" if lines == whole else "counts")
+        return min(found, key=OUTCOMES.index)
+
+    def times(self, outcome, part=None):
+        return sum(times for (name, what), times in self.came.items() if what == outcome and part in (None, name))
 
 
-def table(count):
-    print("| Part | Bits | Refused | " + " | ".join(f"`{way}`: counts, wrong" for way in REBUILDERS) + " |")
-    print("|---|---|---|" + "---|" * len(REBUILDERS))
-    for part in [*count.bits, "all"]:
-        of = lambda way, came: sum(times for (name, what), times in count.came[way].items() if what == came and part in (name, "all"))
-        bits = sum(times for name, times in count.bits.items() if part in (name, "all"))
-        cells = [f"{of(way, 'counts')}, {of(way, 'wrong')}" for way in REBUILDERS]
-        print(f"| {part} | {bits} | {of(REBUILDERS[0], 'refused')} | " + " | ".join(cells) + " |")
+def row(*cells):
+    print("| " + " | ".join(map(str, cells)) + " |")
+
+
+def tables(counts):
+    row("Rebuilder", "Bits", "Refused as a bad state", "Wrong value", "Right value, other counts", "As without damage")
+    row(*["---"] * 6)
+    for count in counts:
+        row(f"`{count.rebuilder}`", 8 * len(count.state), *map(count.times, OUTCOMES))
+    print()
+    row("Part", *(f"`{count.rebuilder}`" for count in counts))
+    row(*["---"] * (len(counts) + 1))
+    for part in dict.fromkeys(part for count in counts for part in count.bits):
+        if any(count.times("wrong", part) for count in counts):
+            row(part, *(f"{count.times('wrong', part)} of {count.bits[part]}" for count in counts))
+    print()
+    for count in counts:
+        told = [f"{times} of {line.removeprefix('carte: ')}" for line, times in sorted(count.offsets.items(), key=lambda it: int(it[0].split()[-1]))]
+        print(f"{count.rebuilder} refused: {', '.join(told)}")
 
 
 def main(program, scheduler="suspending"):
     with tempfile.TemporaryDirectory() as folder:
-        count = Count(Runs(program, scheduler, folder))
-        print(f"a state of {len(count.state)} bytes, {scheduler}\n")
-        count.all()
-    table(count)
-    print()
-    for line, times in sorted(count.offsets.items()):
-        print(f"{line}: {times}")
-    for odd in count.odd:
-        print(f"something else: bit {odd[0]}, {odd[1]}, {odd[2]}: {odd[3]}")
-    return 1 if count.odd else 0
+        counts = [Count(Runs(program, scheduler, folder), rebuilder) for rebuilder in REBUILDERS]
+    tables(counts)
+    odd = [line for count in counts for line in count.odd]
+    print(*odd, sep="\n", end="")
+    return 1 if odd else 0
 
 
 if __name__ == "__main__":
