@@ -17,6 +17,8 @@ mod base;
 mod changed;
 mod marking;
 mod reach;
+#[cfg(test)]
+mod tests;
 mod users;
 
 pub use base::{Base, Begun, begin};
