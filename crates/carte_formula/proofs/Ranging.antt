@@ -76,10 +76,6 @@ not_half nothing j h = tt
 not_half (corner place k) j h = λ e. (let z : ⊥ = cc in z)
 not_half (half place k behind) j h = absurd (h place k behind refl)
 
--- a colon that is no range's
-pub colon_taken : (w : Ranges) (place : ℕ) (ps : List Placed) → w.cells ≤ 65536 → EndsBegun w.begun colon → wide_after w (AtColon place ∷ ps) ≡ wide_behind w ps
-colon_taken w place ps low h = ap (λ o. first_of w.too_wide o) (ended w.cells w.begun (AtColon place) ps low h ∙ skipped w.cells (AtColon place) ps low refl)
-
 none_begun : (sum : ℕ) (b : Begun) → sum ≤ 65536 → wide_from sum (begun_tokens b ++ []) ≡ None
 none_begun sum nothing low = refl
 none_begun sum (corner place k) low = skipped sum (AtCell place k) [] low refl

@@ -1,5 +1,5 @@
 -- The machine's states as the code holds them.
-use Rattle.std.specs.Prelude.{ℕ, true, false, nat_lt, List, map, Option, Some, None, Result, Ok, Err, ◌≡◌}
+use Rattle.std.specs.Prelude.{ℕ, Bool, true, false, nat_lt, List, map, Option, Some, None, Result, Ok, Err, ◌≡◌}
 use Rattle.carte_value.specs.declared.NoMemory.{NoMemory}
 use Rattle.carte_tree.specs.Tree.{Tree}
 use Rattle.carte_tree.specs.Code.{tree_of, terms_of, args_trees}
@@ -11,6 +11,7 @@ use Rattle.carte_formula.specs.declared.parser.frames.Frame.{Frame as CodeFrame}
 use Rattle.carte_formula.specs.declared.parser.frames.Frame.TheVariants as code
 use Rattle.carte_formula.specs.declared.parser.states.State.{State as CodeState}
 use Rattle.carte_formula.specs.declared.parser.states.State.TheVariants as states
+use Rattle.carte_formula.specs.declared.parser.states.Parser.{Parser}
 
 abbrev pub open_frame : OpenChain → Frame
 open_frame c = chain_at c.level (tree_of c.first) (terms_of c.steps.items) c.last
@@ -32,14 +33,17 @@ state_of (states.Corner k f xs) S = corner k f (args_trees xs.items) (frames_of 
 state_of (states.Half k f xs) S = half k f (args_trees xs.items) (frames_of S)
 state_of (states.Ranged a f xs) S = ranged a f (args_trees xs.items) (frames_of S)
 
--- the state that a call led to, if any
-abbrev pub OptionGoesTo : Option CodeState → List CodeFrame → Option State → Type 0
-OptionGoesTo None S o = o ≡ None
-OptionGoesTo (Some s) S o = o ≡ Some (state_of s S)
+abbrev pub reached : Parser → State
+reached p = state_of p.state p.stack.frames.items
 
-abbrev pub GoesTo : Result (Option CodeState) NoMemory → List CodeFrame → Option State → Type 0
-GoesTo (Ok r) S o = OptionGoesTo r S o
-GoesTo (Err e) S o = Unit {0}
+-- whether a call led to a state, and to which
+abbrev pub OptionGoesTo : Bool → Parser → Option State → Type 0
+OptionGoesTo false p o = o ≡ None
+OptionGoesTo true p o = o ≡ Some (reached p)
+
+abbrev pub GoesTo : Result Bool NoMemory → Parser → Option State → Type 0
+GoesTo (Ok b) p o = OptionGoesTo b p o
+GoesTo (Err e) p o = Unit {0}
 
 abbrev pub EndsTo : Result (Option Expr) NoMemory → Option Tree → Type 0
 EndsTo (Ok None) o = o ≡ None
@@ -47,12 +51,12 @@ EndsTo (Ok (Some e)) o = o ≡ Some (tree_of e)
 EndsTo (Err e) o = Unit {0}
 
 -- what comes of a token at a place, where the machine goes to o
-abbrev pub StepsTo : Result CodeState FormulaFault → List CodeFrame → Option State → ℕ → Type 0
-StepsTo (Ok s) S o place = (o ≡ Some (state_of s S)) × (nat_lt 64 (depth (state_of s S)) ≡ false)
-StepsTo (Err (BadSyntax at)) S o place = (o ≡ None) × (at ≡ place)
-StepsTo (Err (TooDeep at)) S o place = (u : State) × (o ≡ Some u) × (nat_lt 64 (depth u) ≡ true) × (at ≡ place)
-StepsTo (Err OutOfMemory) S o place = Unit {0}
-StepsTo (Err _) S o place = ⊥
+abbrev pub StepsTo : Result (Unit {0}) FormulaFault → Parser → Option State → ℕ → Type 0
+StepsTo (Ok _) p o place = (o ≡ Some (reached p)) × (nat_lt 64 (depth (reached p)) ≡ false)
+StepsTo (Err (BadSyntax at)) p o place = (o ≡ None) × (at ≡ place)
+StepsTo (Err (TooDeep at)) p o place = (u : State) × (o ≡ Some u) × (nat_lt 64 (depth u) ≡ true) × (at ≡ place)
+StepsTo (Err OutOfMemory) p o place = Unit {0}
+StepsTo (Err _) p o place = ⊥
 
 -- a call answered what it should, unless memory ran out
 abbrev pub ReadsTo : Result Expr FormulaFault → Result Tree FormulaFault → Type 0

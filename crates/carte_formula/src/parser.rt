@@ -3,7 +3,7 @@ ghost use Rattle.carte_tree.specs.Code.{tree_of};
 ghost use Rattle.carte_formula.specs.Lexer.{idle, lexed};
 ghost use Rattle.carte_formula.specs.Machine.{next_state};
 ghost use Rattle.carte_formula.specs.Reading.{depth};
-ghost use Rattle.carte_formula.specs.Parser.{state_of, StepsTo, ReadsTo};
+ghost use Rattle.carte_formula.specs.Parser.{reached, StepsTo, ReadsTo};
 ghost use Rattle.carte_formula.specs.Whole.{with_tokens, with_width};
 ghost use Rattle.carte_formula.specs.Resumed.{resumed};
 
@@ -16,13 +16,14 @@ mod steps;
 
 use crate::lexer::{first_fault, meet};
 use crate::parser::frames::Stack;
-use crate::parser::states::State;
+use crate::parser::states::{Parser, State};
 use crate::parser::steps::{finish, step};
 use crate::tokens::Placed;
 use crate::width::Ranges;
 use crate::{Expr, FormulaFault};
 use carte_value::Kind;
 use std::alloc::Global;
+use std::mem;
 
 /// How many groups, calls and unary signs may stand round a place.
 const MOST_LEVELS: usize = 64;
@@ -31,36 +32,37 @@ const MOST_LEVELS: usize = 64;
 pub fn formula_of(alloc: Global, kind: Kind, text: &str) -> Result<Expr, FormulaFault>
     ensures { ReadsTo result (with_tokens (lexed kind idle 0 text.now) (length text.now)) }
 {
-    let mut stack = Stack::new(alloc);
+    let mut parser = Parser {
+        state: State::Wants,
+        stack: Stack::new(alloc),
+    };
     let mut ranges = Ranges::new();
-    let mut state = State::Wants;
     let mut at = 0;
     while at < text.len() {
         let (token, end) = meet(alloc, kind, text, at)?;
         if let Some(token) = token {
             let placed = Placed { place: at, token };
             ranges.take(alloc, &placed)?;
-            match go_on(alloc, state, placed, &mut stack) {
-                Ok(next) => state = next,
-                Err(fault) => return Err(first_fault(alloc, kind, text, end, fault)),
+            if let Err(fault) = take(alloc, placed, &mut parser) {
+                return Err(first_fault(alloc, kind, text, end, fault));
             }
         }
         at = end;
     }
-    whole(alloc, state, &mut stack, &ranges, text.len())
+    whole(alloc, &mut parser, &ranges, text.len())
 }
 
 /// The formula where a text of so many bytes ends.
 fn whole(
     alloc: Global,
-    state: State,
-    stack: &mut Stack,
+    parser: &mut Parser,
     ranges: &Ranges,
     size: usize,
 ) -> Result<Expr, FormulaFault>
-    ensures { ReadsTo result (resumed (state_of state stack.old.frames.items) ranges.now size (Ok [])) }
+    ensures { ReadsTo result (resumed (reached parser.old) ranges.now size (Ok [])) }
 {
-    match finish(alloc, state, stack)? {
+    let state = mem::replace(&mut parser.state, State::Wants);
+    match finish(alloc, state, &mut parser.stack)? {
         Some(formula) => not_wide(formula, ranges.too_wide()),
         None => Err(FormulaFault::BadSyntax(size)),
     }
@@ -75,32 +77,25 @@ fn not_wide(formula: Expr, too_wide: Option<usize>) -> Result<Expr, FormulaFault
     }
 }
 
-fn go_on(
-    alloc: Global,
-    state: State,
-    placed: Placed,
-    stack: &mut Stack,
-) -> Result<State, FormulaFault>
-    ensures { StepsTo result stack.new.frames.items (next_state (state_of state stack.old.frames.items) placed.token) placed.place }
+fn take(alloc: Global, placed: Placed, parser: &mut Parser) -> Result<(), FormulaFault>
+    ensures { StepsTo result parser.new (next_state (reached parser.old) placed.token) placed.place }
 {
-    match step(alloc, state, placed.token, stack)? {
-        Some(state) => {
-            if is_too_deep(&state, stack) {
-                return Err(FormulaFault::TooDeep(placed.place));
-            }
-            Ok(state)
-        }
-        None => Err(FormulaFault::BadSyntax(placed.place)),
+    if !step(alloc, placed.token, parser)? {
+        return Err(FormulaFault::BadSyntax(placed.place));
     }
+    if is_too_deep(parser) {
+        return Err(FormulaFault::TooDeep(placed.place));
+    }
+    Ok(())
 }
 
 /// Whether too many brackets, calls and signs stand round what comes next.
 #[tactic(auto, using(crate::proofs::Depths::depth_same))]
-fn is_too_deep(state: &State, stack: &Stack) -> bool
-    ensures { result ≡ nat_lt 64 (depth (state_of state.now stack.now.frames.items)) }
+fn is_too_deep(parser: &Parser) -> bool
+    ensures { result ≡ nat_lt 64 (depth (reached parser.now)) }
 {
-    match state {
-        State::Wants | State::Had(_) | State::Named(_) => stack.depth() > MOST_LEVELS,
-        _ => stack.depth() >= MOST_LEVELS,
+    match &parser.state {
+        State::Wants | State::Had(_) | State::Named(_) => parser.stack.depth() > MOST_LEVELS,
+        _ => parser.stack.depth() >= MOST_LEVELS,
     }
 }

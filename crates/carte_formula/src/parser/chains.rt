@@ -7,10 +7,13 @@ ghost use Rattle.carte_formula.specs.Parser.{frame_of, open_frame, frames_of, Go
 use crate::parser::building::{call_of, grow, signed, whole_chain, with_arg};
 use crate::parser::frames::{Frame, OpenChain, Stack};
 use crate::parser::operand::{after, put};
-use crate::parser::states::State;
+use crate::parser::states::Parser;
 use crate::{Arg, Expr, Func, Level, Op};
 use carte_value::NoMemory;
 use std::alloc::Global;
+
+/// How many operators most chains have. A list that grows from nothing would have room for four.
+const FEW_STEPS: usize = 1;
 
 /// An operator follows an operand: the chains that bind tighter are whole.
 #[cycle(join)]
@@ -51,10 +54,11 @@ fn join_behind(
 fn begin_chain(alloc: Global, op: Op, operand: Expr, stack: &mut Stack) -> Result<(), NoMemory>
     ensures { OnOk result (frames_of stack.new.frames.items ≡ chain_at (level_of op) (tree_of operand) [] op ∷ frames_of stack.old.frames.items) }
 {
+    let steps = Vec::with_capacity(alloc, FEW_STEPS)?;
     stack.push(Frame::Chain(OpenChain {
         level: op.level(),
         first: operand,
-        steps: Vec::new(alloc),
+        steps,
         last: op,
     }))
 }
@@ -85,12 +89,12 @@ fn join_chain(
 
 /// A closing bracket behind an operand.
 #[cycle(close)]
-pub fn close(alloc: Global, operand: Expr, stack: &mut Stack) -> Result<Option<State>, NoMemory>
-    ensures { GoesTo result stack.new.frames.items (close (tree_of operand) (frames_of stack.old.frames.items)) }
+pub fn close(alloc: Global, operand: Expr, parser: &mut Parser) -> Result<bool, NoMemory>
+    ensures { GoesTo result parser.new (close (tree_of operand) (frames_of parser.old.stack.frames.items)) }
 {
-    match stack.pop() {
-        Some(frame) => close_behind(alloc, operand, frame, stack),
-        None => Ok(None),
+    match parser.stack.pop() {
+        Some(frame) => close_behind(alloc, operand, frame, parser),
+        None => Ok(false),
     }
 }
 
@@ -99,15 +103,18 @@ fn close_behind(
     alloc: Global,
     operand: Expr,
     frame: Frame,
-    stack: &mut Stack,
-) -> Result<Option<State>, NoMemory>
-    ensures { GoesTo result stack.new.frames.items (close (tree_of operand) (frame_of frame ∷ frames_of stack.old.frames.items)) }
+    parser: &mut Parser,
+) -> Result<bool, NoMemory>
+    ensures { GoesTo result parser.new (close (tree_of operand) (frame_of frame ∷ frames_of parser.old.stack.frames.items)) }
 {
     match frame {
-        Frame::Sign(minus) => close(alloc, signed(alloc, minus, operand)?, stack),
-        Frame::Chain(begun) => close(alloc, whole_chain(alloc, begun, operand)?, stack),
-        Frame::Group => Ok(Some(after(alloc, operand, stack)?)),
-        Frame::Call(func, done) => end_args(alloc, func, done, Arg::One(operand), stack),
+        Frame::Sign(minus) => close(alloc, signed(alloc, minus, operand)?, parser),
+        Frame::Chain(begun) => close(alloc, whole_chain(alloc, begun, operand)?, parser),
+        Frame::Group => {
+            after(alloc, operand, parser)?;
+            Ok(true)
+        }
+        Frame::Call(func, done) => end_args(alloc, func, done, Arg::One(operand), parser),
     }
 }
 
@@ -117,36 +124,36 @@ pub fn end_args(
     func: Func,
     done: Vec<Arg>,
     arg: Arg,
-    stack: &mut Stack,
-) -> Result<Option<State>, NoMemory>
-    ensures { GoesTo result stack.new.frames.items (end_args func (args_trees done.items ++ arg_tree arg ∷ []) (frames_of stack.old.frames.items)) }
+    parser: &mut Parser,
+) -> Result<bool, NoMemory>
+    ensures { GoesTo result parser.new (end_args func (args_trees done.items ++ arg_tree arg ∷ []) (frames_of parser.old.stack.frames.items)) }
 {
     if !func.is_enough(done.len() + 1) {
-        return Ok(None);
+        return Ok(false);
     }
-    end_call(alloc, func, with_arg(done, arg)?, stack)
+    end_call(alloc, func, with_arg(done, arg)?, parser)
 }
 
 fn end_call(
     alloc: Global,
     func: Func,
     args: Vec<Arg>,
-    stack: &mut Stack,
-) -> Result<Option<State>, NoMemory>
-    ensures { GoesTo result stack.new.frames.items (Some (after (called_tree func (args_trees args.items)) (frames_of stack.old.frames.items))) }
+    parser: &mut Parser,
+) -> Result<bool, NoMemory>
+    ensures { GoesTo result parser.new (Some (after (called_tree func (args_trees args.items)) (frames_of parser.old.stack.frames.items))) }
 {
-    let call = call_of(func, args)?;
-    Ok(Some(after(alloc, call, stack)?))
+    after(alloc, call_of(func, args)?, parser)?;
+    Ok(true)
 }
 
 /// A comma behind an operand.
 #[cycle(split)]
-pub fn split(alloc: Global, operand: Expr, stack: &mut Stack) -> Result<Option<State>, NoMemory>
-    ensures { GoesTo result stack.new.frames.items (split (tree_of operand) (frames_of stack.old.frames.items)) }
+pub fn split(alloc: Global, operand: Expr, parser: &mut Parser) -> Result<bool, NoMemory>
+    ensures { GoesTo result parser.new (split (tree_of operand) (frames_of parser.old.stack.frames.items)) }
 {
-    match stack.pop() {
-        Some(frame) => split_behind(alloc, operand, frame, stack),
-        None => Ok(None),
+    match parser.stack.pop() {
+        Some(frame) => split_behind(alloc, operand, frame, parser),
+        None => Ok(false),
     }
 }
 
@@ -155,15 +162,15 @@ fn split_behind(
     alloc: Global,
     operand: Expr,
     frame: Frame,
-    stack: &mut Stack,
-) -> Result<Option<State>, NoMemory>
-    ensures { GoesTo result stack.new.frames.items (split (tree_of operand) (frame_of frame ∷ frames_of stack.old.frames.items)) }
+    parser: &mut Parser,
+) -> Result<bool, NoMemory>
+    ensures { GoesTo result parser.new (split (tree_of operand) (frame_of frame ∷ frames_of parser.old.stack.frames.items)) }
 {
     match frame {
-        Frame::Sign(minus) => split(alloc, signed(alloc, minus, operand)?, stack),
-        Frame::Chain(begun) => split(alloc, whole_chain(alloc, begun, operand)?, stack),
-        Frame::Group => Ok(None),
-        Frame::Call(func, done) => next_args(func, done, Arg::One(operand), stack),
+        Frame::Sign(minus) => split(alloc, signed(alloc, minus, operand)?, parser),
+        Frame::Chain(begun) => split(alloc, whole_chain(alloc, begun, operand)?, parser),
+        Frame::Group => Ok(false),
+        Frame::Call(func, done) => next_args(func, done, Arg::One(operand), parser),
     }
 }
 
@@ -172,14 +179,14 @@ pub fn next_args(
     func: Func,
     done: Vec<Arg>,
     arg: Arg,
-    stack: &mut Stack,
-) -> Result<Option<State>, NoMemory>
-    ensures { GoesTo result stack.new.frames.items (next_args func (args_trees done.items ++ arg_tree arg ∷ []) (frames_of stack.old.frames.items)) }
+    parser: &mut Parser,
+) -> Result<bool, NoMemory>
+    ensures { GoesTo result parser.new (next_args func (args_trees done.items ++ arg_tree arg ∷ []) (frames_of parser.old.stack.frames.items)) }
 {
     if !func.has_room(done.len() + 1) {
-        return Ok(None);
+        return Ok(false);
     }
-    put(Frame::Call(func, with_arg(done, arg)?), stack)
+    put(Frame::Call(func, with_arg(done, arg)?), parser)
 }
 
 /// The text ends behind an operand.

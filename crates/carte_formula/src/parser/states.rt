@@ -1,4 +1,5 @@
 use crate::cell::Cell;
+use crate::parser::frames::Stack;
 use crate::{Arg, Expr, Func};
 use carte_value::Area;
 
@@ -17,4 +18,11 @@ pub enum State {
     Half(Cell, Func, Vec<Arg>),
     /// A range stands.
     Ranged(Area, Func, Vec<Arg>),
+}
+
+/// Where a text's reading is. A token changes it in place, since a state that was handed on from call to call would be copied by each.
+#[derive(Drop)]
+pub struct Parser {
+    pub state: State,
+    pub stack: Stack,
 }

@@ -1,33 +1,32 @@
 ghost use Rattle.carte_formula.specs.Machine.{go_on, at_name, at_corner, at_half, at_range, next_state, end_of};
 ghost use Rattle.carte_tree.specs.Code.{tree_of, args_trees};
-ghost use Rattle.carte_formula.specs.Parser.{frames_of, state_of, GoesTo, OptionGoesTo, EndsTo};
+ghost use Rattle.carte_formula.specs.Parser.{frames_of, state_of, reached, GoesTo, OptionGoesTo, EndsTo};
 
 use crate::cell::Cell;
 use crate::parser::chains::{close, end, end_args, join, next_args, split};
 use crate::parser::frames::{Frame, Stack};
 use crate::parser::operand::{begin, put};
-use crate::parser::states::State;
+use crate::parser::states::{Parser, State};
 use crate::tokens::Token;
 use crate::{Arg, Expr, Func};
 use carte_value::{Area, NoMemory};
 use std::alloc::Global;
+use std::mem;
 
-/// The state behind a token, where a formula may go on with it.
-pub fn step(
-    alloc: Global,
-    state: State,
-    token: Token,
-    stack: &mut Stack,
-) -> Result<Option<State>, NoMemory>
-    ensures { GoesTo result stack.new.frames.items (next_state (state_of state stack.old.frames.items) token) }
+/// How many arguments most calls have. A list that grows from nothing would have room for four.
+const FEW_ARGS: usize = 2;
+
+/// Takes a token, and tells whether a formula may go on with it.
+pub fn step(alloc: Global, token: Token, parser: &mut Parser) -> Result<bool, NoMemory>
+    ensures { GoesTo result parser.new (next_state (reached parser.old) token) }
 {
-    match state {
-        State::Wants => begin(alloc, token, stack),
-        State::Had(operand) => go_on(alloc, token, operand, stack),
-        State::Named(func) => at_name(alloc, token, func, stack),
-        State::Corner(cell, func, done) => at_corner(alloc, token, cell, func, done, stack),
-        State::Half(cell, func, done) => Ok(at_half(token, cell, func, done, stack)),
-        State::Ranged(area, func, done) => at_range(alloc, token, area, func, done, stack),
+    match mem::replace(&mut parser.state, State::Wants) {
+        State::Wants => begin(alloc, token, parser),
+        State::Had(operand) => go_on(alloc, token, operand, parser),
+        State::Named(func) => at_name(alloc, token, func, parser),
+        State::Corner(cell, func, done) => at_corner(alloc, token, cell, func, done, parser),
+        State::Half(cell, func, done) => Ok(at_half(token, cell, func, done, parser)),
+        State::Ranged(area, func, done) => at_range(alloc, token, area, func, done, parser),
     }
 }
 
@@ -36,18 +35,19 @@ fn go_on(
     alloc: Global,
     token: Token,
     operand: Expr,
-    stack: &mut Stack,
-) -> Result<Option<State>, NoMemory>
-    ensures { GoesTo result stack.new.frames.items (go_on token (tree_of operand) (frames_of stack.old.frames.items)) }
+    parser: &mut Parser,
+) -> Result<bool, NoMemory>
+    ensures { GoesTo result parser.new (go_on token (tree_of operand) (frames_of parser.old.stack.frames.items)) }
 {
     match token {
         Token::Op(op) => {
-            join(alloc, op, operand, stack)?;
-            Ok(Some(State::Wants))
+            join(alloc, op, operand, &mut parser.stack)?;
+            parser.state = State::Wants;
+            Ok(true)
         }
-        Token::Close => close(alloc, operand, stack),
-        Token::Comma => split(alloc, operand, stack),
-        _ => Ok(None),
+        Token::Close => close(alloc, operand, parser),
+        Token::Comma => split(alloc, operand, parser),
+        _ => Ok(false),
     }
 }
 
@@ -56,13 +56,16 @@ fn at_name(
     alloc: Global,
     token: Token,
     func: Func,
-    stack: &mut Stack,
-) -> Result<Option<State>, NoMemory>
-    ensures { GoesTo result stack.new.frames.items (at_name token func (frames_of stack.old.frames.items)) }
+    parser: &mut Parser,
+) -> Result<bool, NoMemory>
+    ensures { GoesTo result parser.new (at_name token func (frames_of parser.old.stack.frames.items)) }
 {
     match token {
-        Token::Open => put(Frame::Call(func, Vec::new(alloc)), stack),
-        _ => Ok(None),
+        Token::Open => {
+            let args = Vec::with_capacity(alloc, FEW_ARGS)?;
+            put(Frame::Call(func, args), parser)
+        }
+        _ => Ok(false),
     }
 }
 
@@ -73,26 +76,32 @@ fn at_corner(
     cell: Cell,
     func: Func,
     done: Vec<Arg>,
-    stack: &mut Stack,
-) -> Result<Option<State>, NoMemory>
-    ensures { GoesTo result stack.new.frames.items (at_corner token cell func (args_trees done.items) (frames_of stack.old.frames.items)) }
+    parser: &mut Parser,
+) -> Result<bool, NoMemory>
+    ensures { GoesTo result parser.new (at_corner token cell func (args_trees done.items) (frames_of parser.old.stack.frames.items)) }
 {
     match token {
-        Token::Colon => Ok(Some(State::Half(cell, func, done))),
+        Token::Colon => {
+            parser.state = State::Half(cell, func, done);
+            Ok(true)
+        }
         token => {
-            stack.push(Frame::Call(func, done))?;
-            go_on(alloc, token, Expr::Ref(cell.into_name()), stack)
+            parser.stack.push(Frame::Call(func, done))?;
+            go_on(alloc, token, Expr::Ref(cell.into_name()), parser)
         }
     }
 }
 
 /// A token behind a cell and a colon.
-fn at_half(token: Token, cell: Cell, func: Func, done: Vec<Arg>, stack: &Stack) -> Option<State>
-    ensures { OptionGoesTo result stack.now.frames.items (at_half token cell func (args_trees done.items) (frames_of stack.now.frames.items)) }
+fn at_half(token: Token, cell: Cell, func: Func, done: Vec<Arg>, parser: &mut Parser) -> bool
+    ensures { OptionGoesTo result parser.new (at_half token cell func (args_trees done.items) (frames_of parser.old.stack.frames.items)) }
 {
     match token {
-        Token::Cell(other) => Some(State::Ranged(cell.to(&other), func, done)),
-        _ => None,
+        Token::Cell(other) => {
+            parser.state = State::Ranged(cell.to(&other), func, done);
+            true
+        }
+        _ => false,
     }
 }
 
@@ -103,14 +112,14 @@ fn at_range(
     area: Area,
     func: Func,
     done: Vec<Arg>,
-    stack: &mut Stack,
-) -> Result<Option<State>, NoMemory>
-    ensures { GoesTo result stack.new.frames.items (at_range token area func (args_trees done.items) (frames_of stack.old.frames.items)) }
+    parser: &mut Parser,
+) -> Result<bool, NoMemory>
+    ensures { GoesTo result parser.new (at_range token area func (args_trees done.items) (frames_of parser.old.stack.frames.items)) }
 {
     match token {
-        Token::Comma => next_args(func, done, Arg::Cells(area), stack),
-        Token::Close => end_args(alloc, func, done, Arg::Cells(area), stack),
-        _ => Ok(None),
+        Token::Comma => next_args(func, done, Arg::Cells(area), parser),
+        Token::Close => end_args(alloc, func, done, Arg::Cells(area), parser),
+        _ => Ok(false),
     }
 }
 

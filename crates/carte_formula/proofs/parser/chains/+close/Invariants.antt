@@ -2,7 +2,7 @@ use Rattle.std.proofs.Common.{◌+◌, ◌*◌, length}
 use Rattle.carte_formula.proofs.parser.chains.+close.Given as goal
 
 abbrev pub decreases-close : goal.decreases-close
-decreases-close l = 2 * length l.stack.now.frames.items
+decreases-close l = 2 * length l.parser.now.stack.frames.items
 
 abbrev pub decreases-close_behind : goal.decreases-close_behind
-decreases-close_behind l = 2 * length l.stack.now.frames.items + 1
+decreases-close_behind l = 2 * length l.parser.now.stack.frames.items + 1
