@@ -1,4 +1,4 @@
-//! Tests of the crates that build: finished keys, plans of batches, the four rebuilders, the two schedulers with their bench, and
+//! Tests of the crates that build: marks, finished keys, plans of batches, the four rebuilders, the two schedulers with their bench, and
 //! the engine.
 //!
 //! They stand in a crate of their own, on which nothing stands: a crate with tests is proved a second time with them, and it would have
@@ -18,6 +18,8 @@ mod deep;
 mod dirty;
 #[cfg(test)]
 mod engine;
+#[cfg(test)]
+mod mark;
 #[cfg(test)]
 mod note;
 #[cfg(test)]

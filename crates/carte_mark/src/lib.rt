@@ -17,8 +17,6 @@ mod base;
 mod changed;
 mod marking;
 mod reach;
-#[cfg(test)]
-mod tests;
 mod users;
 
 pub use base::{Base, Begun, begin};

@@ -1,24 +1,13 @@
-ghost use Rattle.std.specs.Prelude.{IsTrue, IfOk};
-ghost use Rattle.carte_value.specs.Kinds.{is_name_of};
-ghost use Rattle.carte_book.specs.Book.{book_view};
+//! Which keys are marked, and what a build begins with.
 
-use crate::*;
+use crate::books::name;
 use carte_book::Book;
+use carte_mark::{begin, mark};
 use carte_record::{Entry, Kept};
 use carte_value::{Kind, Link, Name, Names, Value};
 use std::alloc::Global;
 use std::process::Abort;
 use std::test::Fail;
-
-fn name(alloc: Global, book: &Book, text: &str) -> Result<Name, Fail>
-    ensures { IfOk result (λ k. IsTrue (is_name_of (book_view book.now).kind k)) }
-{
-    let name = Name::of(alloc, book.kind(), text)?;
-    if !name.is_of(book.kind()) {
-        return Err("of the other kind".into());
-    }
-    Ok(name)
-}
 
 fn add(alloc: Global, book: &mut Book, text: &str, value: Option<i64>) -> Result<(), Fail> {
     if let Some(number) = value {
