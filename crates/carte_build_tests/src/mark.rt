@@ -6,7 +6,6 @@ use carte_mark::{begin, mark};
 use carte_record::{Entry, Kept};
 use carte_value::{Kind, Link, Name, Names, Value};
 use std::alloc::Global;
-use std::process::Abort;
 use std::test::Fail;
 
 fn add(alloc: Global, book: &mut Book, text: &str, value: Option<i64>) -> Result<(), Fail> {
