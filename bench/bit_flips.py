@@ -5,15 +5,16 @@ Each rebuilder writes a state of its own, by a build of a small book and one aft
 flipped it builds four books: the same again, one with the edit undone, and two with another input changed. What comes of
 a bit is the worst of these builds, in this order:
 
-    refused   the state is bad (status 7), and nothing is built
+    bad       the state is bad (status 7), and nothing is built
     wrong     status 0, and the target has another value than a build from nothing gives it
+    refused   status 3, though the target has a value: a cycle or a missing name is told that isn't there
     counts    each value is right, and other rules ran or were reused than over the state without damage
     same      nothing is seen of it
 
-The tables of docs/STATE.md go to standard output: what came of the bits by rebuilder, with the offset that was told where
-a state was refused, and how many wrong values each part of the file led to, by its name there and in
-docs/STATE-BATCHES.md. Whatever else comes (another status, a run that doesn't end) is printed, and the end is 1 then. The
-files lie in the folder that TMPDIR names; one in memory spares the syncs.
+The tables of docs/STATE.md go to standard output: what came of the bits by rebuilder, with the offset that was told for
+a bad state, and where the bits stood that led to a wrong value or a wrong refusal, by the names there and in
+docs/STATE-BATCHES.md. Another status is printed, and the end is 1 then. The files lie in the
+folder that TMPDIR names; one in memory spares the syncs.
 """
 import collections
 import pathlib
@@ -31,8 +32,7 @@ RULES = '[rules]\np = "a + b"\nq = "b + c"\nr = "p * q"\n'
 TARGET = "r"
 FIRST, NOW = dict(a=2, b=3, c=3), dict(a=4, b=3, c=3)
 LATER = [NOW, FIRST, dict(a=4, b=5, c=3), dict(a=4, b=3, c=5)]
-OUTCOMES = ["refused", "wrong", "counts", "same"]
-ODD = "something else"
+OUTCOMES = ["bad", "wrong", "refused", "counts", "same"]
 
 
 def book(inputs):
@@ -84,7 +84,7 @@ class Count:
         whole = [self.build(inputs, self.state)[1] for inputs in LATER]
         right = [self.build(inputs, b"")[1][:-1] for inputs in LATER]
         self.later = list(zip(LATER, right, whole))
-        self.bits, self.came, self.offsets, self.odd = (collections.Counter() for _ in range(4))
+        self.bits, self.came, self.offsets, self.odd = collections.Counter(), collections.Counter(), collections.Counter(), []
         for at, part in enumerate(parts(self.state)):
             for bit in range(8 * at, 8 * at + 8):
                 self.bits[part] += 1
@@ -99,11 +99,10 @@ class Count:
             status, lines = self.build(inputs, damaged)
             if status == 7:
                 self.offsets[lines[0]] += 1
-                return "refused"
-            if status != 0:
-                self.odd[f"{self.rebuilder}, bit {bit}, {inputs}: status {status}, {lines}"] += 1
-                return ODD
-            found.add("wrong" if lines[:-1] != right else "same" if lines == whole else "counts")
+                return "bad"
+            if status not in (0, 3):
+                self.odd.append(f"{self.rebuilder}, bit {bit}, {inputs}: status {status}, {lines}")
+            found.add("refused" if status else "wrong" if lines[:-1] != right else "same" if lines == whole else "counts")
         return min(found, key=OUTCOMES.index)
 
     def times(self, outcome, part=None):
@@ -115,20 +114,24 @@ def row(*cells):
 
 
 def tables(counts):
-    row("Rebuilder", "Bits", "Refused as a bad state", "Wrong value", "Right value, other counts", "As without damage")
-    row(*["---"] * 6)
+    row("Rebuilder", "Bits", "Bad state", "Wrong value", "Refused without a reason", "Right value, other counts", "As without damage")
+    row(*["---"] * 7)
     for count in counts:
         row(f"`{count.rebuilder}`", 8 * len(count.state), *map(count.times, OUTCOMES))
     print()
-    row("Part", *(f"`{count.rebuilder}`" for count in counts))
-    row(*["---"] * (len(counts) + 1))
-    for part in dict.fromkeys(part for count in counts for part in count.bits):
-        if any(count.times("wrong", part) for count in counts):
-            row(part, *(f"{count.times('wrong', part)} of {count.bits[part]}" for count in counts))
-    print()
+    row("Rebuilder", "Part", "Bits", "Wrong value", "Refused without a reason")
+    row(*["---"] * 5)
     for count in counts:
-        told = [f"{times} of {line.removeprefix('carte: ')}" for line, times in sorted(count.offsets.items(), key=lambda it: int(it[0].split()[-1]))]
-        print(f"{count.rebuilder} refused: {', '.join(told)}")
+        for part, bits in count.bits.items():
+            wrong, refused = (count.times(outcome, part) for outcome in ("wrong", "refused"))
+            if wrong or refused:
+                row(f"`{count.rebuilder}`", part, bits, wrong, refused)
+    print()
+    row("Rebuilder", "Bad state at byte: bits")
+    row(*["---"] * 2)
+    for count in counts:
+        offsets = sorted((int(line.split()[-1]), times) for line, times in count.offsets.items())
+        row(f"`{count.rebuilder}`", ", ".join(f"{offset}: {times}" for offset, times in offsets))
 
 
 def main(program, scheduler="suspending"):
