@@ -1,13 +1,10 @@
 //! Marks of what has changed.
 
 use crate::books::book_of;
-use crate::rebuilds::{RULE, made};
-use carte_book::Book;
+use crate::rebuilds::{RULE, made, noted};
 use carte_dirty::Dirty;
 use carte_effect::Made;
-use carte_note::FinishedList;
-use carte_rebuild::{Rebuilder, finish};
-use carte_record::{Batch, Entry, Kept};
+use carte_record::{Entry, Kept};
 use carte_value::{Name, Names, Value};
 use std::alloc::Global;
 use std::test::Fail;
@@ -26,14 +23,6 @@ fn kept_with(alloc: Global, stale: bool, shallow: bool) -> Result<Kept, Fail> {
     Ok(kept)
 }
 
-/// How many entries t brings to a batch.
-fn noted(alloc: Global, kept: &Kept, book: &Book, made: Made) -> Result<usize, Fail> {
-    let finished = finish(alloc, &Dirty, book, &FinishedList::new(alloc), made)?;
-    let mut batch = Batch::new(alloc);
-    Dirty.note(alloc, kept, book, &finished, &mut batch)?;
-    Ok(batch.entries.len())
-}
-
 #[test]
 fn fresh_keys_alone_are_reused(rt: HostRuntime) -> Result<(), Fail> {
     let alloc = rt.alloc();
@@ -49,7 +38,8 @@ fn fresh_keys_alone_are_reused(rt: HostRuntime) -> Result<(), Fail> {
         let made = made(alloc, &Dirty, &kept, &book, "t", 1)?;
         assert_eq!(&rt; matches!(made, Made::Reused(_)), reused);
         assert_eq!(&rt; made.value().digest(), Value::Number(value).digest());
-        assert_eq!(&rt; noted(alloc, &kept, &book, made)?, entries);
+        let batch = noted(alloc, &Dirty, &kept, &book, made)?;
+        assert_eq!(&rt; batch.entries.len(), entries);
     }
     Ok(())
 }

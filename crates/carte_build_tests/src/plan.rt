@@ -5,8 +5,8 @@ use carte_effect::{Ended, Made};
 use carte_mark::begin;
 use carte_note::{Finished, FinishedList};
 use carte_plan::plan;
-use carte_record::{Kept, Start};
-use carte_value::{Kind, Links, Name, Value};
+use carte_record::{Batch, Kept, Start};
+use carte_value::{Digest, Kind, Links, Name, Value};
 use carte_verify::Verify;
 use std::alloc::Global;
 use std::test::Fail;
@@ -23,25 +23,27 @@ fn finished(alloc: Global, some: bool) -> Result<FinishedList, Fail> {
     Ok(list)
 }
 
+/// Nothing but the digest of the rules, or not even that.
+fn kept_of(alloc: Global, rules: Option<Digest>) -> Kept {
+    let mut kept = Kept::empty(alloc);
+    kept.rules = rules;
+    kept
+}
+
 /// Whether the batch begins anew, and how many entries and traces it has.
+fn counts(batch: &Batch) -> (bool, usize, usize) {
+    let anew = matches!(batch.start, Start::Anew(_));
+    (anew, batch.entries.len(), batch.verifying.len())
+}
+
 fn planned(alloc: Global, same: bool, some: bool) -> Result<(bool, usize, usize), Fail> {
     let book = Book::new(alloc, Kind::Sheet);
     let rules = book.rules_digest(alloc)?;
-    let mut kept = Kept::empty(alloc);
-    if same {
-        kept.rules = Some(rules);
-    }
+    let kept = kept_of(alloc, if same { Some(rules) } else { None });
     let begun = begin(alloc, &kept, &book, &rules)?;
-    let batch = plan(
-        alloc,
-        &Verify,
-        &begun,
-        rules,
-        &book,
-        &finished(alloc, some)?,
-    )?;
-    let anew = matches!(batch.start, Start::Anew(_));
-    Ok((anew, batch.entries.len(), batch.verifying.len()))
+    let list = finished(alloc, some)?;
+    let batch = plan(alloc, &Verify, &begun, rules, &book, &list)?;
+    Ok(counts(&batch))
 }
 
 #[test]

@@ -52,6 +52,20 @@ pub(crate) fn made<R: Rebuilder>(
     }
 }
 
+/// What a made key brings to a batch.
+pub(crate) fn noted<R: Rebuilder>(
+    alloc: Global,
+    rebuilder: &R,
+    kept: &Kept,
+    book: &Book,
+    made: Made,
+) -> Result<Batch, Fail> {
+    let finished = finish(alloc, rebuilder, book, &FinishedList::new(alloc), made)?;
+    let mut batch = Batch::new(alloc);
+    rebuilder.note(alloc, kept, book, &finished, &mut batch)?;
+    Ok(batch)
+}
+
 /// Builds t where each name has this value, and keeps what the build brings. Whether t was reused, and its value.
 pub(crate) fn build<R: Rebuilder>(
     alloc: Global,
@@ -62,9 +76,7 @@ pub(crate) fn build<R: Rebuilder>(
 ) -> Result<(bool, Value), Fail> {
     let made = made(alloc, rebuilder, kept, book, "t", value)?;
     let came_to = (matches!(made, Made::Reused(_)), made.value().copy(alloc)?);
-    let finished = finish(alloc, rebuilder, book, &FinishedList::new(alloc), made)?;
-    let mut batch = Batch::new(alloc);
-    rebuilder.note(alloc, kept, book, &finished, &mut batch)?;
+    let batch = noted(alloc, rebuilder, kept, book, made)?;
     kept.apply(&batch)?;
     Ok(came_to)
 }

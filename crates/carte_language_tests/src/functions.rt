@@ -3,7 +3,7 @@
 mod rows;
 
 use crate::functions::rows::ROWS;
-use crate::texts::value_of;
+use crate::values::value_of;
 use carte_functions::{apply, call, condition, name_in, names_in, negate};
 use carte_tree::{Func, Op};
 use carte_value::{Kind, Name, Names, Value};

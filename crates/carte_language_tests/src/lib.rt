@@ -1,12 +1,9 @@
-//! Tests of the crates of the language: values, formulas, effects, tasks, books, and what reads books and words.
+//! Tests of the crates of formulas: their grammar, operators and functions, effects, and tasks.
 //!
 //! They stand in a crate of their own, on which nothing stands: a crate with tests is proved a second time with them, and it would have
-//! to stand on whatever its tests read. Each module has the tests of one crate, through its public calls; `texts` has what several of
-//! them read and print.
+//! to stand on whatever its tests read. Each module has the tests of one crate, through its public calls.
 #![tactic(auto)]
 
-#[cfg(test)]
-mod book;
 #[cfg(test)]
 mod effect;
 #[cfg(test)]
@@ -14,14 +11,6 @@ mod formula;
 #[cfg(test)]
 mod functions;
 #[cfg(test)]
-mod rules;
-#[cfg(test)]
-mod sheet;
-#[cfg(test)]
 mod task;
 #[cfg(test)]
-mod texts;
-#[cfg(test)]
-mod value;
-#[cfg(test)]
-mod words;
+mod values;

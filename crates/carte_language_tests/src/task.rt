@@ -5,7 +5,7 @@ mod shown;
 
 use crate::task::rows::{CELLS, CHOICES, FUNCTIONS, LONG, OPERATORS, SHEET, VALUES};
 use crate::task::shown::{Shown, text_of};
-use crate::texts::value_of;
+use crate::values::value_of;
 use carte_effect::{Each, Halt, Job, Made, RefsOnly, Runs, Snapshot, Stuck};
 use carte_formula::read;
 use carte_task::{Check, Machine, StaticTask, Task, Verdict};

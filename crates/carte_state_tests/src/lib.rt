@@ -1,4 +1,4 @@
-//! Tests of the crates of the state: disks, the journal, batches as bytes, what is kept, and sessions over sources and sinks.
+//! Tests of how data and batches are spelled, and of what a state keeps.
 //!
 //! They stand in a crate of their own, on which nothing stands: a crate with tests is proved a second time with them. Each module has
 //! the tests of one crate, through its public calls.
@@ -7,12 +7,6 @@
 #[cfg(test)]
 mod codec;
 #[cfg(test)]
-mod io;
-#[cfg(test)]
-mod journal;
-#[cfg(test)]
 mod record;
-#[cfg(test)]
-mod session;
 #[cfg(test)]
 mod state;

@@ -4,7 +4,7 @@ ghost use Rattle.std.specs.Prelude.{◌≡◌, if◌then◌else◌};
 ghost use Rattle.carte_value.specs.Once.{answer_in};
 ghost use Rattle.carte_effect.specs.Sights.{seen_or, not_done, missing};
 
-use crate::texts::value_of;
+use crate::values::value_of;
 use carte_effect::{Look, Seen};
 use carte_value::{Kind, Name, Text, Value};
 use indexmap::IndexMap;

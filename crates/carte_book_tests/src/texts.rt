@@ -1,8 +1,8 @@
-//! Texts of bytes, values, items and faults, as rows have them.
+//! Texts of bytes, items and faults, as rows have them.
 
 use carte_book::{Book, BookFault, Looked, Which};
 use carte_formula::{FormulaFault, print};
-use carte_value::{Bad, Name, NoMemory, Value};
+use carte_value::{Name, NoMemory};
 use std::alloc::Global;
 use std::test::Fail;
 
@@ -14,25 +14,6 @@ pub(crate) fn hex(alloc: Global, bytes: &[u8]) -> Result<String, NoMemory> {
         text.push_str(pair.as_str())?;
     }
     Ok(text)
-}
-
-fn bad_of(text: &str) -> Option<Bad> {
-    match text {
-        "#DIV/0!" => Some(Bad::Div0),
-        "#VALUE!" => Some(Bad::Value),
-        "#REF!" => Some(Bad::Ref),
-        "#NUM!" => Some(Bad::Num),
-        "#LEN!" => Some(Bad::Len),
-        _ => None,
-    }
-}
-
-/// The value with this printed form, a bad one too.
-pub(crate) fn value_of(alloc: Global, text: &str) -> Result<Value, Fail> {
-    match bad_of(text) {
-        Some(bad) => Ok(Value::Bad(bad)),
-        None => Ok(Value::read(alloc, text)?.ok_or("no value")?),
-    }
 }
 
 /// What stands at a name, of either kind.
