@@ -202,31 +202,26 @@ module _ (limit : ℕ) (w : Asked) (s : OverSource) (d : OverDisk) (k : OverSink
   built_due status WriteFault did is = absurd is
   built_due status DiskFault did is = absurd is
   built_due status NoMemory did is = absurd is
-
   built_due Done Done did is = inl refl
   built_due Done (BookRefused f) did is = absurd (is_none w.kind s (λ b. Found limit d (Replies limit w d k TakesAll b)) f is.0 is.1 did)
   built_due Done (BuildRefused r) did is = let at = served (λ b. IsRefusedFor (scheduler_of w.scheduler) b w.targets r) is did in absurd (served_or_refused (scheduler_of w.scheduler) at.0 w.targets r at.2 at.1)
   built_due Done (BadState at) did is = absurd (found_or_bad limit d (Replies limit w d k TakesAll did.2) at is.3 did.4)
   built_due Done (StateFull n m) did is = absurd (not_done n m is did)
-
   built_due (BookRefused f) Done did is = absurd (not_refused (λ b. IsServed (scheduler_of w.scheduler) b w.targets) is f did.0)
   built_due (BookRefused f) (BookRefused g) did is = inl (ap BookRefused (one_fault w.kind s f g is.0 did.0 is.1))
   built_due (BookRefused f) (BuildRefused r) did is = absurd (not_refused (λ b. IsRefusedFor (scheduler_of w.scheduler) b w.targets r) is f did.0)
   built_due (BookRefused f) (BadState at) did is = absurd (is_book w.kind s (λ b. IsBadNow limit d at) f is did.0)
   built_due (BookRefused f) (StateFull n m) did is = absurd (is_book w.kind s (λ b. IsFound limit d b (λ K. AllOver limit d n m (IsPlanned w b K))) f is did.0)
-
   built_due (BuildRefused r) Done did is = let at = refused (λ b. IsServed (scheduler_of w.scheduler) b w.targets) is r did.0 in absurd (served_or_refused (scheduler_of w.scheduler) at.0 w.targets r at.1 at.2)
   built_due (BuildRefused r) (BookRefused f) did is = absurd (is_none w.kind s (λ b. Found limit d (λ K. Commits limit w d b K (answer.Refused r))) f is.0 is.1 did.0)
   built_due (BuildRefused r) (BuildRefused q) did is = let at = refused (λ b. IsRefusedFor (scheduler_of w.scheduler) b w.targets q) is r did.0 in inl (ap BuildRefused (one_refusal (scheduler_of w.scheduler) at.0 w.targets r q at.2 at.1))
   built_due (BuildRefused r) (BadState at) did is = absurd (found_or_bad limit d (λ K. Commits limit w d did.0.2 K (answer.Refused r)) at is.3 did.0.4)
   built_due (BuildRefused r) (StateFull n m) did is = absurd (not_kept n m is r did.0)
-
   built_due (BadState at) Done did is = absurd (not_bad (λ b. IsServed (scheduler_of w.scheduler) b w.targets) is at did.1)
   built_due (BadState at) (BookRefused f) did is = absurd (is_none w.kind s (λ b. Unit {0}) f is.0 is.1 did.0)
   built_due (BadState at) (BuildRefused r) did is = absurd (not_bad (λ b. IsRefusedFor (scheduler_of w.scheduler) b w.targets r) is at did.1)
   built_due (BadState at) (BadState offset) did is = inl (bad_one limit d offset at is.3 did.1)
   built_due (BadState at) (StateFull n m) did is = absurd (not_bad_over n m is at did.1)
-
   built_due (StateFull n m) Done did is = absurd (not_full (λ b. IsServed (scheduler_of w.scheduler) b w.targets) is n m did.0)
   built_due (StateFull n m) (BookRefused f) did is = absurd (is_none w.kind s (λ b. Found limit d (Overfills limit w d n m b)) f is.0 is.1 did.0)
   built_due (StateFull n m) (BuildRefused r) did is = absurd (not_full (λ b. IsRefusedFor (scheduler_of w.scheduler) b w.targets r) is n m did.0)
@@ -254,17 +249,14 @@ module _ (limit : ℕ) (d : OverDisk) (k : OverSink) where
   cleaned_due status WriteFault did is = absurd is
   cleaned_due status DiskFault did is = absurd is
   cleaned_due status NoMemory did is = absurd is
-
   cleaned_due Done Done did is = inl refl
   cleaned_due Done (BadState at) did is = absurd (found_or_bad limit d (Clears limit d k TakesAll) at is did)
   cleaned_due Done (StateFull n m) did is =
       let at = found_one limit d (λ K. AllOver limit d n m (IsClearing K)) (Clears limit d k TakesAll) is did in
       absurd (all_over limit d (IsClearing at.0) at.3.batch at.3.clearing is.0 at.0 n m at.2 at.3.put)
-
   cleaned_due (BadState at) Done did is = absurd (kept_or_bad limit d Fits at is did.0)
   cleaned_due (BadState at) (BadState offset) did is = inl (bad_one limit d offset at is did.0)
   cleaned_due (BadState at) (StateFull n m) did is = absurd (kept_or_bad limit d (λ K. AllOver limit d n m (IsClearing K)) at is did.0)
-
   cleaned_due (StateFull n m) Done did is =
       let at = found_one limit d Fits (ClearsNot limit d n m) is did.0 in
       absurd (let within = at.2 at.3.batch at.3.clearing n (at.3.over.needed_is is.0) in omega (arith, within, at.3.over.over))
