@@ -10,3 +10,4 @@ pub mod Sounds
 pub mod Completing
 pub mod Outcomes
 pub mod HistoryRuns
+pub mod Plain

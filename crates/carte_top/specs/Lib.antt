@@ -7,3 +7,4 @@ pub mod Due
 pub mod Whole
 pub mod Running
 pub mod Histories
+pub mod Plain

@@ -10,6 +10,10 @@
 //! digests are distinct over that and the book, the answer is right. That it is sound is kept by every run, whatever its
 //! status and wherever a crash cuts it off (`IsSoundRun`), so a history of runs needs no premise on its files.
 //!
+//! Which status is due is told once more by the bytes alone (`specs/Due.antt`): the field `complete` says that it comes, but
+//! for want of memory and failing devices. It follows from the causes, since each excludes the others; a reader needn't
+//! see that.
+//!
 //! The reply is made as one text before the build's batch is committed, so want of memory never comes behind a commit
 //! that succeeded. The error line is made as a text too; where there is no memory for it, that is the status. The lines
 //! of devices' faults need none: so such a fault is never told as want of memory.
@@ -29,6 +33,6 @@ mod top;
 
 pub use carte_report::Status;
 pub use carte_words::{Command, Word, Words, WordsFault, read_words};
-pub use laws::whole_histories;
+pub use laws::{plain_run_is_due, whole_histories};
 pub use say::out_of_memory;
 pub use top::carte;
