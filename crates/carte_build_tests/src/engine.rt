@@ -77,16 +77,21 @@ fn one_byte_below_is_full(rt: HostRuntime) -> Result<(), Fail> {
     Ok(())
 }
 
+/// Cleans what the disk keeps, from loading on.
+fn clean(alloc: Global, disk: &mut MemDisk) -> Result<(), Fail> {
+    let mut engine = Engine::load(alloc, disk, 65536)?;
+    engine.clean(alloc, disk)?;
+    Ok(())
+}
+
 #[test]
 fn a_cleaned_state_is_built_anew(rt: HostRuntime) -> Result<(), Fail> {
     let alloc = rt.alloc();
     let mut disk = MemDisk::of(alloc, &[], &[])?;
     let _ = built(alloc, &mut disk, 65536, Scheduler::Suspending)?;
-    let mut engine = Engine::load(alloc, &mut disk, 65536)?;
-    engine.clean(alloc, &mut disk)?;
+    clean(alloc, &mut disk)?;
     let passed = disk.passed();
-    let mut again = Engine::load(alloc, &mut disk, 65536)?;
-    again.clean(alloc, &mut disk)?;
+    clean(alloc, &mut disk)?;
     assert_eq!(rt; disk.passed(), passed);
     let shown = built(alloc, &mut disk, 65536, Scheduler::Suspending)?;
     assert_eq!(rt; shown.as_str(), "5, 2 ran, 0 reused");

@@ -28,19 +28,22 @@ fn kept_after(alloc: Global, mut kept: Kept, book: &Book, work: &Work) -> Result
     Ok(kept)
 }
 
-/// The runs of a build over nothing, and of one more over what that left; or why the first is refused.
-fn built_twice(alloc: Global, book: &Book, targets: &Names) -> Result<String, Fail> {
-    let kept = Kept::empty(alloc);
-    let work = match build(alloc, &Verify, &kept, book, targets)? {
-        WorkEnd::All(work) => work,
-        WorkEnd::Refused(_, reason) => return told(alloc, &reason),
-    };
-    let kept = kept_after(alloc, kept, book, &work)?;
-    let mut text = listed(alloc, "ran", work.runs.ended())?;
-    if let WorkEnd::All(again) = build(alloc, &Verify, &kept, book, targets)? {
-        text.push_str(listed(alloc, " then", again.runs.ended())?.as_str())?;
+/// The runs of a build over what is kept, or why it is refused; and what is kept then.
+fn built(alloc: Global, kept: Kept, book: &Book, targets: &Names) -> Result<(String, Kept), Fail> {
+    match build(alloc, &Verify, &kept, book, targets)? {
+        WorkEnd::All(work) => {
+            let text = listed(alloc, "ran", work.runs.ended())?;
+            Ok((text, kept_after(alloc, kept, book, &work)?))
+        }
+        WorkEnd::Refused(_, reason) => Ok((told(alloc, &reason)?, kept)),
     }
-    Ok(text)
+}
+
+/// A build over nothing, and one more over what that left.
+fn built_twice(alloc: Global, book: &Book, targets: &Names) -> Result<String, Fail> {
+    let (first, kept) = built(alloc, Kept::empty(alloc), book, targets)?;
+    let (second, _) = built(alloc, kept, book, targets)?;
+    Ok(format!(in alloc; "{first}, then {second}")?)
 }
 
 const DIAMOND: &str = "base: x + y; left: base + x; right: y + base; top: left + right";
@@ -136,9 +139,21 @@ fn first_dynamic_paths(rt: HostRuntime) -> Result<(), Fail> {
 fn builds_and_builds_again(rt: HostRuntime) -> Result<(), Fail> {
     let alloc = rt.alloc();
     let rows = [
-        ("high: low + x; low: x + y", "high", "ran low high then"),
-        (DYNAMIC, "gone", "dynamic gone way pick"),
-        (STUCK, "good both", "cycle both self self"),
+        (
+            "high: low + x; low: x + y",
+            "high",
+            "ran low high, then ran",
+        ),
+        (
+            DYNAMIC,
+            "gone",
+            "dynamic gone way pick, then dynamic gone way pick",
+        ),
+        (
+            STUCK,
+            "good both",
+            "cycle both self self, then cycle both self self",
+        ),
     ];
     for (rules, targets, want) in rows {
         let book = book_of(alloc, "x y", 1, rules)?;
