@@ -1,5 +1,5 @@
 -- From what was loaded to the disk that it was loaded from.
-use Rattle.std.proofs.Common.{◌≡◌, ℕ, List, Err, sym, ◌∙◌, subst, inl}
+use Rattle.std.proofs.Common.{◌≡◌, ℕ, ◌+◌, List, Err, sym, ◌∙◌, subst, inl}
 use Rattle.carte_io.specs.Causes.{Rose}
 use Rattle.carte_io.specs.Disk.{IsSettled, LeavesOnly, Story}
 use Rattle.carte_book.specs.Book.{Book}
@@ -13,7 +13,7 @@ use Rattle.carte_engine.specs.declared.answer.Answer.TheVariants as answer
 use Rattle.carte_report.specs.declared.status.Status.{Status}
 use Rattle.carte_report.specs.declared.status.Status.TheVariants.{Done, BookRefused, Usage, BuildRefused, ReadFault, WriteFault, DiskFault, BadState, StateFull, NoMemory}
 use Rattle.carte_top.specs.Around.{OverDisk, OverSink, IsUntouched, TakesAll, TakesFront}
-use Rattle.carte_top.specs.Found.{Clears, ClearsNot, Commits, FitsIn, GrowsBy, IsClearing, IsNeeded, IsOver, IsPut, Overfills, Replies}
+use Rattle.carte_top.specs.Found.{Clears, ClearsNot, Commits, FitsIn, GrowsBy, IsClearing, IsNeeded, IsOver, IsPut, Overfills, Replies, calls_into}
 use Rattle.carte_top.specs.Outcome.{Cleaned, TellsDisk, TellsSink}
 use Rattle.carte_top.specs.Sound.{IsStation, MayBuild, StaysAt}
 use Rattle.carte_top.specs.Running.{BuildsOver, BuildsWith, BuiltOver, BuiltWith, CleanedWith, Cleans, CleansWith, LoadedOr, StaysOver}
@@ -32,6 +32,7 @@ module _ (limit : ℕ) (o : OverDisk) (m : Story) (f : ℕ) (q : Type 0) (e : o.
     room = λ told. subst (λ (x : Story). FitsIn limit x.now.reads B) (e told) (put.room told);
     ends = λ told settled. put.ends told (settled_there told settled);
     grows = λ told settled. subst (λ (x : Story). GrowsBy limit B x.now.reads o.new.now.reads) (e told) (put.grows told (settled_there told settled));
+    calls = λ told. subst (λ (x : Story). o.new.now.passed ≡ x.now.passed + calls_into x.now.reads B) (e told) (put.calls told);
   }
 
   over_from : (B : Batch) (needed most : ℕ) → IsOver limit (loaded_from o m f q) B needed most → IsOver limit o B needed most

@@ -13,7 +13,7 @@ use Rattle.carte_record.specs.Folds.{apply}
 use Rattle.carte_record.specs.Kept.{SomeKept, nothing_kept}
 use Rattle.carte_record.specs.declared.batch.Batch.{Batch}
 use Rattle.carte_state.specs.Folding.{IsFolded, Keeps}
-use Rattle.carte_state.specs.States.{HasRoom, IsAfter, IsKeptOn, IsLoaded, Stand, kept_in, needs_for, step_for}
+use Rattle.carte_state.specs.States.{HasRoom, IsAfter, IsKeptOn, IsLoaded, Stand, calls_for, kept_in, needs_for, step_for}
 use Rattle.carte_state.specs.declared.fault.ApplyFault.{ApplyFault}
 use Rattle.carte_state.specs.declared.fault.ApplyFault.TheVariants as applying
 use Rattle.carte_state.proofs.Applies.{kept_leaves}
@@ -59,11 +59,12 @@ ends_with limit L f u limit_is kept on = record {
 
 -- a commit that has passed
 pub is_put : (e f : Stand) (d : OverDisk) (B : Batch) → (d.tells → IsLoaded e d.old.now.reads) → HasRoom e B → IsAfter B e f → f.journal.limit ≡ e.journal.limit → (d.tells → IsKeptOn e d.old → IsKeptOn f d.new)
-    → IsPut e.journal.limit d (kept_in e) B
-is_put e f d B loaded room after limit rest = record {
+    → (d.tells → d.new.now.passed ≡ d.old.now.passed + calls_for e.journal B) → IsPut e.journal.limit d (kept_in e) B
+is_put e f d B loaded room after limit rest calls = record {
   room = λ told. fits_in e d.old.now.reads B (loaded told) room;
   ends = λ told settled. ends_with e.journal.limit (apply B (kept_in e)) f d.new limit after.kept (rest told (kept_on e d.old (loaded told) settled));
   grows = λ told settled. grows told settled;
+  calls = λ told. calls told ∙ ap (λ (fresh : Bool). d.old.now.passed + (if is_empty B then 0 else (if fresh then 6 else 4))) (loaded told).read.fresh_is;
 }
   where
     grows : d.tells → IsSettled d.old.now → GrowsBy e.journal.limit B d.old.now.reads d.new.now.reads

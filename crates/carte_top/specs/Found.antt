@@ -1,5 +1,5 @@
 -- What a run has found, and what a build has made of it.
-use Rattle.std.specs.Prelude.{ℕ, ◌≡◌, ◌⊎◌, ◌+◌, ◌<◌, ◌≤◌, true, false, List, [], ◌∷◌, ◌++◌, codes, length, Ok, Err, if◌then◌else◌}
+use Rattle.std.specs.Prelude.{ℕ, ◌≡◌, ◌⊎◌, ◌+◌, ◌<◌, ◌≤◌, nat_le, true, false, List, [], ◌∷◌, ◌++◌, codes, length, Ok, Err, if◌then◌else◌}
 use Rattle.carte_io.specs.Disk.{IsSettled, Moment}
 use Rattle.carte_journal.specs.Frames.{BodyAt, Ends, end_of, reading}
 use Rattle.carte_value.specs.declared.kind.Kind.{Kind}
@@ -74,13 +74,18 @@ abbrev pub GrowsBy : ℕ → Batch → List ℕ → List ℕ → Type 0
 GrowsBy limit B file after = (gate : ℕ) (bodies : List BodyAt) → reading limit file ≡ Ends gate bodies
     → (all : List BodyAt) × (reading limit after ≡ Ends (if is_empty B then gate else end_of gate (spelled_batch B)) all)
 
+-- how many writing calls its commit makes: none for an empty batch, and two more where the file is new
+abbrev pub calls_into : List ℕ → Batch → ℕ
+calls_into file B = if is_empty B then 0 else (if nat_le (length file) 9 then 6 else 4)
+
 -- ---- the commit
 
--- The batch was put into what was kept, and nothing besides. Under a crash at any later moment the file keeps it.
+-- The batch was put into what was kept, once and nothing besides. Under a crash at any later moment the file keeps it.
 pub record IsPut (limit : ℕ) (d : OverDisk) (K : SomeKept) (B : Batch) : Type 0 where
   pub room : d.tells → FitsIn limit d.old.now.reads B
   pub ends : d.tells → IsSettled d.old.now → EndsWith limit (apply B K) d.new.now
   pub grows : d.tells → IsSettled d.old.now → GrowsBy limit B d.old.now.reads d.new.now.reads
+  pub calls : d.tells → d.new.now.passed ≡ d.old.now.passed + calls_into d.old.now.reads B
 
 -- the file would need so many bytes with the batch, which are more than the limit; nothing was written
 pub record IsOver (limit : ℕ) (d : OverDisk) (B : Batch) (needed most : ℕ) : Type 0 where

@@ -17,7 +17,7 @@ returns-in-Ok g c =
     clears e d k
     (stays_clear e d (λ told settled. stays_with e s u (clearing e) (g.met.D.Disk.in_order c.clean.new.disk told) (c.clean.ensures.any_moment told (kept_on e s (c.requires.loaded told) settled))))
     c.print.result
-    (is_put e c.clean.new.self d (clearing e) c.requires.loaded c.in-Ok.ensures.room c.in-Ok.ensures.place c.in-Ok.ensures.limit c.in-Ok.ensures.rest)
+    (is_put e c.clean.new.self d (clearing e) c.requires.loaded c.in-Ok.ensures.room c.in-Ok.ensures.place c.in-Ok.ensures.limit c.in-Ok.ensures.rest c.in-Ok.ensures.calls)
     (c.in-Ok.ensures.cause.passed (λ is. cc)) c.print.ensures
 
 pub returns-in-Err : goal.returns-in-Err

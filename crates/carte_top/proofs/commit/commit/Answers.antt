@@ -12,7 +12,7 @@ returns-in-Ok g c =
     let u = g.D.Disk.story c.commit.new.disk in
     let d = over_disk g.D.Disk.tells g.D.Disk.story g.D.Disk.faults c.args.state.now c.commit.new.disk in
     record {
-      put = is_put e c.commit.new.self d c.args.batch.now c.requires.loaded c.in-Ok.ensures.room c.in-Ok.ensures.place c.in-Ok.ensures.limit c.in-Ok.ensures.rest;
+      put = is_put e c.commit.new.self d c.args.batch.now c.requires.loaded c.in-Ok.ensures.room c.in-Ok.ensures.place c.in-Ok.ensures.limit c.in-Ok.ensures.rest c.in-Ok.ensures.calls;
       stays = λ told settled. stays_with e s u c.args.batch.now (g.met.D.Disk.in_order c.commit.new.disk told) (c.commit.ensures.any_moment told (kept_on e s (c.requires.loaded told) settled));
       disk = c.in-Ok.ensures.cause.passed (λ is. cc);
     }
