@@ -1,4 +1,4 @@
-ghost use Rattle.std.specs.Prelude.{◌≡◌};
+ghost use Rattle.std.specs.Prelude.{◌≡◌, ℕ};
 
 use carte_journal::CommitFault;
 use carte_value::NoMemory;
@@ -32,6 +32,7 @@ impl From<NoMemory> for ApplyFault {
 /// What a commit's fault is to a caller of `apply`.
 pub(crate) fn fault_of(fault: CommitFault) -> ApplyFault
     ensures disk { fault ≡ CommitFault.DiskFault → result ≡ ApplyFault.DiskFault }
+    ensures full { (needed limit : ℕ) → fault ≡ CommitFault.Full needed limit → result ≡ ApplyFault.Full needed limit }
 {
     match fault {
         CommitFault::DiskFault => ApplyFault::DiskFault,
