@@ -36,12 +36,7 @@ fn cell_at(alloc: Global, cell: Cell, parser: &mut Parser) -> Result<(), NoMemor
     }
 }
 
-fn cell_behind(
-    alloc: Global,
-    cell: Cell,
-    frame: Frame,
-    parser: &mut Parser,
-) -> Result<(), NoMemory>
+fn cell_behind(alloc: Global, cell: Cell, frame: Frame, parser: &mut Parser) -> Result<(), NoMemory>
     ensures { OnOk result (reached parser.new ≡ cell_at cell (frame_of frame ∷ frames_of parser.old.stack.frames.items)) }
 {
     match frame {

@@ -31,12 +31,7 @@ pub fn step(alloc: Global, token: Token, parser: &mut Parser) -> Result<bool, No
 }
 
 /// A token behind an operand.
-fn go_on(
-    alloc: Global,
-    token: Token,
-    operand: Expr,
-    parser: &mut Parser,
-) -> Result<bool, NoMemory>
+fn go_on(alloc: Global, token: Token, operand: Expr, parser: &mut Parser) -> Result<bool, NoMemory>
     ensures { GoesTo result parser.new (go_on token (tree_of operand) (frames_of parser.old.stack.frames.items)) }
 {
     match token {
@@ -52,12 +47,7 @@ fn go_on(
 }
 
 /// A token behind a function's name.
-fn at_name(
-    alloc: Global,
-    token: Token,
-    func: Func,
-    parser: &mut Parser,
-) -> Result<bool, NoMemory>
+fn at_name(alloc: Global, token: Token, func: Func, parser: &mut Parser) -> Result<bool, NoMemory>
     ensures { GoesTo result parser.new (at_name token func (frames_of parser.old.stack.frames.items)) }
 {
     match token {
