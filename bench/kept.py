@@ -24,6 +24,7 @@ BENCH = pathlib.Path(__file__).resolve().parent
 SEED, BOUND, GROWTH, TIMES = 1, 3, 1.15, 2
 MODES = ("mark", "start", "note", "apply")
 ROUNDS = 15
+ENCODED = 20  # times that the mode of this name encodes
 
 
 def built(folder):
@@ -48,22 +49,20 @@ def counts(programs, folder, keys):
     pathlib.Path(books[0]).write_text(text)
     pathlib.Path(books[1]).write_text(edited(text, {half: 1}))
     found, said = {}, {}
-    for mode in ("none", *MODES, "commit"):
+    for mode in ("none", *MODES, "encode"):
         for at, program in enumerate(programs):
-            state = f"{folder}/{keys}.{at}"
-            pathlib.Path(state).unlink(missing_ok=True)
-            said[mode, at], found[mode, at] = instructions([program, mode, *books, target, state], folder)
-        assert mode == "commit" or said[mode, 0] == said[mode, 1], said
+            said[mode, at], found[mode, at] = instructions([program, mode, *books, target, "-"], folder)
+        assert said[mode, 0] == said[mode, 1], said
     kept = int(said["none", 0])
-    base = {(mode, at): found["none", at] for mode, at in found} | {("commit", 0): found["apply", 0]}
     print(f"{keys} keys, {kept} of them kept, {said['mark', 0].strip()} to be marked", flush=True)
-    return {where: (count - base[where]) / kept for where, count in found.items()}
+    times = {"encode": ENCODED}
+    return {(mode, at): (count - found["none", at]) / times.get(mode, 1) / kept for (mode, at), count in found.items()}
 
 
 def per_key(programs, folder):
     small, large = (counts(programs, folder, keys) for keys in (8_192, 65_536))
     good = True
-    for mode in (*MODES, "commit"):
+    for mode in (*MODES, "encode"):
         ours, theirs, growth = large[mode, 0], large[mode, 1], large[mode, 0] / small[mode, 0]
         bounds = f" (at most {BOUND}, {GROWTH})" if mode in MODES else ""
         print(f"{mode}: {ours:.0f} and {theirs:.0f} instructions a kept key, ratio {ours / theirs:.2f}, {growth:.2f} times that of 8,192 "
@@ -72,12 +71,13 @@ def per_key(programs, folder):
     return good
 
 
-def seconds(words):
-    """User and system time of a run."""
+def milliseconds(words):
+    """System time of a run, and user and system time."""
     before = resource.getrusage(resource.RUSAGE_CHILDREN)
     subprocess.run(words, check=True, stdout=subprocess.DEVNULL)
     after = resource.getrusage(resource.RUSAGE_CHILDREN)
-    return after.ru_utime + after.ru_stime - before.ru_utime - before.ru_stime
+    system = 1000 * (after.ru_stime - before.ru_stime)
+    return system, system + 1000 * (after.ru_utime - before.ru_utime)
 
 
 def memory(words):
@@ -85,35 +85,39 @@ def memory(words):
     return 1024 * int(done.stderr.split()[-1])
 
 
-def least(programs, words):
-    """The least time of each program, of runs in turn."""
+def least(program, words):
+    """The least system time of runs over a state that isn't there before, and the least user and system time."""
     runs = []
     for _ in range(ROUNDS):
-        runs.append([])
-        for at, program in enumerate(programs):
-            state = f"{words[-1]}.{at}"
-            if words[0] == "commit":
-                pathlib.Path(state).unlink(missing_ok=True)
-            runs[-1].append(seconds([program, *words[:-1], state]))
+        if words[0] == "commit":
+            pathlib.Path(words[-1]).unlink(missing_ok=True)
+        runs.append(milliseconds([program, *words]))
     return [min(times) for times in zip(*runs)]
 
 
+def committing(program, words, apart):
+    """The time of encoding, and of committing what is encoded: the writes are of the system alone."""
+    bare = least(program, ["none", *words])[1]
+    encoding = (least(program, ["encode", *words])[1] - bare) / ENCODED
+    writing = least(program, ["commit", *words])[0] - least(program, [apart, *words])[0]
+    return encoding, writing
+
+
 def of_states(programs, folder):
-    words = [f"{folder}/book.toml", f"{folder}/other.toml", "k65535", f"{folder}/65536"]
-    size = os.path.getsize(f"{folder}/65536.0")
-    assert pathlib.Path(f"{folder}/65536.0").read_bytes() == pathlib.Path(f"{folder}/65536.1").read_bytes(), "the states differ"
-    apart = [least(programs, [mode, *words]) for mode in ("apply", "none", "commit")]
-    ours = apart[2][0] - apart[0][0]
-    theirs = apart[2][1] - apart[1][1]
-    print(f"encoding and committing {size} bytes: {ours * 1000:.1f} and {theirs * 1000:.1f} ms, ratio {ours / theirs:.2f} (at most {TIMES})")
-    loads = least(programs, ["load", words[-1]])
-    most = memory([programs[0], "load", f"{folder}/65536.0"])
-    print(f"loading them: {loads[0] * 1000:.1f} and {loads[1] * 1000:.1f} ms, ratio {loads[0] / loads[1]:.2f} (at most {TIMES}); "
-          f"{most / 1e6:.1f} MB at most, {memory([programs[1], 'load', f'{folder}/65536.1']) / 1e6:.1f} in the plain program "
-          f"(at most {(2 * size + 16e6) / 1e6:.1f})", flush=True)
-    counts = [instructions([program, "load", f"{folder}/65536.{at}"], folder)[1] for at, program in enumerate(programs)]
+    states = [f"{folder}/state.{at}" for at in range(2)]
+    words = [[f"{folder}/book.toml", f"{folder}/other.toml", "k65535", state] for state in states]
+    both = [committing(program, words[at], apart) for at, (program, apart) in enumerate(zip(programs, ("apply", "none")))]
+    assert pathlib.Path(states[0]).read_bytes() == pathlib.Path(states[1]).read_bytes(), "the states differ"
+    size, (ours, theirs) = os.path.getsize(states[0]), map(sum, both)
+    print(f"encoding and committing {size} bytes: {both[0][0]:.1f} + {both[0][1]:.1f} and {both[1][0]:.1f} + {both[1][1]:.1f} ms, ratio "
+          f"{ours / theirs:.2f} (at most {TIMES})", flush=True)
+    loads = [least(program, ["load", state])[1] for program, state in zip(programs, states)]
+    most = [memory([program, "load", state]) for program, state in zip(programs, states)]
+    print(f"loading them: {loads[0]:.1f} and {loads[1]:.1f} ms, ratio {loads[0] / loads[1]:.2f} (at most {TIMES}); {most[0] / 1e6:.1f} and "
+          f"{most[1] / 1e6:.1f} MB of memory (at most {(2 * size + 16e6) / 1e6:.1f})", flush=True)
+    counts = [instructions([program, "load", state], folder)[1] for program, state in zip(programs, states)]
     print(f"loading them: {counts[0]} and {counts[1]} instructions, ratio {counts[0] / counts[1]:.2f}", flush=True)
-    return ours <= TIMES * theirs and loads[0] <= TIMES * loads[1] and most <= 2 * size + 16e6
+    return ours <= TIMES * theirs and loads[0] <= TIMES * loads[1] and most[0] <= 2 * size + 16e6
 
 
 def main(program=None):

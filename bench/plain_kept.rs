@@ -367,6 +367,7 @@ fn main() {
         }
         "mark" => mark(&kept, &other).len(),
         "commit" => commit(&words[5], &batch),
+        "encode" => (0..20).map(|_| frame(&batch).len() - 5).max().unwrap(),
         _ => finished.len(),
     };
     println!("{count}");

@@ -17,7 +17,7 @@ import tempfile
 from builds import choose, edited, instructions
 from generated import draws, generated
 
-SEED = 1
+SEED, WIDE = 1, 8_192
 BOUNDS = {"constructive": 1.3, "deep": 2}
 NAMES = ("from nothing", "nothing changed", "3 inputs changed", "half of the keys")
 
@@ -90,7 +90,7 @@ def main(program, keys="65536"):
     with tempfile.TemporaryDirectory() as folder:
         text, target = generated(SEED, keys), f"k{keys - 1}"
         kept = compare(program, folder, f"{keys} keys", four(text, target), [target], ["dirty", "constructive"])
-        kept &= compare(program, folder, f"{keys} keys, wide", *wide(keys), ["deep"])
+        kept &= compare(program, folder, f"{WIDE} keys, wide", *wide(WIDE), ["deep"])
         largest(program, folder)
     return 0 if kept else 1
 
