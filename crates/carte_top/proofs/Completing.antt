@@ -15,7 +15,6 @@ use Rattle.carte_sound.specs.Base.{HasDistinctDigests}
 use Rattle.carte_sound.specs.Sound.{IsSound}
 use Rattle.carte_state.specs.Folding.{Keeps}
 use Rattle.carte_state.proofs.Folds.{bad_at_one, keeps_one, keeps_or_bad}
-use Rattle.carte_words.specs.Words.{words_of}
 use Rattle.carte_words.specs.declared.words.Command.{Command}
 use Rattle.carte_words.specs.declared.words.Command.TheVariants as command
 use Rattle.carte_words.specs.declared.words.Words.{Words as Asked}

@@ -1,5 +1,4 @@
 use Rattle.std.proofs.Common.{Err, ap, refl}
-use Rattle.carte_state.specs.States.{kept_in}
 use Rattle.carte_state.specs.declared.fault.ApplyFault.{ApplyFault}
 use Rattle.carte_engine.specs.Clearing.{clearing}
 use Rattle.carte_top.specs.Around.{over_disk, over_sink}

@@ -1,5 +1,4 @@
 use Rattle.std.proofs.Common.{Err, ap}
-use Rattle.carte_state.specs.States.{kept_in}
 use Rattle.carte_state.specs.declared.fault.ApplyFault.{ApplyFault}
 use Rattle.carte_top.specs.Around.{over_disk}
 use Rattle.carte_top.proofs.Putting.{is_put, kept_on, not_put, stays_with, told_put}
