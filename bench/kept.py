@@ -72,12 +72,11 @@ def per_key(programs, folder):
 
 
 def milliseconds(words):
-    """System time of a run, and user and system time."""
+    """User and system time of a run."""
     before = resource.getrusage(resource.RUSAGE_CHILDREN)
     subprocess.run(words, check=True, stdout=subprocess.DEVNULL)
     after = resource.getrusage(resource.RUSAGE_CHILDREN)
-    system = 1000 * (after.ru_stime - before.ru_stime)
-    return system, system + 1000 * (after.ru_utime - before.ru_utime)
+    return 1000 * (after.ru_utime + after.ru_stime - before.ru_utime - before.ru_stime)
 
 
 def memory(words):
@@ -86,32 +85,28 @@ def memory(words):
 
 
 def least(program, words):
-    """The least system time of runs over a state that isn't there before, and the least user and system time."""
+    """The least user and system time of runs over a state that isn't there before."""
     runs = []
     for _ in range(ROUNDS):
         if words[0] == "commit":
             pathlib.Path(words[-1]).unlink(missing_ok=True)
         runs.append(milliseconds([program, *words]))
-    return [min(times) for times in zip(*runs)]
-
-
-def committing(program, words, apart):
-    """The time of encoding, and of committing what is encoded: the writes are of the system alone."""
-    bare = least(program, ["none", *words])[1]
-    encoding = (least(program, ["encode", *words])[1] - bare) / ENCODED
-    writing = least(program, ["commit", *words])[0] - least(program, [apart, *words])[0]
-    return encoding, writing
+    return min(runs)
 
 
 def of_states(programs, folder):
     states = [f"{folder}/state.{at}" for at in range(2)]
     words = [[f"{folder}/book.toml", f"{folder}/other.toml", "k65535", state] for state in states]
-    both = [committing(program, words[at], apart) for at, (program, apart) in enumerate(zip(programs, ("apply", "none")))]
+    subprocess.run([programs[0], "commit", *words[0]], check=True, stdout=subprocess.DEVNULL)
+    bare = [least(program, ["none", *words[at]]) for at, program in enumerate(programs)]
+    encoding = [(least(program, ["encode", *words[at]]) - bare[at]) / ENCODED for at, program in enumerate(programs)]
+    # Both write by the same calls, which get lost in the time of a longer run; state_speed.py compares them.
+    writing = least(programs[1], ["commit", *words[1]]) - bare[1] - encoding[1]
     assert pathlib.Path(states[0]).read_bytes() == pathlib.Path(states[1]).read_bytes(), "the states differ"
-    size, (ours, theirs) = os.path.getsize(states[0]), map(sum, both)
-    print(f"encoding and committing {size} bytes: {both[0][0]:.1f} + {both[0][1]:.1f} and {both[1][0]:.1f} + {both[1][1]:.1f} ms, ratio "
+    size, (ours, theirs) = os.path.getsize(states[0]), (time + writing for time in encoding)
+    print(f"encoding {size} bytes: {encoding[0]:.1f} and {encoding[1]:.1f} ms, and {writing:.1f} of writing them: ratio "
           f"{ours / theirs:.2f} (at most {TIMES})", flush=True)
-    loads = [least(program, ["load", state])[1] for program, state in zip(programs, states)]
+    loads = [least(program, ["load", state]) for program, state in zip(programs, states)]
     most = [memory([program, "load", state]) for program, state in zip(programs, states)]
     print(f"loading them: {loads[0]:.1f} and {loads[1]:.1f} ms, ratio {loads[0] / loads[1]:.2f} (at most {TIMES}); {most[0] / 1e6:.1f} and "
           f"{most[1] / 1e6:.1f} MB of memory (at most {(2 * size + 16e6) / 1e6:.1f})", flush=True)
