@@ -35,7 +35,9 @@ def built(folder):
     (top / "crates.txt").write_text(listed + f"{crate}: carte_value carte_io carte_codec carte_effect carte_book carte_rules carte_record carte_state "
                                     "carte_sound carte_note carte_mark carte_rebuild carte_plan carte_topo carte_verify\n")
     (top / "crates" / crate / "src").mkdir(parents=True)
-    shutil.copytree(BENCH / "kept/proofs", top / "crates" / crate / "proofs")
+    (top / "crates" / crate / "proofs").mkdir()
+    for name in ["Lib.antt", "Unmarked.antt"]:
+        shutil.copyfile(BENCH / f"kept/{name}.txt", top / "crates" / crate / "proofs" / name)
     shutil.copyfile(BENCH / "kept/main.rt.txt", top / "crates" / crate / "src/main.rt")
     subprocess.run(["rt", "run", "--", "none"], cwd=top / "crates" / crate, check=True, stdout=subprocess.DEVNULL)
     return str(top / "crates" / crate / "out" / crate)
