@@ -8,6 +8,8 @@ use Rattle.carte_explain.specs.Why.{Explains, IsWhy}
 use Rattle.carte_explain.specs.declared.why.RebuilderKind.{RebuilderKind}
 use Rattle.carte_explain.specs.declared.why.Why.{Why}
 use Rattle.carte_record.specs.Kept.{SomeKept}
+use Rattle.carte_rebuild.specs.declared.work.PlanFault.{PlanFault}
+use Rattle.carte_rebuild.specs.declared.work.PlanFault.TheVariants.{Refused, NoMemory}
 use Rattle.carte_rebuild.specs.declared.work.Work.{Work}
 use Rattle.carte_report.specs.Lines.{refused_line, why_lines}
 use Rattle.carte_sound.specs.Held.{How}
@@ -34,3 +36,8 @@ TellAll r K b w (t ∷ told) = Tells r K b w t.0 t.1 × TellAll r K b w told
 -- of each key in turn
 abbrev pub TellsEach : RebuilderKind → SomeKept → Book → Work → List (List ℕ) → List ℕ → Type 0
 TellsEach r K b w keys text = (told : List (List ℕ × Why)) × (map (λ t. t.0) told ≡ keys) × (text ≡ why_lines told) × TellAll r K b w told
+
+-- the reason of a refusal; there is no text where there was no memory
+abbrev pub TellsRefusal : PlanFault → List ℕ → Type 0
+TellsRefusal (Refused reason) text = text ≡ refused_line reason
+TellsRefusal NoMemory text = ⊥

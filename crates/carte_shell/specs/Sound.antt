@@ -1,5 +1,5 @@
 -- Whatever crash comes in a session, the state stays sound.
-use Rattle.std.specs.Prelude.{ℕ, ◌≡◌, List, [], ◌∷◌, ◌++◌, Result}
+use Rattle.std.specs.Prelude.{ℕ, ◌≡◌, ◌⊎◌, List, [], ◌++◌, Result}
 use Rattle.carte_io.specs.Disk.{LeavesOnly}
 use Rattle.carte_io.specs.Streams.{SinkState, SourceState}
 use Rattle.carte_book.specs.Book.{Book}
@@ -38,10 +38,10 @@ abbrev pub LinesStaySound : Type 0 → Type 0
 LinesStaySound tells = (n : ℕ) (m m' : Scene) (lines : List (List ℕ)) (said : List ℕ) → Goes (Answers tells) n m lines said m'
     → (J : List Book) × AreBooks m.book lines J m'.book × (m'.stand.journal.limit ≡ m.stand.journal.limit) × StaysSound tells m m' J
 
--- so does a line that isn't
+-- so does a line that isn't; for want of memory it may not even have been read
 abbrev pub EndLeavesSound : Type 0 → Type 0
 EndLeavesSound tells = (n : ℕ) (m m' : Scene) (bytes : List ℕ) (end : StepEnd) → Ends tells m n bytes end m'
-    → (J : List Book) × IsBookAt m.book bytes J m.book × LeavesSound tells m m' J
+    → (J : List Book) × ((J ≡ []) ⊎ IsBookAt m.book bytes J m.book) × LeavesSound tells m m' J
 
 -- Whatever end a session comes to, there are the books at the lines with which it began, and only files that are sound for these are left.
 abbrev pub SessionStaysSound : Type 0 → Type 0 → Type 0 → Type 0

@@ -20,10 +20,12 @@ mod chosen;
 mod laws;
 mod shell;
 mod stops;
+#[cfg(test)]
+mod tests;
 mod why;
 
 pub use choices::Choices;
 pub use chosen::plan;
-pub use laws::{end_leaves_sound, lines_stay_sound, session_stays_sound};
+pub use laws::{end_leaves_sound, lines_stay_sound, session_of_scenes, session_stays_sound};
 pub use shell::Shell;
 pub use why::explanation;

@@ -1,12 +1,12 @@
 // The reply to a line that asks why.
-ghost use Rattle.std.specs.Prelude.{◌≡◌, ◌×◌, ℕ, List, IfOk, OnOk, map, string_bytes};
+ghost use Rattle.std.specs.Prelude.{◌≡◌, ℕ, List, IfOk, OnOk, map, string_bytes};
 ghost use Rattle.carte_book.specs.Book.{book_view};
 ghost use Rattle.carte_explain.specs.declared.why.Why.{Why as SomeWhy};
 ghost use Rattle.carte_report.specs.Lines.{why_line, why_lines};
 ghost use Rattle.carte_record.specs.Kept.{kept_view};
 ghost use Rattle.carte_state.specs.States.{kept_in};
 ghost use Rattle.carte_shell.specs.Chosen.{how_of};
-ghost use Rattle.carte_shell.specs.Explained.{Explained, Tells, TellsEach};
+ghost use Rattle.carte_shell.specs.Explained.{Explained, Tells, TellsEach, TellsRefusal};
 
 use crate::chosen::{kind_of, preview};
 use carte_book::Book;
@@ -32,8 +32,16 @@ pub fn explanation(
 {
     match preview(alloc, rebuilder, engine, book, targets) {
         Ok(work) => why_lines(alloc, engine.kept(), book, &work, kind_of(rebuilder), targets),
-        Err(PlanFault::Refused(reason)) => refused_line(alloc, &reason),
-        Err(PlanFault::NoMemory) => Err(NoMemory),
+        Err(fault) => refusal(alloc, &fault),
+    }
+}
+
+fn refusal(alloc: Global, fault: &PlanFault) -> Result<String, NoMemory>
+    ensures { IfOk result (λ text. TellsRefusal fault.now (string_bytes text)) }
+{
+    match fault {
+        PlanFault::Refused(reason) => refused_line(alloc, reason),
+        PlanFault::NoMemory => Err(NoMemory),
     }
 }
 
