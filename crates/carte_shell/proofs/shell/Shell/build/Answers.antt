@@ -1,3 +1,4 @@
+use Rattle.std.proofs.Common.{refl}
 use Rattle.carte_book.specs.Book.{book_view}
 use Rattle.carte_engine.specs.Answers.{IsPlan}
 use Rattle.carte_state.specs.States.{kept_in}
@@ -13,6 +14,6 @@ returns-clause-carried g c =
     let see = scene g.D.Disk.story g.D.Disk.faults in
     let self = c.args.self.now in
     let is_plan = IsPlan (scheduler_of self.choices.scheduler) (how_of self.choices.rebuilder) (kept_in self.engine) (book_view self.book) c.args.targets.now in
-    breaks g.D.Disk.tells (see (c.args.self.now, c.args.disk.now)) (see (c.commit.new.self, c.commit.new.disk)) (line.Build c.args.targets.now) c.in_ok-batch.batch c.in-Err.end
-    (c.in_ok-batch.answer, (λ H sound distinct. parted is_plan c.in_ok-batch.field-0 c.in_ok-batch.batch c.in_ok-batch.answer c.in_ok-batch.batch-is c.in_ok-batch.answer-is (c.in_ok-batch.ensures.plans H sound distinct)))
+    breaks g.D.Disk.tells (see (c.args.self.now, c.args.disk.now)) (see (c.commit.new.self, c.commit.new.disk)) (line.Build c.args.targets.now) c.in_ok-batch.field-0.batch c.in-Err.end
+    (c.in_ok-batch.field-0.answer, (λ H sound distinct. parted is_plan c.in_ok-batch.field-0 c.in_ok-batch.field-0.batch c.in_ok-batch.field-0.answer refl refl (c.in_ok-batch.ensures.plans H sound distinct)))
     (at_err c.commit.result c.in-Err.end _ _ c.in-Err.is c.commit.ensures.carried)
