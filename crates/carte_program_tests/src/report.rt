@@ -80,6 +80,10 @@ fn statuses_have_numbers_and_lines(rt: HostRuntime) -> Result<(), Fail> {
             "8 carte: state full: 4294967296 bytes needed, limit 1073741824\n",
         ),
         (Status::NoMemory, "9 carte: out of memory\n"),
+        (
+            Status::ScriptTooLong,
+            "10 carte: script longer than 67108864 bytes\n",
+        ),
     ];
     lines(&rt, alloc, &cases)
 }

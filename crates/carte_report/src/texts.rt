@@ -40,6 +40,7 @@ fn status_text(alloc: Global, status: &Status) -> Result<String, NoMemory>
         Status::BadState(offset) => number_after(alloc, "bad state at byte ", *offset),
         Status::StateFull(needed, limit) => full_text(alloc, *needed, *limit),
         Status::NoMemory => plain(alloc, "out of memory"),
+        Status::ScriptTooLong => plain(alloc, "script longer than 67108864 bytes"),
     }
 }
 
