@@ -40,10 +40,10 @@ impl Book {
         ensures { Adds (book_view self.old) (book_view self.new) name (rule (tree_of expr)) result }
     {
         self.admit(&name)?;
-        match Arc::new(self.alloc, expr) {
-            Ok(formula) => self.add(name, Item::Rule(formula)),
-            Err(_) => Err(AddFault::NoMemory),
-        }
+        let Ok(formula) = Arc::new(self.alloc, expr) else {
+            return Err(AddFault::NoMemory);
+        };
+        self.add(name, Item::Rule(formula))
     }
 
     // Whether a name may be added, so far as memory isn't asked.
