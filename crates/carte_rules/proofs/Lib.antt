@@ -6,3 +6,8 @@ pub mod Turns
 pub mod Fresh
 pub mod Causes
 pub mod Some
+pub mod Swaps
+pub mod Puts
+pub mod Lines
+pub mod Document
+pub mod EntryTurns

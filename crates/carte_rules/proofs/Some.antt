@@ -1,12 +1,11 @@
 -- Each list of bytes is a book, or has a fault.
-use Rattle.std.proofs.Common.{◌≡◌, ℕ, List, Result, Ok, Err, refl}
+use Rattle.std.proofs.Common.{ℕ, List, Result, Ok, Err, refl}
 use Rattle.std.specs.FinMap.{insert, empty}
 use Rattle.toml.specs.Data.{Data, Members, no_members, member}
 use Rattle.carte_value.specs.declared.kind.Kind.TheVariants.{Rules}
-use Rattle.carte_tree.specs.Tree.{Tree}
 use Rattle.carte_formula.specs.Whole.{reading}
 use Rattle.carte_formula.proofs.Round.{reads_reading, told_reading}
-use Rattle.carte_book.specs.Book.{rule, Book}
+use Rattle.carte_book.specs.Book.{rule}
 use Rattle.carte_book.specs.declared.fault.BookFault.{BookFault}
 use Rattle.carte_rules.specs.Tables.{◌>>=◌, Tables, tables_of}
 use Rattle.carte_rules.specs.Reading.{Content, inputs_into, Then, text_at, FormulaOf, RuleAt, RulesInto, book_of, WithRules, InTables, BookOf, formula_in, rules_in, book_in}

@@ -3,3 +3,4 @@ pub mod Reading
 pub mod Steps
 pub mod Drafts
 pub mod Found
+pub mod Entries

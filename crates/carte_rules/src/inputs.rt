@@ -1,5 +1,6 @@
 ghost use Rattle.std.specs.Prelude.{◌≡◌, None, IfOk};
 ghost use Rattle.std.specs.FinMap.{empty, get};
+ghost use Rattle.toml.specs.Data.{Data};
 ghost use Rattle.toml.specs.View.{view, table_view};
 ghost use Rattle.carte_rules.specs.Drafts.{Holds, IsFree};
 ghost use Rattle.carte_rules.specs.Reading.{Content, input_into, inputs_into, value_of};
@@ -18,22 +19,23 @@ pub(crate) fn read_inputs(alloc: Global, table: Table, draft: &mut Draft) -> Res
     ensures { Leaves (inputs_into (table_view table) empty) draft.new result }
 {
     for (key, value) in table {
-        read_input(alloc, key.as_str(), value, draft)?;
+        read_input(alloc, key.as_str(), value_of(value), draft)?;
     }
     Ok(())
 }
 
-fn read_input(
+/// Puts the input at a key, where the value is what such data stand for.
+pub(crate) fn read_input(
     alloc: Global,
     key: &str,
-    value: toml::Value,
+    value: Result<Option<Value>, NoMemory>,
     draft: &mut Draft,
 ) -> Result<(), BookFault>
     requires { IsFree draft.old key.now }
-    ensures { (m : Content) → Holds draft.old m → get m key.now ≡ None → Leaves (input_into key.now (view value) m) draft.new result }
+    ensures { (m : Content) (d : Data) → IfOk value (λ found. found ≡ value_of d) → Holds draft.old m → get m key.now ≡ None → Leaves (input_into key.now d m) draft.new result }
 {
     match name_of(alloc, key) {
-        Ok(name) => match value_of(value) {
+        Ok(name) => match value {
             Ok(Some(value)) => match draft.add_input(name, value) {
                 Ok(()) => Ok(()),
                 Err(_) => Err(BookFault::NoMemory),

@@ -11,14 +11,25 @@
 //! then keeps the names alone, without values and formulas, since a rule may still stand at the name of an
 //! input. To count the keys first would have needed a second reader for documents of too many. To ask the
 //! document's own table for the name would have kept all inputs twice.
+//!
+//! A file of plain lines is read without a document: the headers of both tables, inputs first, and below them keys
+//! of one part with integers and with texts on one line that have no escapes (`line`, `plain`). Its entries are slices
+//! of its bytes, sorted once, and go into the draft from there (`entries`). The document's ordered maps, built twice,
+//! cost more than all else that reading does. Whatever isn't plain, and each fault of TOML, is left to the document,
+//! so that there is one place that tells them. That entries in order are the document's tables is proved of the
+//! grammar's own definitions (`proofs/Document`), and the contract is the same for both ways.
 #![tactic(auto)]
 
 mod draft;
+mod entries;
+mod entry;
 mod fill;
 mod found;
 mod inputs;
 mod laws;
+mod line;
 mod names;
+mod plain;
 mod read;
 mod rules;
 

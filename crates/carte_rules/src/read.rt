@@ -1,4 +1,9 @@
+ghost use Rattle.std.specs.Prelude.{◌≡◌, ◌≤◌, Some, length, IfSome, IsUtf8};
+ghost use Rattle.std.specs.List.Sorted.{IsStrictlySortedBy};
 ghost use Rattle.toml.specs.View.{table_view};
+ghost use Rattle.toml.specs.Parse.{parse_document};
+ghost use Rattle.carte_value.specs.Names.{name_cmp};
+ghost use Rattle.carte_rules.specs.Entries.{keys_of, document_of, plain_view};
 ghost use Rattle.carte_book.specs.Book.{book_view};
 ghost use Rattle.carte_rules.specs.Found.{tables_view};
 ghost use Rattle.carte_rules.specs.Reading.{Then, InTables, IsRead};
@@ -6,8 +11,11 @@ ghost use Rattle.carte_rules.specs.Steps.{Answers};
 ghost use Rattle.carte_rules.specs.Tables.{tables_into, no_tables};
 
 use crate::draft::Draft;
+use crate::entries::{put_inputs, put_rules};
+use crate::entry::PlainTables;
 use crate::found::{Found, find_tables};
 use crate::inputs::read_inputs;
+use crate::plain::read_plain;
 use crate::rules::read_formulas;
 use carte_book::{Book, BookFault, Which};
 use std::alloc::Global;
@@ -28,6 +36,38 @@ pub fn read_rules(alloc: Global, bytes: &[u8]) -> Result<Book, BookFault>
     if bytes.len() > MOST_BYTES {
         return Err(BookFault::Limit(Which::Bytes, MOST_BYTES as u64));
     }
+    match plain_tables(alloc, bytes) {
+        Some(tables) => read_lines(alloc, tables),
+        None => read_whole(alloc, bytes),
+    }
+}
+
+// The tables of bytes that are a plain text.
+fn plain_tables(alloc: Global, bytes: &[u8]) -> Option<PlainTables<'_>>
+    ensures document { IfSome result (λ t. IsUtf8 bytes.now × (parse_document bytes.now ≡ Some (document_of t.inputs.items t.rules.items))) }
+    ensures sorted { IfSome result (λ t. IsStrictlySortedBy name_cmp (keys_of t.inputs.items)) }
+{
+    match std::str::from_utf8(bytes) {
+        Ok(text) => read_plain(alloc, text),
+        Err(_) => None,
+    }
+}
+
+fn read_lines(alloc: Global, tables: PlainTables<'_>) -> Result<Book, BookFault>
+    requires { IsStrictlySortedBy name_cmp (keys_of tables.inputs.items) }
+    ensures { Answers (InTables (plain_view tables.entry)) result }
+{
+    let mut draft = Draft::new(alloc);
+    put_inputs(alloc, &tables.inputs, &mut draft)?;
+    put_rules(alloc, &tables.rules, &mut draft)?;
+    draft.finish()
+}
+
+// The way of every document.
+fn read_whole(alloc: Global, bytes: &[u8]) -> Result<Book, BookFault>
+    requires { length bytes.now ≤ 16777216 }
+    ensures { IsRead bytes.now result }
+{
     match toml::table_from_slice(alloc, bytes) {
         Ok(document) => read_document(alloc, document),
         Err(error) => {

@@ -36,7 +36,13 @@ fn read_rule(alloc: Global, key: &str, value: &Value, draft: &mut Draft) -> Resu
     }
 }
 
-fn read_formula(alloc: Global, name: Name, text: &str, draft: &mut Draft) -> Result<(), BookFault>
+/// Puts the rule of a text at a name at which nothing stands.
+pub(crate) fn read_formula(
+    alloc: Global,
+    name: Name,
+    text: &str,
+    draft: &mut Draft,
+) -> Result<(), BookFault>
     requires name { IsTrue (is_rule_name name) }
     requires free { IsFree draft.old name }
     ensures { (m : Content) → Holds draft.old m → get m name ≡ None → LeavesFormula name text.now m draft.new result }

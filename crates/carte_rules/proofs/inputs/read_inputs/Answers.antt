@@ -31,7 +31,7 @@ loop-key-preserved c =
     let turn : c.loop-key.key-iterator ≡ (k, c.in-Some.value) ∷ rest = search rules in
     let bytes : c.as_str.result.now ≡ string_bytes k = search rules in
     let new : AllFresh i.0 ((k, c.in-Some.value) ∷ rest) = subst (AllFresh i.0) turn i.3 in
-    let p = c.in_ok-read_input.ensures i.0 i.2 (ap (get i.0) bytes ∙ next_fresh k c.in-Some.value rest i.0 new) in
+    let p = c.in_ok-read_input.ensures i.0 d c.value_of.ensures i.2 (ap (get i.0) bytes ∙ next_fresh k c.in-Some.value rest i.0 new) in
     let put : input_into (string_bytes k) d i.0 ≡ Ok p.0 = ap (λ (q : List ℕ). input_into q d i.0) (sym bytes) ∙ p.1 in
     (p.0, i.1 ∙ inputs_turn _ _ (string_bytes k) d i.0 p.0 (ap members_view turn) put, p.2, rest_fresh k c.in-Some.value rest i.0 p.0 new put)
 
