@@ -99,6 +99,23 @@ fn a_cleaned_state_is_built_anew(rt: HostRuntime) -> Result<(), Fail> {
 }
 
 #[test]
+fn a_preview_writes_nothing(rt: HostRuntime) -> Result<(), Fail> {
+    let alloc = rt.alloc();
+    let book = read_rules(alloc, BOOK)?;
+    let mut disk = MemDisk::of(alloc, &[], &[])?;
+    let engine = Engine::load(alloc, &mut disk, 65536)?;
+    for (target, finished) in [("s2", 2), ("s1", 1), ("a", 0)] {
+        let mut targets = Names::new(alloc);
+        targets.push(Name::rule(alloc, target)?)?;
+        let work = engine.preview(alloc, &book, &Verify, &targets)?;
+        assert_eq!(rt; work.finished.len(), finished);
+        assert_eq!(rt; work.runs.ended().len(), finished);
+    }
+    assert_eq!(rt; disk.passed(), 0);
+    Ok(())
+}
+
+#[test]
 fn laws_are_called() {
     plan_is_sound();
     plan_keeps();

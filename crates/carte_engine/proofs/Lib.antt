@@ -7,3 +7,4 @@ pub mod Enduring
 pub mod Committing
 pub mod Emptying
 pub mod Faulting
+pub mod Foreseeing

@@ -38,7 +38,7 @@ module _ (h : How) (K : SomeKept) (b : Book) (targets : List (List ℕ)) (x : Be
   base : IsBase (begin K b x.marks) b (H ++ b ∷ [])
   base = begun_base K b (H ++ b ∷ []) x.marks (behind_sound K H (b ∷ []) sound) (has_last H b) distinct begins.marked
 
-  given : IsGiven (begin K b x.marks) b
+  pub given : IsGiven (begin K b x.marks) b
   given = (H ++ b ∷ [], base)
 
   built_by : (done : List ℕ → Type 0) (w : Work) → IsWork h (begin K b x.marks) b done w → IsBuilt h K b x.marks done w.finished

@@ -5,3 +5,4 @@ pub mod Clearing
 pub mod Reckoned
 pub mod Histories
 pub mod Faults
+pub mod Previews

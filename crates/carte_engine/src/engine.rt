@@ -135,6 +135,7 @@ impl Engine {
     pub fn clean<D: Disk>(&mut self, alloc: Global, disk: &mut D) -> Result<(), ApplyFault>
         requires whole { self.old.journal.broken ≡ false }
         ensures cleaned { OnOk result (kept_in self.new ≡ nothing_kept) }
+        ensures empty { is_empty (clearing self.old) ≡ true → (result ≡ Ok tt) × (self.new ≡ self.old) × (disk.new ≡ disk.old) }
         ensures full { (needed limit : ℕ) → result ≡ Err (ApplyFault.Full needed limit)
             → (needed ≡ needs_for self.old (clearing self.old)) × (limit ≡ self.old.journal.limit) × (limit < needed) × (self.new ≡ self.old) × (disk.new ≡ disk.old) }
         ensures over { is_empty (clearing self.old) ≡ false → self.old.journal.limit < needs_for self.old (clearing self.old)

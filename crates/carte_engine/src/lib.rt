@@ -27,6 +27,7 @@ mod engine;
 mod fault;
 mod laws;
 mod planned;
+mod preview;
 mod reckon;
 mod scheduler;
 

@@ -1,9 +1,13 @@
 //! The lines of statuses, and the text of a reply.
 
-use carte_book::{BookFault, KeyText, Reason, Which};
-use carte_report::{Status, error_line, memory_line, reply};
+use carte_book::{BookFault, KeyText, Reason, SetFault, Which};
+use carte_explain::Why;
+use carte_report::{
+    Status, cleaned_line, error_line, memory_line, not_set_line, refused_line, reply, set_line,
+    stray_line, why_line,
+};
 use carte_tree::FormulaFault;
-use carte_value::{Bad, Name, Names, Text, Value, Values};
+use carte_value::{Bad, Digest, Name, Names, Text, Value, Values};
 use carte_words::{Word, WordsFault};
 use std::alloc::Global;
 use std::process::Abort;
@@ -76,6 +80,10 @@ fn statuses_have_numbers_and_lines(rt: HostRuntime) -> Result<(), Fail> {
             "8 carte: state full: 4294967296 bytes needed, limit 1073741824\n",
         ),
         (Status::NoMemory, "9 carte: out of memory\n"),
+        (
+            Status::ScriptTooLong,
+            "10 carte: script longer than 67108864 bytes\n",
+        ),
     ];
     lines(&rt, alloc, &cases)
 }
@@ -186,5 +194,73 @@ fn replies_have_targets_and_counts(rt: HostRuntime) -> Result<(), Fail> {
     let none = Names::new(alloc);
     let nothing = reply(alloc, &none, &Values::new(alloc), true, &none, 0, 1)?;
     assert_eq!(rt; nothing.as_str(), "ran 0, given up 0, reused 1\n");
+    Ok(())
+}
+
+#[test]
+fn lines_of_a_session_are_replied_to(rt: HostRuntime) -> Result<(), Fail> {
+    let alloc = rt.alloc();
+    let (key, other) = (Name::exact(alloc, "A1")?, Name::exact(alloc, "a/b")?);
+    let reason = Reason::Cycle(names(alloc, "t t")?);
+    for (line, want) in [
+        (set_line(alloc, &key)?, "set A1\n"),
+        (
+            not_set_line(alloc, &key, SetFault::NotInput)?,
+            "not set: A1 is a rule\n",
+        ),
+        (
+            not_set_line(alloc, &other, SetFault::NoSuchName)?,
+            "not set: a/b is unknown\n",
+        ),
+        (
+            not_set_line(alloc, &key, SetFault::Limit)?,
+            "not set: more than 65536 keys\n",
+        ),
+        (refused_line(alloc, &reason)?, "refused: cycle: t -> t\n"),
+        (stray_line(alloc, 1)?, "line 1: not understood\n"),
+        (cleaned_line(alloc)?, "cleaned\n"),
+    ] {
+        assert_eq!(rt; line.as_str(), want);
+    }
+    Ok(())
+}
+
+#[test]
+fn causes_are_told(rt: HostRuntime) -> Result<(), Fail> {
+    let alloc = rt.alloc();
+    let key = Name::exact(alloc, "B1")?;
+    let (old, new) = (Digest([10; 32]), Digest([255; 32]));
+    let path = names(alloc, "B2 B1 A1")?;
+    let differs = Why::FirstDifference {
+        name: Name::exact(alloc, "A1")?,
+        old,
+        new,
+    };
+    for (why, want) in [
+        (Why::Input, "B1 is an input\n"),
+        (Why::Reusable, "B1 reusable\n"),
+        (Why::NoTrace, "B1 runs: no record\n"),
+        (
+            differs,
+            "B1 runs: A1 was 0a0a0a0a0a0a0a0a0a0a0a0a0a0a0a0a0a0a0a0a0a0a0a0a0a0a0a0a0a0a0a0a, is ffffffffffffffffffffffffffffffffffffffffffffffffffffffffffffffff\n",
+        ),
+        (
+            Why::StoredDiffers {
+                stored: old,
+                result: new,
+            },
+            "B1 runs: stored value differs\n",
+        ),
+        (Why::NoEntry, "B1 runs: no entry\n"),
+        (Why::Stale, "B1 runs: entry marked stale\n"),
+        (Why::Shallow, "B1 runs: entry is shallow\n"),
+        (
+            Why::DirtyInput(path),
+            "B1 runs: input changed: B2 -> B1 -> A1\n",
+        ),
+    ] {
+        let line = why_line(alloc, &key, &why)?;
+        assert_eq!(rt; line.as_str(), want);
+    }
     Ok(())
 }

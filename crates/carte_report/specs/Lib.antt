@@ -1,3 +1,4 @@
 pub mod Status
 pub mod Texts
 pub mod Reply
+pub mod Lines

@@ -13,7 +13,7 @@ use Rattle.carte_book.specs.declared.reason.Reason.TheVariants.{Cycle, Missing, 
 use Rattle.carte_words.specs.declared.fault.WordsFault.{WordsFault}
 use Rattle.carte_words.specs.declared.fault.WordsFault.TheVariants.{Words, NoTarget, TargetsNotTaken, BadTarget, NoMemory as WordsNoMemory}
 use Rattle.carte_report.specs.declared.status.Status.{Status}
-use Rattle.carte_report.specs.declared.status.Status.TheVariants.{Done, BookRefused, Usage, BuildRefused, ReadFault, WriteFault, DiskFault, BadState, StateFull, NoMemory}
+use Rattle.carte_report.specs.declared.status.Status.TheVariants.{Done, BookRefused, Usage, BuildRefused, ReadFault, WriteFault, DiskFault, BadState, StateFull, NoMemory, ScriptTooLong}
 
 abbrev pub which_text : Which → List ℕ
 which_text Bytes = codes "bytes"
@@ -72,6 +72,7 @@ status_text DiskFault = codes "the state's device failed"
 status_text (BadState offset) = codes "bad state at byte " ++ decimal offset
 status_text (StateFull needed limit) = codes "state full: " ++ (decimal needed ++ (codes " bytes needed, limit " ++ decimal limit))
 status_text NoMemory = codes "out of memory"
+status_text ScriptTooLong = codes "script longer than 67108864 bytes"
 
 abbrev pub line : List ℕ → List ℕ
 line text = codes "carte: " ++ (text ++ 10 ∷ [])

@@ -1,4 +1,5 @@
-//! What the program says: the statuses with their numbers, the error lines, and the reply of a build.
+//! What the program says: the statuses with their numbers, the error lines, the reply of a build, the
+//! replies to the lines of a session, and the lines of an explanation.
 //!
 //! Every text that a user sees stands here, so that its wording is found in one place and nothing else of the program
 //! is stated by bytes. Each is a function of what it tells (`specs/Texts`, `specs/Reply`): a status, or the targets with
@@ -15,11 +16,13 @@
 #![tactic(auto)]
 
 mod book_texts;
+mod lines;
 mod pieces;
 mod replies;
 mod status;
 mod texts;
 
+pub use lines::{cleaned_line, not_set_line, refused_line, set_line, stray_line, why_line};
 pub use replies::reply;
 pub use status::Status;
 pub use texts::{error_line, memory_line};

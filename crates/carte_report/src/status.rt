@@ -24,6 +24,8 @@ pub enum Status {
     /// The state's file would need so many bytes, which are more than the limit, the second number.
     StateFull(u64, u64),
     NoMemory,
+    /// The script has more than 67,108,864 bytes. All whole lines within these were carried out.
+    ScriptTooLong,
 }
 
 impl Status {
@@ -42,6 +44,7 @@ impl Status {
             Status::BadState(_) => 7,
             Status::StateFull(_, _) => 8,
             Status::NoMemory => 9,
+            Status::ScriptTooLong => 10,
         }
     }
 }

@@ -40,6 +40,7 @@ fn status_text(alloc: Global, status: &Status) -> Result<String, NoMemory>
         Status::BadState(offset) => number_after(alloc, "bad state at byte ", *offset),
         Status::StateFull(needed, limit) => full_text(alloc, *needed, *limit),
         Status::NoMemory => plain(alloc, "out of memory"),
+        Status::ScriptTooLong => plain(alloc, "script longer than 67108864 bytes"),
     }
 }
 
@@ -69,7 +70,7 @@ fn words_fault_text(alloc: Global, fault: &WordsFault) -> Result<String, NoMemor
     }
 }
 
-fn reason_text(alloc: Global, reason: &Reason) -> Result<String, NoMemory>
+pub(crate) fn reason_text(alloc: Global, reason: &Reason) -> Result<String, NoMemory>
     ensures { IfOk result (λ text. string_bytes text ≡ reason_text reason.now) }
 {
     match reason {
@@ -79,7 +80,7 @@ fn reason_text(alloc: Global, reason: &Reason) -> Result<String, NoMemory>
     }
 }
 
-fn path_after(alloc: Global, front: &str, path: &Names) -> Result<String, NoMemory>
+pub(crate) fn path_after(alloc: Global, front: &str, path: &Names) -> Result<String, NoMemory>
     ensures { IfOk result (λ text. string_bytes text ≡ front.now ++ path_text path.now) }
 {
     let mut out = String::from_str(alloc, front)?;

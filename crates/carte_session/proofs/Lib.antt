@@ -2,3 +2,4 @@ pub mod LineLemmas
 pub mod SessionLemmas
 pub mod SessionLaws
 pub mod Leaves
+pub mod Seeing

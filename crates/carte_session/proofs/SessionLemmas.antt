@@ -56,7 +56,7 @@ split_at read bytes i x within is =
 -- the machine
 
 module _ {M : Type 0} (Answers : M → ℕ → List ℕ → List ℕ → M → Type 0) where
-  goes_more : (lines : List (List ℕ)) (n number : ℕ) (m mid m' : M) (said line reply : List ℕ) → Goes Answers n m lines said mid
+  pub goes_more : (lines : List (List ℕ)) (n number : ℕ) (m mid m' : M) (said line reply : List ℕ) → Goes Answers n m lines said mid
       → number ≡ length lines + n → Answers mid number line reply m' → Goes Answers n m (lines ++ line ∷ []) (said ++ reply) m'
   goes_more [] n number m mid m' said line reply goes is one =
       let here : number ≡ n = omega arith in (

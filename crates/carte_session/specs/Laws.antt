@@ -1,9 +1,10 @@
 -- Laws of lines and of sessions.
-use Rattle.std.specs.Prelude.{ℕ, ◌≡◌, ◌<◌, ◌≤◌, List, [], ◌∷◌, ◌++◌, length, Ok, Err}
+use Rattle.std.specs.Prelude.{ℕ, ◌≡◌, ◌<◌, ◌≤◌, List, [], ◌∷◌, ◌++◌, length, Result, Ok, Err}
 use Rattle.carte_io.specs.Streams.{SinkState, SourceState}
 use Rattle.carte_session.specs.Around.{Takes}
 use Rattle.carte_session.specs.Lines.{AreAll, AreLines, IsCut, IsNext, lines_of, spelled}
 use Rattle.carte_session.specs.Session.{Goes, IsSession}
+use Rattle.carte_session.specs.declared.end.SessionEnd.{SessionEnd}
 use Rattle.carte_session.specs.declared.end.SessionEnd.TheVariants.{TooLong}
 use Rattle.carte_session.specs.declared.end.StepEnd.{StepEnd}
 
@@ -40,3 +41,11 @@ DoneLines {M = M} Answers Ends source_tells sink_tells =
     limit (Ok tt)
     → source_tells → (length script.left ≤ limit)
     × ((said : List ℕ) × Goes Answers 1 m (lines_of script.left) said m' × Takes (record { tells = sink_tells; old = k; new = k' }) said)
+
+-- A session of a machine, seen through a view in whose terms its answers and ends are stated, is one of what is seen.
+abbrev pub SessionSeen : {M : Type 0} → {N : Type 0} → (M → N) → (N → ℕ → List ℕ → List ℕ → N → Type 0) → (N → ℕ → List ℕ → StepEnd → N → Type 0) → Type 0 → Type 0 → Type 0
+SessionSeen {M = M} view Answers Ends source_tells sink_tells =
+    (m m' : M) (script left : SourceState) (k k' : SinkState) (limit : ℕ) (result : Result (Unit {0}) SessionEnd)
+    → IsSession (λ m n line reply m'. Answers (view m) n line reply (view m')) (λ m n line end m'. Ends (view m) n line end (view m')) m m'
+    (record { tells = source_tells; old = script; new = left }) (record { tells = sink_tells; old = k; new = k' }) limit result
+    → IsSession Answers Ends (view m) (view m') (record { tells = source_tells; old = script; new = left }) (record { tells = sink_tells; old = k; new = k' }) limit result

@@ -35,6 +35,17 @@ pub enum SessionEnd {
     Machine(StepEnd),
 }
 
+impl From<carte_value::NoMemory> for StepEnd {
+    ghost use Rattle.std.specs.Prelude.{◌≡◌};
+    ghost use Rattle.carte_session.specs.declared.end.StepEnd.TheVariants.{NoMemory as OutOfMemory};
+
+    ghost from_gives = { λ _ end. end ≡ OutOfMemory };
+
+    fn from(_: carte_value::NoMemory) -> StepEnd {
+        StepEnd::NoMemory
+    }
+}
+
 impl From<StepEnd> for SessionEnd {
     ghost use Rattle.std.specs.Prelude.{◌≡◌};
     ghost use Rattle.carte_session.specs.declared.end.SessionEnd.TheVariants.{Machine};

@@ -13,7 +13,9 @@ use Rattle.carte_words.specs.declared.words.Rebuilder4.TheVariants as rebuilder
 abbrev pub command_named : List ℕ → Option Command
 command_named t =
     if bytes_eq t (codes "build") then Some command.Build else
-    (if bytes_eq t (codes "clean") then Some command.Clean else None)
+    (if bytes_eq t (codes "session") then Some command.Session else
+    (if bytes_eq t (codes "explain") then Some command.Explain else
+    (if bytes_eq t (codes "clean") then Some command.Clean else None)))
 
 abbrev pub scheduler_named : List ℕ → Option Scheduler4
 scheduler_named t =

@@ -52,6 +52,8 @@ choices_of rows book =
 
 abbrev pub takes_targets : Command → Bool
 takes_targets command.Build = true
+takes_targets command.Session = false
+takes_targets command.Explain = true
 takes_targets command.Clean = false
 
 abbrev pub name_in : Kind → Text → Result Text WordsFault

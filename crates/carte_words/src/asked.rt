@@ -13,7 +13,8 @@ use std::alloc::Global;
 /// What the words of the command line ask for, without the program's name:
 /// `COMMAND BOOK STATE [options] [TARGET..]`, where options may stand between and behind the targets, too.
 ///
-/// The commands are `build` and `clean`. The options, each at most once, are
+/// The commands are `build` and `explain`, which take targets, and `session` and `clean`, which take none. The options, each
+/// at most once, are
 /// `--scheduler topological` or `suspending` (the default), `--rebuilder dirty`, `verifying` (the default),
 /// `constructive` or `deep`, `--kind rules` or `sheet`, and `--list`. Without `--kind` a book is a sheet where its
 /// word ends with `.csv`, and else a rule file. Behind `--` every word is a target.

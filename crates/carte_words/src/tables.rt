@@ -10,6 +10,8 @@ pub(crate) fn command_named(text: &str) -> Option<Command>
 {
     match text {
         "build" => Some(Command::Build),
+        "session" => Some(Command::Session),
+        "explain" => Some(Command::Explain),
         "clean" => Some(Command::Clean),
         _ => None,
     }

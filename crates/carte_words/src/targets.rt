@@ -44,8 +44,8 @@ fn takes_targets(command: Command) -> bool
     ensures { result ≡ takes_targets command }
 {
     match command {
-        Command::Build => true,
-        Command::Clean => false,
+        Command::Build | Command::Explain => true,
+        Command::Session | Command::Clean => false,
     }
 }
 

@@ -4,7 +4,13 @@ use carte_value::{Kind, Names};
 /// What is to be done.
 #[derive(Clone, Copy, Debug, PartialEq, Eq)]
 pub enum Command {
+    /// The targets.
     Build,
+    /// The lines of a script, one by one.
+    Session,
+    /// To tell of each target why it would run, or would not.
+    Explain,
+    /// To empty the state.
     Clean,
 }
 
@@ -43,6 +49,6 @@ pub struct Words {
     pub rebuilder: Rebuilder4,
     /// Whether the rules that were run are listed.
     pub list: bool,
-    /// The keys that are to be built, in their order.
+    /// The keys that are to be built, or explained, in their order.
     pub targets: Names,
 }

@@ -1,0 +1,52 @@
+ghost use Rattle.std.specs.Prelude.{◌≡◌, IfOk, Err};
+ghost use Rattle.carte_book.specs.Book.{book_view};
+ghost use Rattle.carte_book.specs.Reason.{IsReason};
+ghost use Rattle.carte_book.specs.declared.reason.Reason.{Reason as SomeReason};
+ghost use Rattle.carte_state.specs.States.{kept_in};
+ghost use Rattle.carte_engine.specs.Answers.{Under};
+ghost use Rattle.carte_engine.specs.Previews.{IsForeseen, IsPreview};
+
+use crate::Engine;
+use carte_book::Book;
+use carte_mark::begin;
+use carte_rebuild::{PlanFault, Rebuilder, Work, WorkEnd};
+use carte_value::{Names, NoMemory};
+use std::alloc::Global;
+
+impl Engine {
+    /// What a build of the targets would do where keys wait for what they need. Nothing is changed and nothing committed:
+    /// it takes the work of such a build, and leaves out the batch. Refused where a target has no value.
+    pub fn preview<R: Rebuilder>(
+        &self,
+        alloc: Global,
+        book: &Book,
+        rebuilder: &R,
+        targets: &Names,
+    ) -> Result<Work, PlanFault>
+        // Under whatever history what is kept is sound for.
+        ensures served { Under (kept_in self.now) (book_view book.now)
+            (IfOk result (IsPreview (R.how rebuilder.now) (kept_in self.now) (book_view book.now) targets.now)) }
+        ensures refused { Under (kept_in self.now) (book_view book.now)
+            ((reason : SomeReason) → result ≡ Err (PlanFault.Refused reason) → IsReason (book_view book.now) targets.now reason) }
+    {
+        match self.foresee(alloc, book, rebuilder, targets)? {
+            WorkEnd::All(work) => Ok(work),
+            WorkEnd::Refused(_, reason) => Err(PlanFault::Refused(reason)),
+        }
+    }
+
+    fn foresee<R: Rebuilder>(
+        &self,
+        alloc: Global,
+        book: &Book,
+        rebuilder: &R,
+        targets: &Names,
+    ) -> Result<WorkEnd, NoMemory>
+        ensures { Under (kept_in self.now) (book_view book.now)
+            (IfOk result (IsForeseen (R.how rebuilder.now) (kept_in self.now) (book_view book.now) targets.now)) }
+    {
+        let rules = book.rules_digest(alloc)?;
+        let begun = begin(alloc, self.kept(), book, &rules)?;
+        carte_suspend::build(alloc, rebuilder, begun.base.kept(), book, targets)
+    }
+}

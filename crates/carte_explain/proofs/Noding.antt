@@ -1,0 +1,103 @@
+-- The names that may stand on a path, and what has changed.
+use Rattle.std.proofs.Common.{◌≡◌, ℕ, ◌+◌, ◌<◌, Bool, true, false, not, cond, List, [], ◌∷◌, ◌++◌, Option, Some, None, map, take, get_or, length, refl, ap, sym, ◌∙◌, subst, inl, inr}
+use Rattle.std.specs.Prelude.{find}
+use Rattle.std.specs.BTreeSet.{BTreeSet, contains}
+use Rattle.std.specs.Ordering.{eq_by_cmp}
+use Rattle.std.proofs.lemmas.List.{map-append, take_more}
+use Rattle.carte_value.specs.declared.digest.Digest.{Digest}
+use Rattle.carte_value.specs.declared.link.Link.{Link}
+use Rattle.carte_value.specs.Names.{name_cmp, name_eq}
+use Rattle.carte_value.specs.Truths.{Among}
+use Rattle.carte_value.proofs.Members.{among_append}
+use Rattle.carte_book.specs.Book.{Book}
+use Rattle.carte_record.specs.declared.entry.Entry.{Entry}
+use Rattle.carte_record.specs.declared.kept.Kept.{Kept}
+use Rattle.carte_record.specs.Kept.{SomeKept, kept_view}
+use Rattle.carte_record.specs.Lookups.{digest_in, first_entry, first_link, is_entry_of, is_link_of}
+use Rattle.carte_record.proofs.Names.{name_eq_is}
+use Rattle.carte_mark.specs.Marking.{PutsIf}
+use Rattle.carte_mark.specs.Reached.{has_changed}
+use Rattle.carte_search.specs.Search.{HasNodes}
+use Rattle.carte_sound.specs.Begun.{is_digest}
+use Rattle.carte_sound.specs.Marks.{IsChanged, present}
+use Rattle.carte_sound.proofs.Tests.{digest_self, same_digest}
+use Rattle.carte_explain.specs.Nodes.{AddsAll, AreNodes, keys_in, names_in}
+use Rattle.carte_explain.specs.Paths.{needs_at, needs_in}
+
+or_true : (t : Bool) → cond t true true ≡ true
+or_true true = refl
+or_true false = refl
+
+-- one more name
+adds_one : (old mid new : BTreeSet (List ℕ)) (ks : List (List ℕ)) (k : List ℕ) → eq_by_cmp name_cmp k k ≡ true → AddsAll old mid ks → PutsIf true mid new k → AddsAll old new (ks ++ k ∷ [])
+adds_one old mid new ks k self adds puts = record {
+  stays = λ q there. still q (adds.stays q there);
+  there = λ q among. elim (among_append ks (k ∷ []) q among) [
+    | inl before ↦ still q (adds.there q before)
+    | inr here ↦ elim here [
+      | inl same ↦ puts q ∙ ap (λ j. cond (eq_by_cmp name_cmp k j) true (contains name_cmp mid q)) same ∙ ap (λ t. cond t true (contains name_cmp mid q)) self
+      | inr nowhere ↦ absurd nowhere
+    ]
+  ];
+}
+  where
+    still : (q : List ℕ) → contains name_cmp mid q ≡ true → contains name_cmp new q ≡ true
+    still q there = puts q ∙ ap (cond (eq_by_cmp name_cmp k q) true) there ∙ or_true (eq_by_cmp name_cmp k q)
+
+pub adds_none : (s : BTreeSet (List ℕ)) → AddsAll s s []
+adds_none s = record { stays = λ q there. there; there = λ q nowhere. absurd nowhere }
+
+-- of the items so far, and of one more
+pub adds_next : {A : Type 0} (name : A → List ℕ) (old mid new : BTreeSet (List ℕ)) (xs : List A) (i : ℕ) (x : A) → eq_by_cmp name_cmp (name x) (name x) ≡ true → i < length xs → x ≡ get_or xs i x
+    → AddsAll old mid (map name (take i xs)) → PutsIf true mid new (name x) → AddsAll old new (map name (take (i + 1) xs))
+adds_next name old mid new xs i x self below is adds puts =
+    subst (AddsAll old new) (sym (ap (map name) (take_more xs i x below ∙ ap (λ y. take i xs ++ y ∷ []) (sym is)) ∙ map-append name (take i xs) (x ∷ [])))
+    (adds_one old mid new (map name (take i xs)) (name x) self adds puts)
+
+-- a key with an entry, and a name that was seen
+entry_key : (es : List Entry) (k : List ℕ) (e : Entry) → first_entry es k ≡ Some e → Among (keys_in es) k
+entry_key [] k e is = cc
+entry_key (x ∷ es) k e is = on (name_eq k x.key) refl is (entry_key es k e)
+  where
+    on : (t : Bool) → name_eq k x.key ≡ t → cond t (Some x) (find (is_entry_of k) es) ≡ Some e → (first_entry es k ≡ Some e → Among (keys_in es) k) → Among (keys_in (x ∷ es)) k
+    on true same is rest = inl (name_eq_is k x.key same)
+    on false apart is rest = inr (rest is)
+
+seen_name : (ls : List Link) (k : List ℕ) (d : Digest) → first_link ls k ≡ Some d → Among (names_in ls) k
+seen_name [] k d is = cc
+seen_name (l ∷ ls) k d is = on (name_eq k l.name) refl is (seen_name ls k d)
+  where
+    on : (t : Bool) → name_eq k l.name ≡ t → digest_in (cond t (Some l) (find (is_link_of k) ls)) ≡ Some d → (first_link ls k ≡ Some d → Among (names_in ls) k) → Among (names_in (l ∷ ls)) k
+    on true same is rest = inl (name_eq_is k l.name same)
+    on false apart is rest = inr (rest is)
+
+pub has_nodes : (K : Kept) (b : Book) (nodes : BTreeSet (List ℕ)) → AreNodes K.entries K.seen nodes → HasNodes (needs_at (kept_view K)) (IsChanged (kept_view K) b) nodes
+has_nodes K b nodes are = record {
+  goals = λ k changed. are.seen k (seen_name K.seen k changed.digest changed.seen);
+  inner = λ k j among. are.keys k (needing k j (first_entry K.entries k) refl among);
+}
+  where
+    needing : (k j : List ℕ) (o : Option Entry) → first_entry K.entries k ≡ o → Among (needs_in o) j → Among (keys_in K.entries) k
+    needing k j None is among = absurd among
+    needing k j (Some e) is among = entry_key K.entries k e is
+
+-- the test tells what has changed
+pub changed : (K : SomeKept) (b : Book) (k : List ℕ) (o : Option Digest) → K.seen k ≡ o → has_changed o (present b k) ≡ true → IsChanged K b k
+changed K b k None is test = cc
+changed K b k (Some d) is test = record { digest = d; seen = is; differs = apart (is_digest (present b k) d) refl test }
+  where
+    apart : (t : Bool) → is_digest (present b k) d ≡ t → not t ≡ true → ¬ (present b k ≡ Some d)
+    apart true tells off same = cc
+    apart false tells off same = let e : false ≡ true = sym tells ∙ (ap (λ x. is_digest x d) same ∙ digest_self d) in cc
+
+pub unchanged : (K : SomeKept) (b : Book) (k : List ℕ) (o : Option Digest) → K.seen k ≡ o → has_changed o (present b k) ≡ false → ¬ (IsChanged K b k)
+unchanged K b k None is test c = let e : None ≡ Some c.digest = sym is ∙ c.seen in cc
+unchanged K b k (Some d) is test c = c.differs (same (present b k) (on (is_digest (present b k) d) test) ∙ (sym is ∙ c.seen))
+  where
+    on : (t : Bool) → not t ≡ false → t ≡ true
+    on true off = refl
+    on false off = cc
+
+    same : (p : Option Digest) → is_digest p d ≡ true → p ≡ Some d
+    same None tells = cc
+    same (Some c) tells = ap Some (same_digest c d tells)

@@ -1,0 +1,109 @@
+-- Why a build would run a key, or would not.
+use Rattle.std.specs.Prelude.{ℕ, ◌≡◌, true, false, List, [], ◌∷◌, ◌++◌, Option, Some, None, Result, IfOk, unwrap_or}
+use Rattle.carte_value.specs.declared.digest.Digest.{Digest}
+use Rattle.carte_value.specs.declared.link.Link.{Link}
+use Rattle.carte_value.specs.declared.value.Value.{Value}
+use Rattle.carte_value.specs.declared.value.Value.TheVariants.{Empty}
+use Rattle.carte_value.specs.Lists.{Has}
+use Rattle.carte_value.specs.Spelling.{digest_of}
+use Rattle.carte_value.specs.Truths.{Among}
+use Rattle.carte_book.specs.Book.{Book, input, content}
+use Rattle.carte_book.specs.Needs.{IsRule}
+use Rattle.carte_book.specs.Reason.{AllClean}
+use Rattle.carte_record.specs.declared.entry.Entry.{Entry}
+use Rattle.carte_record.specs.declared.trace.Trace.{Trace}
+use Rattle.carte_record.specs.declared.way.Way.{Way}
+use Rattle.carte_record.specs.declared.way.Way.TheVariants.{Verifying, Constructive, Deep}
+use Rattle.carte_record.specs.Kept.{SomeKept}
+use Rattle.carte_rebuild.specs.Ends.{IsWork}
+use Rattle.carte_rebuild.specs.declared.work.Work.{Work}
+use Rattle.carte_sound.specs.Base.{HasDistinctDigests}
+use Rattle.carte_sound.specs.Begun.{AreMarks, begin}
+use Rattle.carte_sound.specs.Held.{How, dirty, tracing, AreLinks, digest_now, IsHeld}
+use Rattle.carte_sound.specs.Sound.{IsSound}
+use Rattle.carte_sound.specs.Treated.{IsDoneSuspending}
+use Rattle.carte_explain.specs.Paths.{IsFirstChangedPath}
+use Rattle.carte_explain.specs.declared.why.RebuilderKind.{RebuilderKind}
+use Rattle.carte_explain.specs.declared.why.RebuilderKind.TheVariants as kind
+use Rattle.carte_explain.specs.declared.why.Why.{Why}
+use Rattle.carte_explain.specs.declared.why.Why.TheVariants.{Input, Reusable, NoTrace, FirstDifference, StoredDiffers, NoEntry, Stale, Shallow, DirtyInput}
+
+abbrev pub how_of : RebuilderKind → How
+how_of kind.Dirty = dirty
+how_of kind.Verifying = tracing Verifying
+how_of kind.Constructive = tracing Constructive
+how_of kind.Deep = tracing Deep
+
+-- a name's present digest: under deep traces a name that is no input has that of the empty value
+abbrev pub IsNew : Way → Option Digest → Digest → Type 0
+IsNew Verifying now d = now ≡ Some d
+IsNew Constructive now d = now ≡ Some d
+IsNew Deep now d = d ≡ unwrap_or now (digest_of Empty)
+
+-- the first of these links whose name has another digest now
+pub record IsFirstDifference (w : Way) (b : Book) (ls : List Link) (name : List ℕ) (old new : Digest) : Type 0 where
+  pub before : List Link
+  pub link : Link
+  pub behind : List Link
+  pub parted : ls ≡ before ++ link ∷ behind
+  pub name_is : name ≡ link.name
+  pub old_is : old ≡ link.digest
+  pub same : AreLinks (digest_now w b) before
+  pub differs : ¬ (digest_now w b name ≡ Some old)
+  pub now : IsNew w (digest_now w b name) new
+
+-- no verifying trace has the present links
+abbrev pub NoneMatches : Way → SomeKept → Book → List ℕ → Type 0
+NoneMatches Verifying M b k = (t : Trace) → Has (M.traces Verifying k) t → ¬ (AreLinks (digest_now Verifying b) t.links)
+NoneMatches Constructive M b k = Unit {0}
+NoneMatches Deep M b k = Unit {0}
+
+-- the newest trace differs there first, and no verifying one matches
+pub record IsNewestDifference (w : Way) (M : SomeKept) (b : Book) (k name : List ℕ) (old new : Digest) : Type 0 where
+  pub newest : Trace
+  pub older : List Trace
+  pub traces : M.traces w k ≡ newest ∷ older
+  pub first : IsFirstDifference w b newest.links name old new
+  pub none : NoneMatches w M b k
+
+-- the links of a verifying trace match, but its entry has another result
+pub record IsOtherResult (M : SomeKept) (b : Book) (k : List ℕ) (stored result : Digest) : Type 0 where
+  pub trace : Trace
+  pub kept : Has (M.traces Verifying k) trace
+  pub links : AreLinks (digest_now Verifying b) trace.links
+  pub entry : Entry
+  pub entered : M.entries k ≡ Some entry
+  pub stored_is : stored ≡ entry.result
+  pub result_is : result ≡ trace.result
+  pub differs : ¬ (stored ≡ result)
+
+-- the entry was kept with the mark stale
+abbrev pub IsStale : SomeKept → List ℕ → Type 0
+IsStale K k = (e : Entry) × (K.entries k ≡ Some e) × (e.stale ≡ true)
+
+-- it was kept with the mark shallow alone
+abbrev pub IsShallow : SomeKept → List ℕ → Type 0
+IsShallow K k = (e : Entry) × (K.entries k ≡ Some e) × (e.stale ≡ false) × (e.shallow ≡ true)
+
+-- over what was kept, K, and what the build begins with, M
+abbrev pub IsCause : How → SomeKept → SomeKept → Book → List ℕ → Why → Type 0
+IsCause h K M b k Input = (v : Value) × (content b k ≡ Some (input v))
+IsCause h K M b k Reusable = IsRule b k × IsHeld h M b k
+IsCause (tracing w) K M b k NoTrace = IsRule b k × ¬ (IsHeld (tracing w) M b k) × (M.traces w k ≡ [])
+IsCause (tracing w) K M b k (FirstDifference name old new) = IsRule b k × ¬ (IsHeld (tracing w) M b k) × IsNewestDifference w M b k name old new
+IsCause (tracing Verifying) K M b k (StoredDiffers stored result) = IsRule b k × ¬ (IsHeld (tracing Verifying) M b k) × IsOtherResult M b k stored result
+IsCause dirty K M b k NoEntry = IsRule b k × ¬ (IsHeld dirty M b k) × (M.entries k ≡ None)
+IsCause dirty K M b k Stale = IsRule b k × ¬ (IsHeld dirty M b k) × IsStale K k
+IsCause dirty K M b k Shallow = IsRule b k × ¬ (IsHeld dirty M b k) × IsShallow K k
+IsCause dirty K M b k (DirtyInput path) = IsRule b k × ¬ (IsHeld dirty M b k) × IsFirstChangedPath K b k path
+IsCause h K M b k why = ⊥
+
+-- why a build over what was kept would run the key, or would not
+abbrev pub IsWhy : How → SomeKept → Book → List ℕ → Why → Type 0
+IsWhy h K b k why = (marks : List (List ℕ)) × AreMarks K b marks × IsCause h K (begin K b marks) b k why
+
+-- what is told of a target of such work is why, whatever history what is kept is sound for
+abbrev pub Explains : {E : Type 0} → RebuilderKind → SomeKept → Book → Work → List ℕ → Result Why E → Type 0
+Explains r K b w k result = (H : List Book) (targets marks : List (List ℕ)) → IsSound K H → HasDistinctDigests (H ++ b ∷ [])
+    → AreMarks K b marks → IsWork (how_of r) (begin K b marks) b (IsDoneSuspending (how_of r) (begin K b marks) b targets) w
+    → AllClean b targets → Among targets k → IfOk result (IsWhy (how_of r) K b k)

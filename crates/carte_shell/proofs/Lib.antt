@@ -1,0 +1,6 @@
+pub mod Results
+pub mod Telling
+pub mod Committing
+pub mod Obeying
+pub mod Sounding
+pub mod Sessions

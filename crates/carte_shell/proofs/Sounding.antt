@@ -1,0 +1,195 @@
+-- Lines leave the state sound, whatever crash comes.
+use Rattle.std.proofs.Common.{◌≡◌, ℕ, ◌+◌, Bool, true, false, if◌then◌else◌, List, [], ◌∷◌, ◌++◌, Result, Ok, Err, refl, sym, ◌∙◌, ap, subst, inl, inr, ◌⊎◌, arith, append_assoc}
+use Rattle.carte_io.specs.Disk.{LeavesOnly, Story}
+use Rattle.carte_io.specs.Stations.{IsAtOneOf, Step}
+use Rattle.carte_io.proofs.Acknowledged.{steps_leave}
+use Rattle.carte_io.proofs.Images.{leaves_more, leaves_none, leaves_then}
+use Rattle.carte_journal.specs.Journals.{calls_of}
+use Rattle.carte_value.specs.declared.value.Value.{Value}
+use Rattle.carte_book.specs.Book.{Book}
+use Rattle.carte_book.specs.Edits.{Sets}
+use Rattle.carte_book.specs.declared.fault.SetFault.{SetFault}
+use Rattle.carte_book.specs.declared.fault.SetFault.TheVariants as set
+use Rattle.carte_engine.specs.Clearing.{clearing}
+use Rattle.carte_engine.specs.declared.answer.Answer.{Answer}
+use Rattle.carte_engine.proofs.Emptying.{clearing_empties}
+use Rattle.carte_engine.proofs.Keeping.{plan_sound}
+use Rattle.carte_record.specs.declared.batch.Batch.{Batch}
+use Rattle.carte_record.specs.Empty.{is_empty}
+use Rattle.carte_record.specs.Folds.{apply}
+use Rattle.carte_record.specs.Kept.{SomeKept}
+use Rattle.carte_session.specs.Session.{Goes}
+use Rattle.carte_session.specs.declared.end.StepEnd.{StepEnd}
+use Rattle.carte_session.specs.declared.end.StepEnd.TheVariants.{DiskFault, StateFull, NoMemory}
+use Rattle.carte_sound.specs.Base.{HasDistinctDigests}
+use Rattle.carte_sound.specs.Sound.{IsSound}
+use Rattle.carte_sound.proofs.Begins.{behind_sound, front_distinct}
+use Rattle.carte_sound.proofs.Histories.{nothing_sound}
+use Rattle.carte_state.specs.Folding.{Keeps}
+use Rattle.carte_state.specs.States.{IsKeptOn, Stand, kept_in, step_for}
+use Rattle.carte_state.proofs.Applies.{kept_leaves}
+use Rattle.carte_words.specs.Lines.{Means}
+use Rattle.carte_words.specs.declared.line.Line.{Line}
+use Rattle.carte_words.specs.declared.line.Line.TheVariants as line
+use Rattle.carte_shell.specs.Answers.{Answers, Brings, Ends, Obeys, Plans, SetsInput}
+use Rattle.carte_shell.specs.Books.{AreBooks, Edits, IsBookAt, LooksAt}
+use Rattle.carte_shell.specs.Chosen.{how_of, scheduler_of}
+use Rattle.carte_shell.specs.Commits.{Fails, Puts, Steps, Stops}
+use Rattle.carte_shell.specs.Scenes.{Scene}
+use Rattle.carte_shell.specs.Sound.{EndLeavesSound, KeepsSound, LeavesSound, LinesStaySound, StandsSound, StaysSound}
+
+-- ---- one commit
+
+station : (limit : ℕ) (K : SomeKept) (empty : Bool) (step : Step SomeKept) (file : List ℕ) → IsAtOneOf (Keeps limit) K (if empty then [] else step ∷ []) file
+    → Keeps limit K file ⊎ Keeps limit step.to file
+station limit K true step file at = inl at
+station limit K false step file (inl at) = inl at
+station limit K false step file (inr at) = inr at
+
+module _ (m m' : Scene) (B : Batch) (J : List Book) where
+  -- what is sound before a batch, and what it makes of it
+  abbrev Sounds : List Book → Type 0
+  Sounds H = IsSound (kept_in m.stand) (H ++ J) × IsSound (apply B (kept_in m.stand)) (H ++ J)
+
+  steps_sound : (H : List Book) → Steps m m' B → Sounds H → LeavesOnly m.story m'.story (KeepsSound m.stand.journal.limit (H ++ J))
+  steps_sound H steps sounds =
+      leaves_more m.story m'.story (IsAtOneOf (Keeps m.stand.journal.limit) (kept_in m.stand) (step_for m.stand.journal (kept_in m.stand) B)) (KeepsSound m.stand.journal.limit (H ++ J)) at
+      (steps_leave (Keeps m.stand.journal.limit) (kept_in m.stand) (step_for m.stand.journal (kept_in m.stand) B) m.story m'.story steps.ordered steps.through)
+    where
+      at : (file : List ℕ) → IsAtOneOf (Keeps m.stand.journal.limit) (kept_in m.stand) (step_for m.stand.journal (kept_in m.stand) B) file → KeepsSound m.stand.journal.limit (H ++ J) file
+      at file there = elim (station m.stand.journal.limit (kept_in m.stand) (is_empty B) (record { calls = calls_of m.stand.journal; to = apply B (kept_in m.stand) }) file there) [
+        | inl old ↦ (kept_in m.stand, old, sounds.0)
+        | inr new ↦ (apply B (kept_in m.stand), new, sounds.1)
+      ]
+
+  pub put_sound : (tells : Type 0) → Puts tells m m' B → ((H : List Book) → IsSound (kept_in m.stand) H → HasDistinctDigests (H ++ J) → IsSound (apply B (kept_in m.stand)) (H ++ J)) → StaysSound tells m m' J
+  put_sound tells puts makes told H stands distinct =
+      let made = makes H stands.sound distinct in (
+        record { kept_on = puts.rest told stands.kept_on; sound = subst (λ (L : SomeKept). IsSound L (H ++ J)) (sym puts.after.kept) made },
+        steps_sound H (puts.steps told stands.kept_on) (behind_sound (kept_in m.stand) H J stands.sound, made),
+      )
+
+  pub fail_sound : (tells : Type 0) → Fails tells m m' B → ((H : List Book) → IsSound (kept_in m.stand) H → HasDistinctDigests (H ++ J) → IsSound (apply B (kept_in m.stand)) (H ++ J)) → LeavesSound tells m m' J
+  fail_sound tells fails makes told H stands distinct =
+      steps_sound H (fails.steps told stands.kept_on) (behind_sound (kept_in m.stand) H J stands.sound, makes H stands.sound distinct)
+
+-- ---- no commit
+
+pub still_sound : (tells : Type 0) (m m' : Scene) (J : List Book) → m'.stand ≡ m.stand → m'.story ≡ m.story → StaysSound tells m m' J
+still_sound tells m m' J stand story told H stands distinct =
+    let longer = behind_sound (kept_in m.stand) H J stands.sound in (
+      record {
+        kept_on = subst (λ (s : Story). IsKeptOn m'.stand s) (sym story) (subst (λ (s : Stand). IsKeptOn s m.story) (sym stand) stands.kept_on);
+        sound = subst (λ (s : Stand). IsSound (kept_in s) (H ++ J)) (sym stand) longer;
+      },
+      leaves_none m.story m'.story (KeepsSound m.stand.journal.limit (H ++ J)) story (λ file image. (kept_in m.stand, kept_leaves m.stand m.story stands.kept_on file image, longer)),
+    )
+
+same_sound : (tells : Type 0) (m m' : Scene) (J : List Book) → m' ≡ m → StaysSound tells m m' J
+same_sound tells m m' J same = still_sound tells m m' J (ap (λ (x : Scene). x.stand) same) (ap (λ (x : Scene). x.story) same)
+
+-- ---- batches
+
+built_sound : (m : Scene) (targets : List (List ℕ)) (a : Answer) (B : Batch) → Plans m targets a B → (H : List Book) → IsSound (kept_in m.stand) H → HasDistinctDigests (H ++ m.book ∷ []) → IsSound (apply B (kept_in m.stand)) (H ++ m.book ∷ [])
+built_sound m targets a B plans H sound distinct =
+    plan_sound (scheduler_of m.choices.scheduler) (how_of m.choices.rebuilder) (kept_in m.stand) H m.book targets a B sound distinct (plans H sound distinct).leads
+
+cleaned_sound : (m : Scene) (B : Batch) → B ≡ clearing m.stand → (H : List Book) → IsSound (kept_in m.stand) H → HasDistinctDigests (H ++ []) → IsSound (apply B (kept_in m.stand)) (H ++ [])
+cleaned_sound m B is H sound distinct =
+    subst (λ (C : Batch). IsSound (apply C (kept_in m.stand)) (H ++ [])) (sym is) (subst (λ (L : SomeKept). IsSound L (H ++ [])) (sym (clearing_empties m.stand)) (nothing_sound (H ++ [])))
+
+-- ---- edits
+
+edited : (b c : Book) (k : List ℕ) (v : Value) (r : Result (Unit {0}) SetFault) → Sets b c k v r → ¬ (r ≡ Err set.NoMemory) → Edits b k v c
+edited b c k v (Ok u) sets told = inl sets
+edited b c k v (Err set.NotInput) sets told = inr ((λ s. let i = s.0.1 in let r = sets.0.1 in cc), sets.1)
+edited b c k v (Err set.NoSuchName) sets told = inr ((λ s. let i = s.0.1 in let r = sets.0 in cc), sets.1)
+edited b c k v (Err set.Limit) sets told = inr ((λ s. let few = s.1 sets.1 in omega (arith, few, sets.2)), sets.3)
+edited b c k v (Err set.NoMemory) sets told = absurd (told refl)
+
+-- ---- a line
+
+abbrev One : Type 0 → Scene → Scene → List ℕ → Type 0
+One tells m m' bytes = (J : List Book) × IsBookAt m.book bytes J m'.book × (m'.stand.journal.limit ≡ m.stand.journal.limit) × StaysSound tells m m' J
+
+module _ (tells : Type 0) (m m' : Scene) (bytes text : List ℕ) where
+  obeyed : (l : Line) → Means m.book.kind bytes l → Obeys tells m l text m' → One tells m m' bytes
+  obeyed line.Nothing means does =
+      ([], inr (line.Nothing, means, (refl, ap (λ (x : Scene). x.book) does.1)), ap (λ (x : Scene). x.stand.journal.limit) does.1, same_sound tells m m' [] does.1)
+  obeyed (line.Set k v) means does = (
+    [],
+    inr (line.Set k v, means, (refl, edited m.book m'.book k v does.0.result does.0.sets does.0.told)),
+    ap (λ (x : Scene). x.stand.journal.limit) does.1,
+    still_sound tells m m' [] (ap (λ (x : Scene). x.stand) does.1) (ap (λ (x : Scene). x.story) does.1),
+  )
+  obeyed (line.Build targets) means does = (
+    m.book ∷ [],
+    inr (line.Build targets, means, (refl, does.4.book)),
+    does.4.limit,
+    put_sound m m' does.1 (m.book ∷ []) tells does.4 (built_sound m targets does.0 does.1 does.2),
+  )
+  obeyed (line.Explain targets) means does =
+      (m.book ∷ [], inr (line.Explain targets, means, (refl, ap (λ (x : Scene). x.book) does.1)), ap (λ (x : Scene). x.stand.journal.limit) does.1, same_sound tells m m' (m.book ∷ []) does.1)
+  obeyed line.Clean means does =
+      ([], inr (line.Clean, means, (refl, does.1.book)), does.1.limit, put_sound m m' (clearing m.stand) [] tells does.1 (cleaned_sound m (clearing m.stand) refl))
+
+  pub answered : (n : ℕ) → Answers tells m n bytes text m' → One tells m m' bytes
+  answered n (inl stray) =
+      ([], inl (stray.0, refl, ap (λ (x : Scene). x.book) stray.2), ap (λ (x : Scene). x.stand.journal.limit) stray.2, same_sound tells m m' [] stray.2)
+  answered n (inr (l, means, does)) = obeyed l means does
+
+-- ---- lines
+
+then_sound : (tells : Type 0) (m mid m' : Scene) (I J : List Book) → mid.stand.journal.limit ≡ m.stand.journal.limit → StaysSound tells m mid I → StaysSound tells mid m' J → StaysSound tells m m' (I ++ J)
+then_sound tells m mid m' I J limit one two told H stands distinct =
+    let assoc = append_assoc H I J in
+    let distinct_on = subst HasDistinctDigests (sym assoc) distinct in
+    let a = one told H stands (front_distinct (H ++ I) J distinct_on) in
+    let b = two told (H ++ I) a.0 distinct_on in (
+      subst (StandsSound m') assoc b.0,
+      leaves_then m.story mid.story m'.story (KeepsSound m.stand.journal.limit (H ++ (I ++ J)))
+          (leaves_more m.story mid.story (KeepsSound m.stand.journal.limit (H ++ I)) (KeepsSound m.stand.journal.limit (H ++ (I ++ J)))
+          (λ file keeps. (keeps.0, keeps.1, subst (IsSound keeps.0) assoc (behind_sound keeps.0 (H ++ I) J keeps.2))) a.1)
+          (subst (λ (limit : ℕ). LeavesOnly mid.story m'.story (KeepsSound limit (H ++ (I ++ J)))) limit
+          (subst (λ (G : List Book). LeavesOnly mid.story m'.story (KeepsSound mid.stand.journal.limit G)) assoc b.1)),
+    )
+
+pub lines_sound : (tells : Type 0) → LinesStaySound tells
+lines_sound tells n m m' [] said goes =
+    ([], (refl, ap (λ (x : Scene). x.book) goes.0), ap (λ (x : Scene). x.stand.journal.limit) goes.0, same_sound tells m m' [] goes.0)
+lines_sound tells n m m' (bytes ∷ lines) said goes =
+    let one = answered tells m goes.0 bytes goes.1 n goes.3 in
+    let rest = lines_sound tells (n + 1) goes.0 m' lines goes.2 goes.4 in (
+      one.0 ++ rest.0,
+      (goes.0.book, one.0, rest.0, one.1, refl, rest.1),
+      rest.2 ∙ one.2,
+      then_sound tells m goes.0 m' one.0 rest.0 one.2 one.3 rest.3,
+    )
+
+-- ---- a line that isn't answered
+
+leaves : (tells : Type 0) (m m' : Scene) (J : List Book) → StaysSound tells m m' J → LeavesSound tells m m' J
+leaves tells m m' J stays told H stands distinct = (stays told H stands distinct).1
+
+stopped : (tells : Type 0) (m m' : Scene) (B : Batch) (J : List Book) (end : StepEnd) → Stops tells m m' B end
+    → ((H : List Book) → IsSound (kept_in m.stand) H → HasDistinctDigests (H ++ J) → IsSound (apply B (kept_in m.stand)) (H ++ J)) → LeavesSound tells m m' J
+stopped tells m m' B J DiskFault stops makes = fail_sound m m' B J tells stops makes
+stopped tells m m' B J (StateFull needed limit) stops makes = leaves tells m m' J (same_sound tells m m' J stops.1)
+stopped tells m m' B J NoMemory stops makes = leaves tells m m' J (same_sound tells m m' J stops)
+
+module _ (tells : Type 0) (m m' : Scene) (bytes : List ℕ) where
+  abbrev Left : Type 0
+  Left = (J : List Book) × ((J ≡ []) ⊎ IsBookAt m.book bytes J m.book) × LeavesSound tells m m' J
+
+  brought : (l : Line) (end : StepEnd) → Means m.book.kind bytes l → (B : Batch) → Brings m l B → Stops tells m m' B end → Left
+  brought (line.Build targets) end means B brings stops =
+      (m.book ∷ [], inr (inr (line.Build targets, means, (refl, refl))), stopped tells m m' B (m.book ∷ []) end stops (built_sound m targets brings.0 B brings.1))
+  brought line.Clean end means B brings stops = ([], inl refl, stopped tells m m' B [] end stops (cleaned_sound m B brings))
+  brought (line.Set k v) end means B brings stops = absurd brings
+  brought (line.Explain targets) end means B brings stops = absurd brings
+  brought line.Nothing end means B brings stops = absurd brings
+
+pub end_sound : (tells : Type 0) → EndLeavesSound tells
+end_sound tells n m m' bytes DiskFault ends = brought tells m m' bytes ends.0 DiskFault ends.1 ends.2.0 ends.2.1 ends.2.2
+end_sound tells n m m' bytes (StateFull needed limit) ends = brought tells m m' bytes ends.0 (StateFull needed limit) ends.1 ends.2.0 ends.2.1 ends.2.2
+end_sound tells n m m' bytes NoMemory ends = ([], inl refl, leaves tells m m' [] (same_sound tells m m' [] ends))

@@ -1,0 +1,10 @@
+use carte_words::{Rebuilder4, Scheduler4};
+
+/// What the words choose for all builds of a session.
+#[derive(Clone, Copy, Debug)]
+pub struct Choices {
+    pub scheduler: Scheduler4,
+    pub rebuilder: Rebuilder4,
+    /// Whether the rules that ran are listed.
+    pub list: bool,
+}

@@ -1,0 +1,87 @@
+// The scheduler and the rebuilder that the words choose.
+ghost use Rattle.std.specs.Prelude.{◌≡◌, ℕ, IfOk, Err};
+ghost use Rattle.carte_codec.specs.Each.{EachFits};
+ghost use Rattle.carte_book.specs.Book.{book_view};
+ghost use Rattle.carte_book.specs.Reason.{IsReason};
+ghost use Rattle.carte_book.specs.declared.reason.Reason.{Reason as SomeReason};
+ghost use Rattle.carte_record.specs.Bodies.{IsUnmarked};
+ghost use Rattle.carte_state.specs.States.{kept_in};
+ghost use Rattle.carte_engine.specs.Answers.{IsPlan, Under};
+ghost use Rattle.carte_engine.specs.Previews.{IsPreview};
+ghost use Rattle.carte_explain.specs.Why.{how_of as how_of_kind};
+ghost use Rattle.carte_shell.specs.Chosen.{scheduler_of, how_of};
+
+use crate::Choices;
+use carte_book::Book;
+use carte_construct::Construct;
+use carte_deep::Deep;
+use carte_dirty::Dirty;
+use carte_engine::{Engine, Plan, Scheduler};
+use carte_explain::RebuilderKind;
+use carte_rebuild::{PlanFault, Work};
+use carte_value::{Names, NoMemory};
+use carte_verify::Verify;
+use carte_words::{Rebuilder4, Scheduler4};
+use std::alloc::Global;
+
+/// The plan of a build by what the words choose.
+pub fn plan(
+    alloc: Global,
+    choices: Choices,
+    engine: &Engine,
+    book: &Book,
+    targets: &Names,
+) -> Result<Plan, NoMemory>
+    ensures unmarked { IfOk result (λ p. EachFits IsUnmarked p.batch.entries) }
+    ensures plans { Under (kept_in engine.now) (book_view book.now)
+        (IfOk result (IsPlan (scheduler_of choices.scheduler) (how_of choices.rebuilder) (kept_in engine.now) (book_view book.now) targets.now)) }
+{
+    let scheduler = scheduler_of(choices.scheduler);
+    match choices.rebuilder {
+        Rebuilder4::Dirty => engine.plan(alloc, book, &Dirty, scheduler, targets),
+        Rebuilder4::Verifying => engine.plan(alloc, book, &Verify, scheduler, targets),
+        Rebuilder4::Constructive => engine.plan(alloc, book, &Construct, scheduler, targets),
+        Rebuilder4::Deep => engine.plan(alloc, book, &Deep, scheduler, targets),
+    }
+}
+
+/// What a build by the rebuilder would do where keys wait for what they need.
+pub(crate) fn preview(
+    alloc: Global,
+    rebuilder: Rebuilder4,
+    engine: &Engine,
+    book: &Book,
+    targets: &Names,
+) -> Result<Work, PlanFault>
+    ensures served { Under (kept_in engine.now) (book_view book.now)
+        (IfOk result (IsPreview (how_of rebuilder) (kept_in engine.now) (book_view book.now) targets.now)) }
+    ensures refused { Under (kept_in engine.now) (book_view book.now)
+        ((reason : SomeReason) → result ≡ Err (PlanFault.Refused reason) → IsReason (book_view book.now) targets.now reason) }
+{
+    match rebuilder {
+        Rebuilder4::Dirty => engine.preview(alloc, book, &Dirty, targets),
+        Rebuilder4::Verifying => engine.preview(alloc, book, &Verify, targets),
+        Rebuilder4::Constructive => engine.preview(alloc, book, &Construct, targets),
+        Rebuilder4::Deep => engine.preview(alloc, book, &Deep, targets),
+    }
+}
+
+pub(crate) fn kind_of(rebuilder: Rebuilder4) -> RebuilderKind
+    ensures { how_of_kind result ≡ how_of rebuilder }
+{
+    match rebuilder {
+        Rebuilder4::Dirty => RebuilderKind::Dirty,
+        Rebuilder4::Verifying => RebuilderKind::Verifying,
+        Rebuilder4::Constructive => RebuilderKind::Constructive,
+        Rebuilder4::Deep => RebuilderKind::Deep,
+    }
+}
+
+fn scheduler_of(word: Scheduler4) -> Scheduler
+    ensures { result ≡ scheduler_of word }
+{
+    match word {
+        Scheduler4::Topological => Scheduler::Topological,
+        Scheduler4::Suspending => Scheduler::Suspending,
+    }
+}

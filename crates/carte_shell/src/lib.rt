@@ -1,0 +1,29 @@
+//! What carries out the lines of a session: a book and what is kept, in memory, beside the state's disk.
+//!
+//! `Shell` is a machine of the session's loop. A line is read by its grammar; it sets an input of the book in memory, builds or
+//! explains targets over the book as it is now, or clears the state; or it is a comment, or isn't understood. What each does
+//! and what it is answered is `Answers`, and why one isn't answered is `Ends`: relations over a plain record, the scene, in
+//! which the disk is seen by its story and its count of faults. So they say the same of every disk.
+//!
+//! The text of a reply is made before its commit. So want of memory leaves all as it was before the line, and a line that was
+//! committed has its reply. What is told of builds and explanations holds under every history that what is kept is sound for.
+//! `session_stays_sound` says of whole sessions that only files are left which are sound for the history with the books at the
+//! lines that build or explain, whatever end comes and wherever a crash cuts it off.
+//!
+//! A line costs what it does: none reads the book or the state again. Turned down: a shell that holds its disk, since the disk's
+//! last value would have to be taken back out of it; and relations over shell and disk themselves, since each theorem above
+//! would speak of one type of disk.
+#![tactic(auto)]
+
+mod choices;
+mod chosen;
+mod laws;
+mod shell;
+mod stops;
+mod why;
+
+pub use choices::Choices;
+pub use chosen::plan;
+pub use laws::{end_leaves_sound, lines_stay_sound, session_of_scenes, session_stays_sound};
+pub use shell::Shell;
+pub use why::explanation;

@@ -1,0 +1,158 @@
+ghost use Rattle.std.specs.Prelude.{◌≡◌, false, IsTrue, MatchResult, OnOk, string_bytes};
+ghost use Rattle.carte_value.specs.Kinds.{is_name_of};
+ghost use Rattle.carte_codec.specs.Each.{EachFits};
+ghost use Rattle.carte_book.specs.Book.{book_view};
+ghost use Rattle.carte_record.specs.Bodies.{IsUnmarked};
+ghost use Rattle.carte_engine.specs.Clearing.{clearing};
+ghost use Rattle.carte_session.specs.declared.end.StepEnd.TheVariants.{NoMemory as OutOfMemory};
+ghost use Rattle.carte_words.specs.Named.{LineNamed};
+ghost use Rattle.carte_words.specs.declared.line.Line.TheVariants.{Build as build_line, Clean as clean_line};
+ghost use Rattle.carte_shell.specs.Answers.{Answers, Breaks, Ends, Obeys, SetsInput};
+ghost use Rattle.carte_shell.specs.Commits.{Puts, Stops};
+ghost use Rattle.carte_shell.specs.Scenes.{scene};
+
+use crate::Choices;
+use crate::chosen::plan;
+use crate::stops::{build_text, stopped};
+use crate::why::explanation;
+use carte_book::{Book, SetFault};
+use carte_engine::{Engine, Plan};
+use carte_io::Disk;
+use carte_record::Batch;
+use carte_report::{cleaned_line, not_set_line, set_line, stray_line};
+use carte_session::{Machine, StepEnd};
+use carte_value::{Name, Names, Value};
+use carte_words::{Line, read_line};
+use std::alloc::Global;
+
+/// A book and what is kept, in memory, and how builds are made of them: what carries out the lines of a session. Edits stay
+/// in memory.
+#[derive(Drop)]
+pub struct Shell {
+    pub(crate) choices: Choices,
+    pub(crate) book: Book,
+    pub(crate) engine: Engine,
+}
+
+impl<D: Disk> Machine<D> for Shell {
+    ghost answers = { λ m n line reply m'. Answers D.tells (scene D.story D.faults m) n line reply (scene D.story D.faults m') };
+
+    ghost ends = { λ m n line end m'. Ends D.tells (scene D.story D.faults m) n line end (scene D.story D.faults m') };
+
+    ghost goes_on = { λ shell. shell.engine.journal.broken ≡ false };
+
+    fn step(
+        &mut self,
+        alloc: Global,
+        disk: &mut D,
+        number: usize,
+        line: &[u8],
+    ) -> Result<String, StepEnd> {
+        match read_line(alloc, self.book.kind(), line)? {
+            Some(line) => self.obey(alloc, disk, line),
+            None => Ok(stray_line(alloc, number)?),
+        }
+    }
+}
+
+impl Shell {
+    /// Over an engine that isn't broken. It takes no memory.
+    pub fn new(choices: Choices, book: Book, engine: Engine) -> Shell
+        ensures choices { result.choices ≡ choices }
+        ensures book { result.book ≡ book }
+        ensures engine { result.engine ≡ engine }
+    {
+        Shell {
+            choices,
+            book,
+            engine,
+        }
+    }
+
+    fn obey<D: Disk>(&mut self, alloc: Global, disk: &mut D, line: Line) -> Result<String, StepEnd>
+        requires whole { self.old.engine.journal.broken ≡ false }
+        requires named { LineNamed (book_view self.old.book).kind line }
+        ensures carried { MatchResult result
+            (λ text. Obeys D.tells (scene D.story D.faults (self.old, disk.old)) line (string_bytes text) (scene D.story D.faults (self.new, disk.new)))
+            (λ end. Breaks D.tells (scene D.story D.faults (self.old, disk.old)) line end (scene D.story D.faults (self.new, disk.new))) }
+        ensures on { OnOk result (self.new.engine.journal.broken ≡ false) }
+    {
+        match line {
+            Line::Set(name, value) => set_input(alloc, &mut self.book, &name, value),
+            Line::Build(targets) => self.build(alloc, disk, &targets),
+            Line::Explain(targets) => Ok(explanation(
+                alloc,
+                self.choices.rebuilder,
+                &self.engine,
+                &self.book,
+                &targets,
+            )?),
+            Line::Clean => self.clean(alloc, disk),
+            Line::Nothing => Ok(String::new(alloc)),
+        }
+    }
+
+    // The text is made before the commit, so that want of memory leaves all as it was.
+    fn build<D: Disk>(
+        &mut self,
+        alloc: Global,
+        disk: &mut D,
+        targets: &Names,
+    ) -> Result<String, StepEnd>
+        requires whole { self.old.engine.journal.broken ≡ false }
+        ensures carried { MatchResult result
+            (λ text. Obeys D.tells (scene D.story D.faults (self.old, disk.old)) (build_line targets.now) (string_bytes text) (scene D.story D.faults (self.new, disk.new)))
+            (λ end. Breaks D.tells (scene D.story D.faults (self.old, disk.old)) (build_line targets.now) end (scene D.story D.faults (self.new, disk.new))) }
+        ensures on { OnOk result (self.new.engine.journal.broken ≡ false) }
+    {
+        let Plan { batch, answer } = plan(alloc, self.choices, &self.engine, &self.book, targets)?;
+        let text = build_text(alloc, self.choices.list, targets, &answer)?;
+        match self.commit(alloc, disk, &batch) {
+            Ok(()) => Ok(text),
+            Err(end) => Err(end),
+        }
+    }
+
+    fn commit<D: Disk>(&mut self, alloc: Global, disk: &mut D, batch: &Batch) -> Result<(), StepEnd>
+        requires whole { self.old.engine.journal.broken ≡ false }
+        requires unmarked { EachFits IsUnmarked batch.now.entries }
+        ensures carried { MatchResult result
+            (λ _. Puts D.tells (scene D.story D.faults (self.old, disk.old)) (scene D.story D.faults (self.new, disk.new)) batch.now)
+            (λ end. Stops D.tells (scene D.story D.faults (self.old, disk.old)) (scene D.story D.faults (self.new, disk.new)) batch.now end) }
+        ensures on { OnOk result (self.new.engine.journal.broken ≡ false) }
+    {
+        match self.engine.commit(alloc, disk, batch) {
+            Ok(()) => Ok(()),
+            Err(fault) => Err(stopped(fault)),
+        }
+    }
+
+    fn clean<D: Disk>(&mut self, alloc: Global, disk: &mut D) -> Result<String, StepEnd>
+        requires whole { self.old.engine.journal.broken ≡ false }
+        ensures carried { MatchResult result
+            (λ text. Obeys D.tells (scene D.story D.faults (self.old, disk.old)) clean_line (string_bytes text) (scene D.story D.faults (self.new, disk.new)))
+            (λ end. Breaks D.tells (scene D.story D.faults (self.old, disk.old)) clean_line end (scene D.story D.faults (self.new, disk.new))) }
+        ensures on { OnOk result (self.new.engine.journal.broken ≡ false) }
+    {
+        let text = cleaned_line(alloc)?;
+        match self.engine.clean(alloc, disk) {
+            Ok(()) => Ok(text),
+            Err(fault) => Err(stopped(fault)),
+        }
+    }
+}
+
+// The text of a line that sets is made before, too; a refusal changes nothing.
+fn set_input(alloc: Global, book: &mut Book, name: &Name, value: Value) -> Result<String, StepEnd>
+    requires { IsTrue (is_name_of (book_view book.old).kind name.now) }
+    ensures { MatchResult result
+        (λ text. SetsInput (book_view book.old) (book_view book.new) name.now value (string_bytes text))
+        (λ end. (end ≡ OutOfMemory) × (book_view book.new ≡ book_view book.old)) }
+{
+    let done = set_line(alloc, name)?;
+    match book.set(name, value) {
+        Ok(()) => Ok(done),
+        Err(SetFault::NoMemory) => Err(StepEnd::NoMemory),
+        Err(fault) => Ok(not_set_line(alloc, name, fault)?),
+    }
+}

@@ -1,0 +1,85 @@
+// The reply to a line that asks why.
+ghost use Rattle.std.specs.Prelude.{◌≡◌, ℕ, List, IfOk, OnOk, map, string_bytes};
+ghost use Rattle.carte_book.specs.Book.{book_view};
+ghost use Rattle.carte_explain.specs.declared.why.Why.{Why as SomeWhy};
+ghost use Rattle.carte_report.specs.Lines.{why_line, why_lines};
+ghost use Rattle.carte_record.specs.Kept.{kept_view};
+ghost use Rattle.carte_state.specs.States.{kept_in};
+ghost use Rattle.carte_shell.specs.Chosen.{how_of};
+ghost use Rattle.carte_shell.specs.Explained.{Explained, Tells, TellsEach, TellsRefusal};
+
+use crate::chosen::{kind_of, preview};
+use carte_book::Book;
+use carte_engine::Engine;
+use carte_explain::{RebuilderKind, explain};
+use carte_rebuild::{PlanFault, Work};
+use carte_record::Kept;
+use carte_report::{refused_line, why_line};
+use carte_value::{Name, Names, NoMemory};
+use carte_words::Rebuilder4;
+use std::alloc::Global;
+
+/// A line for each target, why a build by the rebuilder would run it, or would not; or why a target has no value. Nothing is
+/// changed, and no call of a disk is made. A build is foreseen whose keys wait for what they need.
+pub fn explanation(
+    alloc: Global,
+    rebuilder: Rebuilder4,
+    engine: &Engine,
+    book: &Book,
+    targets: &Names,
+) -> Result<String, NoMemory>
+    ensures { IfOk result (λ text. Explained (how_of rebuilder) (kept_in engine.now) (book_view book.now) targets.now (string_bytes text)) }
+{
+    match preview(alloc, rebuilder, engine, book, targets) {
+        Ok(work) => why_lines(
+            alloc,
+            engine.kept(),
+            book,
+            &work,
+            kind_of(rebuilder),
+            targets,
+        ),
+        Err(fault) => refusal(alloc, &fault),
+    }
+}
+
+fn refusal(alloc: Global, fault: &PlanFault) -> Result<String, NoMemory>
+    ensures { IfOk result (λ text. TellsRefusal fault.now (string_bytes text)) }
+{
+    match fault {
+        PlanFault::Refused(reason) => refused_line(alloc, reason),
+        PlanFault::NoMemory => Err(NoMemory),
+    }
+}
+
+fn why_lines(
+    alloc: Global,
+    kept: &Kept,
+    book: &Book,
+    work: &Work,
+    kind: RebuilderKind,
+    targets: &Names,
+) -> Result<String, NoMemory>
+    ensures { IfOk result (λ text. TellsEach kind (kept_view kept.now) (book_view book.now) work.now targets.now (string_bytes text)) }
+{
+    let mut text = String::new(alloc);
+    for key in targets.as_slice() {
+        let line = line_of(alloc, kept, book, work, kind, key)?;
+        text.push_str(line.as_str())?;
+    }
+    Ok(text)
+}
+
+fn line_of(
+    alloc: Global,
+    kept: &Kept,
+    book: &Book,
+    work: &Work,
+    kind: RebuilderKind,
+    key: &Name,
+) -> Result<String, NoMemory>
+    ensures { IfOk result (λ text. (y : SomeWhy) × Tells kind (kept_view kept.now) (book_view book.now) work.now key.now y × (string_bytes text ≡ why_line key.now y)) }
+{
+    let why = explain(alloc, kept, book, work, kind, key)?;
+    why_line(alloc, key, &why)
+}
