@@ -15,7 +15,7 @@ session|book|s -> Session book s Rules Suspending Verifying false
 explain|book|s|a -> Explain book s Rules Suspending Verifying false a
 session|p.csv|s|B2 -> TargetsNotTaken
 explain|p.csv|s -> NoTarget
-explain|p.csv|s|b1|A1 -> BadTarget [b1]
+explain|p.csv|s|b0|A1 -> BadTarget [b0]
 explain|p.csv|s|B2|A1|--rebuilder|dirty -> Explain p.csv s Sheet Suspending Dirty false B2 A1
 explore|p.csv|s -> Words
 book|s|a -> Words
