@@ -14,6 +14,33 @@ fn tells(alloc: Global, bytes: &[u8], word: &str, number: u64, key: &str) -> boo
     }
 }
 
+/// The text behind a byte order mark. It means the same, and no plain file begins with one.
+fn marked(alloc: Global, text: &str) -> Result<String, Fail> {
+    let mut all = String::from_str(alloc, "\u{feff}")?;
+    all.push_str(text)?;
+    Ok(all)
+}
+
+/// What stands at `a`, `b`, `c` and `d/e`, or the fault.
+fn told(alloc: Global, text: &str) -> Result<String, Fail> {
+    let mut shown = String::new(alloc);
+    match read_rules(alloc, text.as_bytes()) {
+        Ok(book) => {
+            for name in ["a", "b", "c", "d/e"] {
+                let item = item_text(alloc, &book, &Name::rule(alloc, name)?)?;
+                shown.push_str(item.as_str())?;
+                shown.push_str(";")?;
+            }
+        }
+        Err(fault) => {
+            shown.push_str(fault_word(&fault).0)?;
+            shown.push_str(" ")?;
+            shown.push_str(fault_key(&fault))?;
+        }
+    }
+    Ok(shown)
+}
+
 /// Items by hand, from the grammar of formulas and the ends of i64.
 #[test]
 fn a_book_is_read(rt: HostRuntime) -> Result<(), Fail> {
@@ -89,6 +116,61 @@ fn faults_by_their_names(rt: HostRuntime) -> Result<(), Fail> {
     for (text, word, number, key) in cases {
         let right = tells(alloc, text.as_bytes(), word, number, key);
         assert!(rt; right, "{text}");
+        let all = marked(alloc, text)?;
+        let right = tells(alloc, all.as_bytes(), word, number, key);
+        assert!(rt; right, "marked {text}");
+    }
+    Ok(())
+}
+
+/// Files of plain lines, and files that aren't, by the rules of TOML: each is read alike behind a mark, where no line is plain.
+#[test]
+fn plain_lines_and_others(rt: HostRuntime) -> Result<(), Fail> {
+    let alloc = rt.alloc();
+    let cases = [
+        (
+            "[inputs]\nb = 2\na = -1\n[rules]\n\"d/e\" = 'a + b'\nc = \"a\"\n",
+            "-1;2;a;a+b;",
+        ),
+        (
+            "# one\n\n [inputs] # two\r\n\tb=2# three\r\n'a'\t=\t'#'\r\n\r\n[ \"rules\" ]\nc = 'b'",
+            "\"#\";2;b;nothing;",
+        ),
+        ("[inputs]\n[rules]\na = '1'", "1;nothing;nothing;nothing;"),
+        ("[inputs]\na = 1\n[rules]\n", "1;nothing;nothing;nothing;"),
+        ("[inputs]\n[rules]", "nothing;nothing;nothing;nothing;"),
+        (
+            "[inputs]\na = 1_000\nb = 0x1F\n[rules]\nc = 'a'",
+            "1000;31;a;nothing;",
+        ),
+        (
+            "[inputs]\na = \"\"\nb = \"\\u0062\"\n[rules]\nc = \"\"\"a\"\"\"",
+            "\"\";\"b\";a;nothing;",
+        ),
+        ("[rules]\na = 'b'\n[inputs]\nb = 1", "b;1;nothing;nothing;"),
+        ("[rules]\na = '1'", "1;nothing;nothing;nothing;"),
+        ("inputs.b = 1\n[rules]\na = 'b'", "b;1;nothing;nothing;"),
+        ("inputs = { b = 1 }\n[rules]\na = 'b'", "b;1;nothing;nothing;"),
+        ("[inputs]\nb = 1\nb = 1\n[rules]\na = 'b'", "not TOML "),
+        ("[inputs]\nb = 1\n'b' = 1\n[rules]\na = 'b'", "not TOML "),
+        ("[inputs]\nb = 1\n[rules]\na = 'b'\nc = 'b'\na = 'b'", "not TOML "),
+        ("[inputs]\nb = 1\n[rules]\na = 'b'\nb = 'a'", "twice b"),
+        ("[inputs]\nb = 1\n[inputs]\nc = 1\n[rules]\na = 'b'", "not TOML "),
+        ("[inputs]\nb = 1\n[rules]\na = 'b'\n[inputs.c]", "bad value c"),
+        ("[inputs]\nb = 1\n[rules]\na = 'b'\n[c]", "bad table c"),
+        ("[inputs]\nb = 1\n[rules]\na = 'b' c = 'b'", "not TOML "),
+        ("[inputs]\nb = 1\n[rules]\na = 'b'\nc", "not TOML "),
+        ("[inputs]\nb = 1 # \u{7f}\n[rules]\na = 'b'", "not TOML "),
+        ("[inputs]\nb = \"1\n[rules]\na = 'b'", "not TOML "),
+        ("[inputs]\nb = [1]\na = {}\n[rules]\n", "bad value a"),
+        ("[inputs]\nb = 1\n[rules]\nc = 2\na = 1", "bad value a"),
+    ];
+    for (text, shown) in cases {
+        let plain = told(alloc, text)?;
+        assert_eq!(rt; plain.as_str(), shown, "{text}");
+        let all = marked(alloc, text)?;
+        let other = told(alloc, all.as_str())?;
+        assert_eq!(rt; other.as_str(), shown, "marked {text}");
     }
     Ok(())
 }
