@@ -2,7 +2,7 @@
 
 It shares no code with the program. `build` gives the reply or the refusal, the rules that ran, and what is kept
 afterwards, for the schedulers `topological` and `suspending` and the rebuilders `dirty`, `verifying`,
-`constructive` and `deep`. A book is its inputs and its rules, as `reference.read_book` or `sheets.read_sheet` gives
+`constructive` and `deep`; `why` gives the cause why a build would run a name, or would not. A book is its inputs and its rules, as `reference.read_book` or `sheets.read_sheet` gives
 them; in a sheet every other cell is an input that is empty.
 """
 import copy
@@ -118,12 +118,17 @@ class Book:
         return None
 
 
+def changed_names(kept, book):
+    """The names that were seen with a value that they haven't now."""
+    return {name for name, seen in kept.seen.items() if book.input(name) is None or digest(book.input(name)) != seen}
+
+
 def begin(kept, book):
     """What a build begins with: nothing under other rules, and else the stale entries marked."""
     if kept.rules != (book.is_sheet, book.rules):
         return Kept()
     begun = copy.deepcopy(kept)
-    changed = {name for name, seen in kept.seen.items() if book.input(name) is None or digest(book.input(name)) != seen}
+    changed = changed_names(kept, book)
     while True:
         more = {key for key, entry in kept.entries.items() if key not in changed and changed.intersection(entry.needs)}
         if not more:
@@ -208,3 +213,62 @@ def build(kept, inputs, rules, targets, scheduler="suspending", rebuilder="verif
     lines = [target + b" = " + printed(book.clean(target)) + b"\n" for target in targets]
     lines += [b"ran " + key + b"\n" for key in sorted(ran)] if listed else []
     return b"".join(lines) + b"ran %d, given up 0, reused %d\n" % (len(ran), len(done) - len(ran)), sorted(ran), left
+
+
+# Explanations
+
+def refusal(inputs, rules, targets, is_sheet=False):
+    """Why one of the targets has no value, with the path, or None."""
+    return Book(inputs, rules, is_sheet).stuck_path(targets)
+
+
+def first_path(kept, key, goals):
+    """From the key by the needs of entries to one of the goals: round by round, each in the byte order of its paths."""
+    paths, met = [(key,)], {key}
+    while paths:
+        found = [path for path in paths if path[-1] in goals]
+        if found:
+            return found[0]
+        longer = []
+        for path in paths:
+            entry = kept.entries.get(path[-1])
+            nexts = sorted(set(entry.needs) - met) if entry else []
+            met.update(nexts)
+            longer += [(*path, name) for name in nexts]
+        paths = longer
+    raise AssertionError("an entry was marked, and no input has changed")
+
+
+def entry_cause(kept, begun, book, name):
+    if name not in begun.entries:
+        return b"no entry"
+    entry = kept.entries[name]
+    if entry.stale or entry.shallow:
+        return b"entry marked stale" if entry.stale else b"entry is shallow"
+    return b"input changed: " + b" -> ".join(first_path(kept, name, changed_names(kept, book)))
+
+
+def trace_cause(rebuilder, begun, book, name):
+    traces = begun.traces[rebuilder].get(name)
+    if not traces:
+        return b"no record"
+    if rebuilder == "verifying" and any(all(now(book, rebuilder, need) == seen for need, seen in links) for links, _ in traces):
+        return b"stored value differs"
+    need, seen = next((need, seen) for need, seen in traces[0][0] if now(book, rebuilder, need) != seen)
+    present = now(book, rebuilder, need) or digest(EMPTY)
+    return b"%s was %s, is %s" % (need, seen.hex().encode(), present.hex().encode())
+
+
+def why(kept, inputs, rules, names, rebuilder, is_sheet=False):
+    """Why a build that lets rules wait would run each of these names, or would not. All of them have clean values."""
+    book = Book(inputs, rules, is_sheet)
+    begun, found = begin(kept, book), []
+    for name in names:
+        if name not in rules:
+            found.append(b"is an input")
+        elif is_held(rebuilder, begun, book, name):
+            found.append(b"reusable")
+        else:
+            cause = entry_cause(kept, begun, book, name) if rebuilder == "dirty" else trace_cause(rebuilder, begun, book, name)
+            found.append(b"runs: " + cause)
+    return found

@@ -95,10 +95,12 @@ def words(runs):
     runs.wants(NO_COMMAND, "build", "sums.toml")
     runs.wants(NO_COMMAND, "build", b"sums\xff.toml", "unmade", "total")
     runs.wants(NO_COMMAND, "build", "sums.toml", "unmade", b"\xc3")
-    runs.wants(NO_COMMAND, "explain", "sums.toml", "unmade", "total")
+    runs.wants(NO_COMMAND, "generate", "sums.toml", "unmade", "1", "2")
     runs.wants(NO_COMMAND, "build", "sums.toml", "unmade", "total", "--workers=2")
     runs.wants((2, "", "carte: usage: no target\n"), "build", "sums.toml", "unmade")
-    runs.wants((2, "", "carte: usage: targets not taken\n"), "clean", "sums.toml", "unmade", "total")
+    runs.wants((2, "", "carte: usage: no target\n"), "explain", "sums.toml", "unmade")
+    for command in ("clean", "session"):
+        runs.wants((2, "", "carte: usage: targets not taken\n"), command, "sums.toml", "unmade", "total")
     runs.wants((2, "", 'carte: usage: bad target "A1"\n'), "build", "sums.toml", "unmade", "A1")
     runs.same("a state of no command", (runs.folder / "unmade").exists(), False)
 
