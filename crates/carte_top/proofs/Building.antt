@@ -14,7 +14,7 @@ use Rattle.carte_engine.specs.declared.answer.Answer.TheVariants as answer
 use Rattle.carte_engine.specs.declared.answer.Built.{Built}
 use Rattle.carte_engine.specs.declared.answer.Plan.{Plan}
 use Rattle.carte_report.specs.declared.status.Status.{Status}
-use Rattle.carte_report.specs.declared.status.Status.TheVariants.{Done, BookRefused, Usage, BuildRefused, ReadFault, WriteFault, DiskFault, BadState, StateFull, NoMemory}
+use Rattle.carte_report.specs.declared.status.Status.TheVariants.{Done, BookRefused, Usage, BuildRefused, ReadFault, WriteFault, DiskFault, BadState, StateFull, NoMemory, ScriptTooLong}
 use Rattle.carte_top.specs.Around.{OverDisk, OverSink, IsUntouched, TakesAll, TakesFront}
 use Rattle.carte_top.specs.Chosen.{scheduler_of, how_of}
 use Rattle.carte_top.specs.Found.{Answers, IsPut, Replies, reply_to}
@@ -53,6 +53,7 @@ module _ (limit : ℕ) (w : Asked) (b : Book) (K : SomeKept) (B : Batch) where
     not_built d k ReadFault put untouched = absurd put
     not_built d k WriteFault put untouched = absurd put
     not_built d k (BadState offset) put untouched = absurd put
+    not_built d k ScriptTooLong put untouched = absurd put
 
   module _ (built : Built) (answers : Answers w b K (answer.Built built) B) where
     keeps : Under K b (KeepsBy (scheduler_of w.scheduler) (how_of w.rebuilder) K (apply B K) b w.targets)
@@ -74,6 +75,7 @@ module _ (limit : ℕ) (w : Asked) (b : Book) (K : SomeKept) (B : Batch) where
     done d k (BuildRefused reason) did = absurd did
     done d k ReadFault did = absurd did
     done d k (BadState offset) did = absurd did
+    done d k ScriptTooLong did = absurd did
 
     pub built_with : (d : OverDisk) (k : OverSink) (status : Status) → Settles limit (reply_to w built) K B d k status → BuildsWith limit w b K d k status
     built_with d k status settles = record {
