@@ -107,5 +107,13 @@ fn over_both<B: Source, D: Disk>(
     let mut out = WriteSink::of(rt.stdout());
     let mut err = WriteSink::of(rt.stderr());
     let mut script = ReadSource::of(rt.stdin());
-    carte(rt.alloc(), words, book, &mut script, state, &mut out, &mut err)
+    carte(
+        rt.alloc(),
+        words,
+        book,
+        &mut script,
+        state,
+        &mut out,
+        &mut err,
+    )
 }

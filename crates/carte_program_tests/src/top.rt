@@ -144,7 +144,8 @@ fn a_bad_state_stays(rt: HostRuntime) -> Result<(), Fail> {
         "session b s",
         "clean b s",
     ]
-    .iter() {
+    .iter()
+    {
         let text = shown_over(rt.alloc(), words, SUMS, b"0123456789")?;
         assert_eq!(rt; text.as_str(), "7\ncarte: bad state at byte 0\n", "{words}");
     }
@@ -162,7 +163,11 @@ fn an_explanation_changes_nothing(rt: HostRuntime) -> Result<(), Fail> {
     shown(alloc, "build b s total", SUMS, &mut state)?;
     let passed = state.passed();
     let cases = [
-        ("explain b s total a", SUMS, "0\ntotal reusable\na is an input\n"),
+        (
+            "explain b s total a",
+            SUMS,
+            "0\ntotal reusable\na is an input\n",
+        ),
         (
             "explain b s sum --scheduler topological",
             "[inputs]\na = 11\nb = 20\n[rules]\nsum = \"a + b\"\ntotal = \"sum + sum\"\n",
@@ -189,7 +194,8 @@ fn an_explanation_changes_nothing(rt: HostRuntime) -> Result<(), Fail> {
 fn a_session_answers_its_lines(rt: HostRuntime) -> Result<(), Fail> {
     let alloc = rt.alloc();
     let mut state = MemDisk::of(alloc, &[], &[])?;
-    let script = "set a 11\nbuild total\nset sum 3\nbuild gone\n\nexplain total a\nclean\nlist\nbuild sum";
+    let script =
+        "set a 11\nbuild total\nset sum 3\nbuild gone\n\nexplain total a\nclean\nlist\nbuild sum";
     let text = said(alloc, "session b s --list", SUMS, script, &mut state)?;
     assert_eq!(rt;
         text.as_str(),

@@ -44,7 +44,7 @@ loads_book kind s bytes (Err ScriptTooLong) parses was short same = absurd parse
 
 -- what was read is this book
 module _ (kind : Kind) (s : OverSource) (b : Book) (holds : Holds kind s (λ c. c ≡ b)) where
-  holds_so : (P : Book → Type 0) → P b → Holds kind s P
+  pub holds_so : (P : Book → Type 0) → P b → Holds kind s P
   holds_so P there = (holds.0, holds.1, b, subst (λ (c : Book). BookOfKind kind holds.0 (Ok c)) holds.4 holds.3, there)
 
 module _ (limit : ℕ) (w : Asked) (s : OverSource) (d : OverDisk) (k : OverSink) (b : Book) (holds : Holds w.kind s (λ c. c ≡ b)) where

@@ -1,5 +1,5 @@
 -- Where a book or a state is lacking, for an explanation or a session; and what is done over a book that was read.
-use Rattle.std.proofs.Common.{◌≡◌, ℕ, List, [], Result, Ok, Err, refl, sym, subst, inl, inr, ◌⊎◌}
+use Rattle.std.proofs.Common.{◌≡◌, ℕ, List, [], Result, Ok, Err, refl, sym, ◌∙◌, subst, inl, inr, ◌⊎◌}
 use Rattle.carte_book.specs.Book.{Book, book_view}
 use Rattle.carte_book.specs.Reason.{IsReason}
 use Rattle.carte_record.specs.Kept.{SomeKept}
@@ -9,9 +9,10 @@ use Rattle.carte_session.specs.declared.end.SessionEnd.{SessionEnd}
 use Rattle.carte_report.specs.declared.status.Status.{Status}
 use Rattle.carte_report.specs.declared.status.Status.TheVariants.{Done, BookRefused, Usage, BuildRefused, ReadFault, WriteFault, DiskFault, BadState, StateFull, NoMemory, ScriptTooLong}
 use Rattle.carte_top.specs.Around.{OverSource, OverDisk, OverSink, IsUnread, IsUnvisited, IsUntouched, TakesAll, TakesFront}
+use Rattle.carte_top.specs.Chosen.{how_of}
 use Rattle.carte_top.specs.Found.{Carries, Explains, Found, HasBook, Holds}
 use Rattle.carte_top.specs.Outcome.{Explained, IsBad, IsSpared, Lacks, Sat, TellsDisk, TellsSink, TellsSource}
-use Rattle.carte_top.specs.Running.{ExplainedOver, ExplainedWith, ExplainsWith, LacksState, LoadedOr, LoadsBook, ReadsEnough, SatOver, SessionStaysOver, Sits, SitsOver, Tells, TellsOver}
+use Rattle.carte_top.specs.Running.{AreToldWhys, Prints, ExplainedOver, ExplainedWith, ExplainsWith, LacksState, LoadedOr, LoadsBook, ReadsEnough, SatOver, SessionStaysOver, Sits, SitsOver, Tells, TellsOver}
 use Rattle.carte_top.proofs.Books.{holds_so}
 
 -- ---- no book
@@ -193,3 +194,19 @@ module _ (limit : ℕ) (w : Asked) (s : OverSource) (d : OverDisk) (k : OverSink
     disk = over.disk;
     sink = over.sink;
   }
+
+-- the lines went to the sink
+pub explains_printed : (w : Asked) (b : Book) (K : SomeKept) (k : OverSink) (status : Status) (text bytes : List ℕ) → AreToldWhys (how_of w.rebuilder) K b w.targets text → bytes ≡ text → Prints bytes k status → ExplainsWith w b K k status
+explains_printed w b K k Done text bytes told is prints =
+    record { did = record { told = told.0; of_targets = told.1; whys = told.3; takes = λ t. subst (TakesAll k) (is ∙ told.2) (prints.0 t) }; sink = prints.1 }
+explains_printed w b K k WriteFault text bytes told is prints =
+    record { did = record { told = told.0; of_targets = told.1; whys = told.3; takes = λ t. subst (TakesFront k) (is ∙ told.2) (prints.0 t) }; sink = prints.1 }
+explains_printed w b K k (BookRefused fault) text bytes told is prints = absurd prints
+explains_printed w b K k (Usage fault) text bytes told is prints = absurd prints
+explains_printed w b K k (BuildRefused reason) text bytes told is prints = absurd prints
+explains_printed w b K k ReadFault text bytes told is prints = absurd prints
+explains_printed w b K k DiskFault text bytes told is prints = absurd prints
+explains_printed w b K k (BadState offset) text bytes told is prints = absurd prints
+explains_printed w b K k (StateFull needed most) text bytes told is prints = absurd prints
+explains_printed w b K k NoMemory text bytes told is prints = absurd prints
+explains_printed w b K k ScriptTooLong text bytes told is prints = absurd prints

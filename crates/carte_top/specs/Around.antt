@@ -3,7 +3,6 @@ use Rattle.std.specs.Prelude.{ℕ, ◌≡◌, ◌≤◌, ◌⊎◌, List, ◌++�
 use Rattle.carte_io.specs.Causes.{Rose}
 use Rattle.carte_io.specs.Disk.{Story}
 use Rattle.carte_io.specs.Streams.{SinkState, SourceState}
-
 -- a source over a call, and a sink: whether its type tells its bytes, and what it was and is
 pub use Rattle.carte_session.specs.Around.{OverSource, OverSink}
 

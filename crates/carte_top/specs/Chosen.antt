@@ -8,7 +8,6 @@ use Rattle.carte_rules.specs.Reading.{BookOf as RulesOf}
 use Rattle.carte_sheet.specs.Reading.{BookOf as SheetOf}
 use Rattle.carte_words.specs.declared.words.Words.{Words as Asked}
 use Rattle.carte_shell.specs.declared.choices.Choices.{Choices}
-
 pub use Rattle.carte_shell.specs.Chosen.{scheduler_of, how_of}
 
 -- for all builds of a run

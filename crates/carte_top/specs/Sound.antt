@@ -18,7 +18,6 @@ use Rattle.carte_top.specs.Around.{OverSource, OverDisk, IsUnvisited}
 use Rattle.carte_top.specs.Chosen.{scheduler_of, how_of}
 use Rattle.carte_top.specs.Found.{Holds, HasBook, IsClearing}
 use Rattle.carte_top.specs.Outcome.{Asks, IsSpared}
-
 pub use Rattle.carte_shell.specs.Sound.{KeepsSound}
 
 -- a file keeps what was kept before a run, or what such a batch makes of that

@@ -74,7 +74,13 @@ fn build_with<D: Disk, O: Sink>(
         (over_sink O.tells O.state out.old out.new)
         result }
 {
-    let Plan { batch, answer } = match plan(alloc, choices_of(asked), engine, book, &asked.targets) {
+    let Plan { batch, answer } = match plan(
+        alloc,
+        choices_of(asked),
+        engine,
+        book,
+        &asked.targets,
+    ) {
         Ok(plan) => plan,
         Err(_) => return Status::NoMemory,
     };

@@ -41,7 +41,14 @@ pub(crate) fn whys(
         ((reason : SomeReason) → result ≡ Err (PlanFault.Refused reason) → IsReason (book_view book.now) targets.now reason) }
 {
     let work = preview(alloc, rebuilder, engine, book, targets)?;
-    match why_lines(alloc, engine.kept(), book, &work, kind_of(rebuilder), targets) {
+    match why_lines(
+        alloc,
+        engine.kept(),
+        book,
+        &work,
+        kind_of(rebuilder),
+        targets,
+    ) {
         Ok(text) => Ok(text),
         Err(_) => Err(PlanFault::NoMemory),
     }

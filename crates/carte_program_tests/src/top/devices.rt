@@ -21,7 +21,15 @@ fn failing(
     let mut state = MemDisk::of(alloc, &[], &[disk])?;
     let mut out = MemSink::new(alloc, 8, &[write])?;
     let mut err = MemSink::new(alloc, 8, &[line])?;
-    let code = code_of(alloc, words, &mut book, &mut script, &mut state, &mut out, &mut err)?;
+    let code = code_of(
+        alloc,
+        words,
+        &mut book,
+        &mut script,
+        &mut state,
+        &mut out,
+        &mut err,
+    )?;
     let out = str::from_utf8(out.bytes())?;
     let err = str::from_utf8(err.bytes())?;
     Ok(format!(in alloc; "{code}\n{out}{err}")?)
