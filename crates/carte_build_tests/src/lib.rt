@@ -1,5 +1,5 @@
-//! Tests of the crates that build: marks, finished keys, plans of batches, the four rebuilders, the two schedulers with their bench, and
-//! the engine.
+//! Tests of the crates that build: marks, finished keys, plans of batches, the four rebuilders, the two schedulers with their bench,
+//! the engine, and causes.
 //!
 //! They stand in a crate of their own, on which nothing stands: a crate with tests is proved a second time with them, and it would have
 //! to stand on whatever makes its books. Each module has the tests of one crate, through its public calls; `books` and `rebuilds` have
@@ -18,6 +18,8 @@ mod deep;
 mod dirty;
 #[cfg(test)]
 mod engine;
+#[cfg(test)]
+mod explain;
 #[cfg(test)]
 mod mark;
 #[cfg(test)]

@@ -21,8 +21,6 @@ mod causes;
 mod nodes;
 mod paths;
 mod target;
-#[cfg(test)]
-mod tests;
 mod traces;
 mod why;
 

@@ -82,7 +82,12 @@ fn why_text(alloc: Global, why: &Why) -> Result<String, NoMemory>
     }
 }
 
-fn difference_text(alloc: Global, name: &Name, old: &Digest, new: &Digest) -> Result<String, NoMemory>
+fn difference_text(
+    alloc: Global,
+    name: &Name,
+    old: &Digest,
+    new: &Digest,
+) -> Result<String, NoMemory>
     ensures { IfOk result (λ text. string_bytes text ≡ difference_text name.now old.now new.now) }
 {
     let old = hex_text(alloc, old)?;

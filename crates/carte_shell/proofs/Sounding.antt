@@ -148,10 +148,10 @@ then_sound tells m mid m' I J limit one two told H stands distinct =
     let b = two told (H ++ I) a.0 distinct_on in (
       subst (StandsSound m') assoc b.0,
       leaves_then m.story mid.story m'.story (KeepsSound m.stand.journal.limit (H ++ (I ++ J)))
-      (leaves_more m.story mid.story (KeepsSound m.stand.journal.limit (H ++ I)) (KeepsSound m.stand.journal.limit (H ++ (I ++ J)))
-      (λ file keeps. (keeps.0, keeps.1, subst (IsSound keeps.0) assoc (behind_sound keeps.0 (H ++ I) J keeps.2))) a.1)
-      (subst (λ (limit : ℕ). LeavesOnly mid.story m'.story (KeepsSound limit (H ++ (I ++ J)))) limit
-      (subst (λ (G : List Book). LeavesOnly mid.story m'.story (KeepsSound mid.stand.journal.limit G)) assoc b.1)),
+          (leaves_more m.story mid.story (KeepsSound m.stand.journal.limit (H ++ I)) (KeepsSound m.stand.journal.limit (H ++ (I ++ J)))
+          (λ file keeps. (keeps.0, keeps.1, subst (IsSound keeps.0) assoc (behind_sound keeps.0 (H ++ I) J keeps.2))) a.1)
+          (subst (λ (limit : ℕ). LeavesOnly mid.story m'.story (KeepsSound limit (H ++ (I ++ J)))) limit
+          (subst (λ (G : List Book). LeavesOnly mid.story m'.story (KeepsSound mid.stand.journal.limit G)) assoc b.1)),
     )
 
 pub lines_sound : (tells : Type 0) → LinesStaySound tells

@@ -20,8 +20,6 @@ mod chosen;
 mod laws;
 mod shell;
 mod stops;
-#[cfg(test)]
-mod tests;
 mod why;
 
 pub use choices::Choices;

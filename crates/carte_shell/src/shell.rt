@@ -11,10 +11,10 @@ ghost use Rattle.carte_shell.specs.Answers.{Answers, Breaks, Ends, Obeys, SetsIn
 ghost use Rattle.carte_shell.specs.Commits.{Puts, Stops};
 ghost use Rattle.carte_shell.specs.Scenes.{scene};
 
+use crate::Choices;
 use crate::chosen::plan;
 use crate::stops::{build_text, stopped};
 use crate::why::explanation;
-use crate::Choices;
 use carte_book::{Book, SetFault};
 use carte_engine::{Engine, Plan};
 use carte_io::Disk;
@@ -69,12 +69,7 @@ impl Shell {
         }
     }
 
-    fn obey<D: Disk>(
-        &mut self,
-        alloc: Global,
-        disk: &mut D,
-        line: Line,
-    ) -> Result<String, StepEnd>
+    fn obey<D: Disk>(&mut self, alloc: Global, disk: &mut D, line: Line) -> Result<String, StepEnd>
         requires whole { self.old.engine.journal.broken ≡ false }
         requires named { LineNamed (book_view self.old.book).kind line }
         ensures carried { MatchResult result
@@ -85,7 +80,13 @@ impl Shell {
         match line {
             Line::Set(name, value) => set_input(alloc, &mut self.book, &name, value),
             Line::Build(targets) => self.build(alloc, disk, &targets),
-            Line::Explain(targets) => Ok(explanation(alloc, self.choices.rebuilder, &self.engine, &self.book, &targets)?),
+            Line::Explain(targets) => Ok(explanation(
+                alloc,
+                self.choices.rebuilder,
+                &self.engine,
+                &self.book,
+                &targets,
+            )?),
             Line::Clean => self.clean(alloc, disk),
             Line::Nothing => Ok(String::new(alloc)),
         }
@@ -112,12 +113,7 @@ impl Shell {
         }
     }
 
-    fn commit<D: Disk>(
-        &mut self,
-        alloc: Global,
-        disk: &mut D,
-        batch: &Batch,
-    ) -> Result<(), StepEnd>
+    fn commit<D: Disk>(&mut self, alloc: Global, disk: &mut D, batch: &Batch) -> Result<(), StepEnd>
         requires whole { self.old.engine.journal.broken ≡ false }
         requires unmarked { EachFits IsUnmarked batch.now.entries }
         ensures carried { MatchResult result
@@ -147,12 +143,7 @@ impl Shell {
 }
 
 // The text of a line that sets is made before, too; a refusal changes nothing.
-fn set_input(
-    alloc: Global,
-    book: &mut Book,
-    name: &Name,
-    value: Value,
-) -> Result<String, StepEnd>
+fn set_input(alloc: Global, book: &mut Book, name: &Name, value: Value) -> Result<String, StepEnd>
     requires { IsTrue (is_name_of (book_view book.old).kind name.now) }
     ensures { MatchResult result
         (λ text. SetsInput (book_view book.old) (book_view book.new) name.now value (string_bytes text))

@@ -31,7 +31,14 @@ pub fn explanation(
     ensures { IfOk result (λ text. Explained (how_of rebuilder) (kept_in engine.now) (book_view book.now) targets.now (string_bytes text)) }
 {
     match preview(alloc, rebuilder, engine, book, targets) {
-        Ok(work) => why_lines(alloc, engine.kept(), book, &work, kind_of(rebuilder), targets),
+        Ok(work) => why_lines(
+            alloc,
+            engine.kept(),
+            book,
+            &work,
+            kind_of(rebuilder),
+            targets,
+        ),
         Err(fault) => refusal(alloc, &fault),
     }
 }

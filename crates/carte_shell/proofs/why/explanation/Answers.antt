@@ -16,13 +16,18 @@ returns-in-Ok c =
     let K = kept_in c.args.engine.now in
     let kept = ap kept_view c.kept.ensures in
     let same = c.kind_of.ensures in
-    lifted c.why_lines.result _ _ c.why_lines.ensures (λ text told. inl (told.0, told.1, told.2, (λ H sound distinct.
-      let seen : IsPreview (how_of c.args.rebuilder) K b c.args.targets.now c.in-Ok.work = at_ok c.preview.result c.in-Ok.work _ c.in-Ok.is (c.preview.ensures.served H sound distinct) in
-      subst (λ h. AllClean b c.args.targets.now × AreWhys h K b told.0) same
-      (are_why c.kind_of.result K b c.in-Ok.work H c.args.targets.now sound distinct (subst (λ h. IsPreview h K b c.args.targets.now c.in-Ok.work) (sym same) seen)
-      told.0 told.1 (subst (λ L. TellAll c.kind_of.result L b c.in-Ok.work told.0) kept told.3)))))
+    lifted c.why_lines.result _ _ c.why_lines.ensures (λ text told. inl (
+      told.0,
+      told.1,
+      told.2,
+      (λ H sound distinct.
+          let seen : IsPreview (how_of c.args.rebuilder) K b c.args.targets.now c.in-Ok.work = at_ok c.preview.result c.in-Ok.work _ c.in-Ok.is (c.preview.ensures.served H sound distinct) in
+          subst (λ h. AllClean b c.args.targets.now × AreWhys h K b told.0) same
+          (are_why c.kind_of.result K b c.in-Ok.work H c.args.targets.now sound distinct (subst (λ h. IsPreview h K b c.args.targets.now c.in-Ok.work) (sym same) seen)
+          told.0 told.1 (subst (λ L. TellAll c.kind_of.result L b c.in-Ok.work told.0) kept told.3))),
+    ))
 
 pub returns-in-Err : goal.returns-in-Err
 returns-in-Err c =
     lifted c.refusal.result _ _ c.refusal.ensures (λ text told.
-      refused_by (how_of c.args.rebuilder) (kept_in c.args.engine.now) (book_view c.args.book.now) c.args.targets.now c.preview.result c.in-Err.fault (string_bytes text) c.in-Err.is c.preview.ensures.refused told)
+    refused_by (how_of c.args.rebuilder) (kept_in c.args.engine.now) (book_view c.args.book.now) c.args.targets.now c.preview.result c.in-Err.fault (string_bytes text) c.in-Err.is c.preview.ensures.refused told)

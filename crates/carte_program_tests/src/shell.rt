@@ -1,11 +1,12 @@
-use crate::*;
+//! Sessions over a sheet and a state in memory, whole.
+
 use carte_engine::Engine;
 use carte_io::{MemDisk, MemSink, MemSource};
 use carte_session::{SessionEnd, StepEnd, run_session};
 use carte_sheet::read_sheet;
+use carte_shell::{Choices, Shell};
 use carte_words::{Rebuilder4, Scheduler4};
 use std::alloc::Global;
-use std::rt::HostRuntime;
 use std::test::Fail;
 
 /// A1 = 10, A2 = 20, B1 = A1+A2, B2 = B1*2; C1 stands in its own formula.

@@ -1,12 +1,14 @@
-use crate::*;
+//! Why a build would run a key.
+
+use crate::books::{listed, names_of};
 use carte_book::Book;
+use carte_explain::{RebuilderKind, Why, explain};
 use carte_rebuild::{Work, WorkEnd};
 use carte_record::{Entry, Kept, Trace};
 use carte_rules::read_rules;
 use carte_value::{Digest, Link, Links, Name, Names, Value};
 use carte_verify::Verify;
 use std::alloc::Global;
-use std::rt::HostRuntime;
 use std::test::Fail;
 
 const BOOK: &[u8] = b"[inputs]\na = 1\n[rules]\nt = 'a + 1'\n";
@@ -22,8 +24,8 @@ fn worked(alloc: Global, kept: &Kept, book: &Book) -> Result<Work, Fail> {
     }
 }
 
-/// A trace of `t` from when `a` was this number, and a stale entry that has another result.
-fn kept_of(alloc: Global, book: &Book, number: i64) -> Result<Kept, Fail> {
+/// A trace of `t` from when `a` was this number, and an entry that has another result and one of the marks.
+fn kept_of(alloc: Global, book: &Book, number: i64, stale: bool) -> Result<Kept, Fail> {
     let mut kept = Kept::empty(alloc);
     kept.rules = Some(book.rules_digest(alloc)?);
     let mut links = Links::new(alloc);
@@ -40,8 +42,8 @@ fn kept_of(alloc: Global, book: &Book, number: i64) -> Result<Kept, Fail> {
         key: Name::rule(alloc, "t")?,
         result: Value::Number(3).digest(),
         needs: Names::new(alloc),
-        stale: true,
-        shallow: false,
+        stale,
+        shallow: !stale,
     })?;
     Ok(kept)
 }
@@ -61,7 +63,7 @@ fn told(why: Why) -> (&'static str, Option<(Digest, Digest)>) {
     }
 }
 
-/// Over nothing, over a trace of another `a`, and over one of this `a`.
+/// Over nothing, over a trace of another `a` with an entry that is stale or shallow, and over a trace of this `a`.
 #[test]
 fn causes_of_a_rule(rt: HostRuntime) -> Result<(), Fail> {
     let alloc = rt.alloc();
@@ -70,30 +72,39 @@ fn causes_of_a_rule(rt: HostRuntime) -> Result<(), Fail> {
     let two = Value::Number(2).digest();
     let three = Value::Number(3).digest();
     let seven = Value::Number(7).digest();
+    let differs = Some((seven, one));
+    let stored = Some((three, two));
     let rows = [
         (None, "a", RebuilderKind::Verifying, "input", None),
         (None, "t", RebuilderKind::Deep, "no trace", None),
         (None, "t", RebuilderKind::Dirty, "no entry", None),
         (
-            Some(7),
+            Some((7, true)),
             "t",
             RebuilderKind::Verifying,
             "difference",
-            Some((seven, one)),
+            differs,
         ),
-        (Some(7), "t", RebuilderKind::Dirty, "stale", None),
-        (Some(7), "t", RebuilderKind::Constructive, "no trace", None),
+        (Some((7, true)), "t", RebuilderKind::Dirty, "stale", None),
+        (Some((7, false)), "t", RebuilderKind::Dirty, "shallow", None),
         (
-            Some(1),
+            Some((7, true)),
+            "t",
+            RebuilderKind::Constructive,
+            "no trace",
+            None,
+        ),
+        (
+            Some((1, true)),
             "t",
             RebuilderKind::Verifying,
             "stored",
-            Some((three, two)),
+            stored,
         ),
     ];
-    for (number, key, kind, word, digests) in rows {
-        let kept = match number {
-            Some(number) => kept_of(alloc, &book, number)?,
+    for (before, key, kind, word, digests) in rows {
+        let kept = match before {
+            Some((number, stale)) => kept_of(alloc, &book, number, stale)?,
             None => Kept::empty(alloc),
         };
         let work = worked(alloc, &kept, &book)?;
@@ -113,14 +124,10 @@ fn chain_kept(alloc: Global, book: &Book, a: i64, b: i64) -> Result<Kept, Fail> 
     let mut kept = Kept::empty(alloc);
     kept.rules = Some(book.rules_digest(alloc)?);
     for (key, needs) in [("t", "v u"), ("u", "b"), ("v", "a")] {
-        let mut names = Names::new(alloc);
-        for need in needs.split(' ') {
-            names.push(Name::rule(alloc, need)?)?;
-        }
         kept.entries.push(Entry {
             key: Name::rule(alloc, key)?,
             result: Value::Empty.digest(),
-            needs: names,
+            needs: names_of(alloc, needs)?,
             stale: false,
             shallow: false,
         })?;
@@ -139,27 +146,20 @@ fn chain_kept(alloc: Global, book: &Book, a: i64, b: i64) -> Result<Kept, Fail> 
 fn paths_to_changed_inputs(rt: HostRuntime) -> Result<(), Fail> {
     let alloc = rt.alloc();
     let book = read_rules(alloc, CHAIN)?;
-    for (a, b, want) in [(7, 1, "t v a"), (1, 7, "t u b"), (7, 7, "t u b")] {
+    let key = Name::rule(alloc, "t")?;
+    for (a, b, want) in [
+        (7, 1, "changed t v a"),
+        (1, 7, "changed t u b"),
+        (7, 7, "changed t u b"),
+    ] {
         let kept = chain_kept(alloc, &book, a, b)?;
         let work = worked(alloc, &Kept::empty(alloc), &book)?;
-        let key = Name::rule(alloc, "t")?;
         let why = explain(alloc, &kept, &book, &work, RebuilderKind::Dirty, &key)?;
         let path = match why {
-            Why::DirtyInput(path) => joined(alloc, &path)?,
+            Why::DirtyInput(path) => listed(alloc, "changed", &path)?,
             _ => String::new(alloc),
         };
         assert_eq!(rt; path.as_str(), want);
     }
     Ok(())
-}
-
-fn joined(alloc: Global, path: &Names) -> Result<String, Fail> {
-    let mut text = String::new(alloc);
-    for name in path.as_slice() {
-        if !text.is_empty() {
-            text.push_str(" ")?;
-        }
-        text.push_str(name.text())?;
-    }
-    Ok(text)
 }
