@@ -17,9 +17,10 @@ untold_sink n = record { tells = ⊥; old = record { taken = []; handed = 0; fau
 
 -- the outcome of the top call, over this book and this state
 pub record OverBoth (words : List (List ℕ)) (book : OverSource) (state : OverDisk) (status : Status) : Type 0 where
+  pub script : ℕ
   pub out : ℕ
   pub err : ℕ
-  pub outcome : IsOutcome 268435456 (record { words = words; book = book; state = state; out = untold_sink out; err = untold_sink err }) status
+  pub outcome : IsOutcome 268435456 (record { words = words; book = book; script = untold_source script; state = state; out = untold_sink out; err = untold_sink err }) status
 
 pub record OverBook (words : List (List ℕ)) (book : OverSource) (status : Status) : Type 0 where
   pub state : ℕ

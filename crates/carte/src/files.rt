@@ -50,7 +50,10 @@ fn open_asked(rt: &HostRuntime, asked: &Words) -> Result<Files, NoMemory> {
         return Ok(none());
     }
     let book = match asked.command {
-        Command::Build => there(fs::open(rt, asked.book.text()))?,
+        Command::Build | Command::Session | Command::Explain => there(fs::open(
+            rt,
+            asked.book.text(),
+        ))?,
         Command::Clean => None,
     };
     let state = there(open_state(rt, asked.state.text(), asked.book.text()))?;

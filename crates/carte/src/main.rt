@@ -106,5 +106,14 @@ fn over_both<B: Source, D: Disk>(
 {
     let mut out = WriteSink::of(rt.stdout());
     let mut err = WriteSink::of(rt.stderr());
-    carte(rt.alloc(), words, book, state, &mut out, &mut err)
+    let mut script = ReadSource::of(rt.stdin());
+    carte(
+        rt.alloc(),
+        words,
+        book,
+        &mut script,
+        state,
+        &mut out,
+        &mut err,
+    )
 }

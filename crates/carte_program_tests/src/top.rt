@@ -3,7 +3,7 @@
 mod devices;
 mod runs;
 
-use crate::top::runs::{shown, shown_over};
+use crate::top::runs::{said, shown, shown_over};
 use carte_io::{MemDisk, MemSink};
 use carte_top::out_of_memory;
 use std::str;
@@ -138,10 +138,71 @@ fn faults_have_their_names(rt: HostRuntime) -> Result<(), Fail> {
 /// Ten bytes are no new file, and must begin with a header.
 #[test]
 fn a_bad_state_stays(rt: HostRuntime) -> Result<(), Fail> {
-    for words in ["build b s total", "clean b s"].iter() {
+    for words in [
+        "build b s total",
+        "explain b s total",
+        "session b s",
+        "clean b s",
+    ]
+    .iter()
+    {
         let text = shown_over(rt.alloc(), words, SUMS, b"0123456789")?;
         assert_eq!(rt; text.as_str(), "7\ncarte: bad state at byte 0\n", "{words}");
     }
+    Ok(())
+}
+
+/// Lines by hand; the digests are those of the spellings of 10 and 11, by another program.
+#[test]
+fn an_explanation_changes_nothing(rt: HostRuntime) -> Result<(), Fail> {
+    let alloc = rt.alloc();
+    let mut state = MemDisk::of(alloc, &[], &[])?;
+    let none = shown(alloc, "explain b s total a", SUMS, &mut state)?;
+    assert_eq!(rt; none.as_str(), "0\ntotal runs: no record\na is an input\n");
+    assert_eq!(rt; state.passed(), 0);
+    shown(alloc, "build b s total", SUMS, &mut state)?;
+    let passed = state.passed();
+    let cases = [
+        (
+            "explain b s total a",
+            SUMS,
+            "0\ntotal reusable\na is an input\n",
+        ),
+        (
+            "explain b s sum --scheduler topological",
+            "[inputs]\na = 11\nb = 20\n[rules]\nsum = \"a + b\"\ntotal = \"sum + sum\"\n",
+            "0\nsum runs: a was 4adca0103f7bb3dcd163484b7a7e3e4cb4cbda0706c6b0af01afd04f9bde2ffa, is 62e7e02ebe7b1ee4cd2120090bc09b8baf24b40c2bb5ef15aa3ad054b1b57412\n",
+        ),
+        (
+            "explain b s total --rebuilder dirty",
+            SWAPPED,
+            "0\ntotal runs: input changed: total -> sum -> a\n",
+        ),
+        ("explain b s gone", SUMS, "3\ncarte: missing: gone\n"),
+        ("explain b s", SUMS, "2\ncarte: usage: no target\n"),
+    ];
+    for (words, book, want) in cases.iter() {
+        let text = shown(alloc, words, book, &mut state)?;
+        assert_eq!(rt; text.as_str(), *want, "{words}");
+    }
+    assert_eq!(rt; state.passed(), passed);
+    Ok(())
+}
+
+/// By hand. What a session has committed, the next run finds.
+#[test]
+fn a_session_answers_its_lines(rt: HostRuntime) -> Result<(), Fail> {
+    let alloc = rt.alloc();
+    let mut state = MemDisk::of(alloc, &[], &[])?;
+    let script =
+        "set a 11\nbuild total\nset sum 3\nbuild gone\n\nexplain total a\nclean\nlist\nbuild sum";
+    let text = said(alloc, "session b s --list", SUMS, script, &mut state)?;
+    assert_eq!(rt;
+        text.as_str(),
+        "0\nset a\ntotal = 62\nran sum\nran total\nran 2, given up 0, reused 0\nnot set: sum is a rule\nrefused: missing: gone\ntotal reusable\na is an input\ncleaned\nline 8: not understood\nsum = 31\nran sum\nran 1, given up 0, reused 0\n"
+    );
+    let next = shown(alloc, "explain b s total", SUMS, &mut state)?;
+    assert_eq!(rt; next.as_str(), "0\ntotal runs: no record\n");
     Ok(())
 }
 

@@ -7,7 +7,7 @@ use Rattle.carte_book.specs.declared.fault.BookFault.{BookFault}
 use Rattle.carte_book.specs.declared.fault.BookFault.TheVariants.{NoMemory as BookNoMemory}
 use Rattle.carte_words.specs.declared.words.Words.{Words as Asked}
 use Rattle.carte_report.specs.declared.status.Status.{Status}
-use Rattle.carte_report.specs.declared.status.Status.TheVariants.{Done, BookRefused, Usage, BuildRefused, ReadFault, WriteFault, DiskFault, BadState, StateFull, NoMemory}
+use Rattle.carte_report.specs.declared.status.Status.TheVariants.{Done, BookRefused, Usage, BuildRefused, ReadFault, WriteFault, DiskFault, BadState, StateFull, NoMemory, ScriptTooLong}
 use Rattle.carte_engine.specs.declared.answer.Answer.TheVariants as answer
 use Rattle.carte_top.specs.Around.{OverSource, OverDisk, OverSink, IsUnvisited, IsUntouched, TakesAll, TakesFront}
 use Rattle.carte_top.specs.Chosen.{BookOfKind}
@@ -40,10 +40,11 @@ loads_book kind s bytes (Err WriteFault) parses was short same = absurd parses
 loads_book kind s bytes (Err DiskFault) parses was short same = absurd parses
 loads_book kind s bytes (Err (BadState offset)) parses was short same = absurd parses
 loads_book kind s bytes (Err (StateFull needed most)) parses was short same = absurd parses
+loads_book kind s bytes (Err ScriptTooLong) parses was short same = absurd parses
 
 -- what was read is this book
 module _ (kind : Kind) (s : OverSource) (b : Book) (holds : Holds kind s (λ c. c ≡ b)) where
-  holds_so : (P : Book → Type 0) → P b → Holds kind s P
+  pub holds_so : (P : Book → Type 0) → P b → Holds kind s P
   holds_so P there = (holds.0, holds.1, b, subst (λ (c : Book). BookOfKind kind holds.0 (Ok c)) holds.4 holds.3, there)
 
 module _ (limit : ℕ) (w : Asked) (s : OverSource) (d : OverDisk) (k : OverSink) (b : Book) (holds : Holds w.kind s (λ c. c ≡ b)) where
@@ -58,6 +59,7 @@ module _ (limit : ℕ) (w : Asked) (s : OverSource) (d : OverDisk) (k : OverSink
   built_on (BookRefused fault) did same = absurd did
   built_on (Usage fault) did same = absurd did
   built_on ReadFault did same = absurd did
+  built_on ScriptTooLong did same = absurd did
 
   pub builds : (status : Status) → BuildsOver limit w b d k status → ReadsEnough s → s.new.faults ≡ s.old.faults → Builds limit w s d k status
   builds status over read same =
@@ -76,3 +78,4 @@ no_book limit w s d k WriteFault load unvisited untouched = absurd load.loads
 no_book limit w s d k DiskFault load unvisited untouched = absurd load.loads
 no_book limit w s d k (BadState offset) load unvisited untouched = absurd load.loads
 no_book limit w s d k (StateFull needed most) load unvisited untouched = absurd load.loads
+no_book limit w s d k ScriptTooLong load unvisited untouched = absurd load.loads

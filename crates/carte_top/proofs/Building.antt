@@ -13,20 +13,22 @@ use Rattle.carte_engine.specs.declared.answer.Answer.{Answer}
 use Rattle.carte_engine.specs.declared.answer.Answer.TheVariants as answer
 use Rattle.carte_engine.specs.declared.answer.Built.{Built}
 use Rattle.carte_engine.specs.declared.answer.Plan.{Plan}
+use Rattle.carte_shell.specs.declared.choices.Choices.{Choices}
 use Rattle.carte_report.specs.declared.status.Status.{Status}
-use Rattle.carte_report.specs.declared.status.Status.TheVariants.{Done, BookRefused, Usage, BuildRefused, ReadFault, WriteFault, DiskFault, BadState, StateFull, NoMemory}
+use Rattle.carte_report.specs.declared.status.Status.TheVariants.{Done, BookRefused, Usage, BuildRefused, ReadFault, WriteFault, DiskFault, BadState, StateFull, NoMemory, ScriptTooLong}
 use Rattle.carte_top.specs.Around.{OverDisk, OverSink, IsUntouched, TakesAll, TakesFront}
-use Rattle.carte_top.specs.Chosen.{scheduler_of, how_of}
+use Rattle.carte_top.specs.Chosen.{scheduler_of, how_of, choices_of}
 use Rattle.carte_top.specs.Found.{Answers, IsPut, Replies, reply_to}
 use Rattle.carte_top.specs.Outcome.{TellsSink}
 use Rattle.carte_top.specs.Sound.{IsStation, MayBuild}
 use Rattle.carte_top.specs.Running.{BuildsWith, BuiltWith, PutOrNot, Settled, Settles, StaysOver, StaysWith}
 use Rattle.carte_top.proofs.Keeping.{keeps_by}
 
--- a plan's batch, by the answer that it was found to have
-pub answers_so : (w : Asked) (b : Book) (K : SomeKept) (p : Plan) (a : Answer) → p.answer ≡ a → Under K b (IsPlan (scheduler_of w.scheduler) (how_of w.rebuilder) K b w.targets p) → Answers w b K a p.batch
-answers_so w b K p a is plans H sound distinct =
-    subst (λ (x : Answer). IsPlan (scheduler_of w.scheduler) (how_of w.rebuilder) K b w.targets (record { batch = p.batch; answer = x })) is (plans H sound distinct)
+-- a plan's batch, by what the words choose and by the answer that it was found to have
+pub answers_so : (w : Asked) (x : Choices) → x ≡ choices_of w → (b : Book) (K : SomeKept) (p : Plan) (a : Answer) → p.answer ≡ a → Under K b (IsPlan (scheduler_of x.scheduler) (how_of x.rebuilder) K b w.targets p) → Answers w b K a p.batch
+answers_so w x chosen b K p a is plans H sound distinct =
+    let planned = subst (λ (y : Choices). IsPlan (scheduler_of y.scheduler) (how_of y.rebuilder) K b w.targets p) chosen (plans H sound distinct) in
+    subst (λ (y : Answer). IsPlan (scheduler_of w.scheduler) (how_of w.rebuilder) K b w.targets (record { batch = p.batch; answer = y })) is planned
 
 module _ (limit : ℕ) (w : Asked) (b : Book) (K : SomeKept) (B : Batch) where
   module _ (a : Answer) (answers : Answers w b K a B) where
@@ -53,6 +55,7 @@ module _ (limit : ℕ) (w : Asked) (b : Book) (K : SomeKept) (B : Batch) where
     not_built d k ReadFault put untouched = absurd put
     not_built d k WriteFault put untouched = absurd put
     not_built d k (BadState offset) put untouched = absurd put
+    not_built d k ScriptTooLong put untouched = absurd put
 
   module _ (built : Built) (answers : Answers w b K (answer.Built built) B) where
     keeps : Under K b (KeepsBy (scheduler_of w.scheduler) (how_of w.rebuilder) K (apply B K) b w.targets)
@@ -74,6 +77,7 @@ module _ (limit : ℕ) (w : Asked) (b : Book) (K : SomeKept) (B : Batch) where
     done d k (BuildRefused reason) did = absurd did
     done d k ReadFault did = absurd did
     done d k (BadState offset) did = absurd did
+    done d k ScriptTooLong did = absurd did
 
     pub built_with : (d : OverDisk) (k : OverSink) (status : Status) → Settles limit (reply_to w built) K B d k status → BuildsWith limit w b K d k status
     built_with d k status settles = record {

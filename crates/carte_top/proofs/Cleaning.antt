@@ -9,7 +9,7 @@ use Rattle.carte_state.specs.declared.fault.ApplyFault.{ApplyFault}
 use Rattle.carte_state.specs.declared.fault.ApplyFault.TheVariants as applying
 use Rattle.carte_engine.specs.Clearing.{clearing}
 use Rattle.carte_report.specs.declared.status.Status.{Status}
-use Rattle.carte_report.specs.declared.status.Status.TheVariants.{Done, BookRefused, Usage, BuildRefused, ReadFault, WriteFault, DiskFault, BadState, StateFull, NoMemory}
+use Rattle.carte_report.specs.declared.status.Status.TheVariants.{Done, BookRefused, Usage, BuildRefused, ReadFault, WriteFault, DiskFault, BadState, StateFull, NoMemory, ScriptTooLong}
 use Rattle.carte_top.specs.Around.{OverDisk, OverSink, IsUntouched, TakesAll, TakesFront}
 use Rattle.carte_top.specs.Found.{Clears, IsClearing, IsOver, IsPut}
 use Rattle.carte_top.specs.Outcome.{TellsDisk}
@@ -42,6 +42,7 @@ module _ (e : Stand) (d : OverDisk) (k : OverSink) (stays : StaysOver e.journal.
   clears (BadState offset) put same prints = absurd prints
   clears (StateFull needed most) put same prints = absurd prints
   clears NoMemory put same prints = absurd prints
+  clears ScriptTooLong put same prints = absurd prints
 
   pub clears_not : (fault : ApplyFault) → ((needed most : ℕ) → fault ≡ applying.Full needed most → IsOver e.journal.limit d (clearing e) needed most) → (fault ≡ applying.NoMemory → d.tells → d.new ≡ d.old) → TellsDisk d (uncommitted_of fault) → IsUntouched k
       → CleansWith e.journal.limit (kept_in e) d k (uncommitted_of fault)

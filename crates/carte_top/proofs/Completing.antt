@@ -1,9 +1,12 @@
 -- The status that is due comes, but for want of memory and devices: each cause of another one contradicts it.
-use Rattle.std.proofs.Common.{◌≡◌, ℕ, ◌<◌, false, List, [], ◌∷◌, ◌++◌, length, length-append, Ok, Err, refl, sym, ap, ◌∙◌, inl, inr, ◌⊎◌, subst, arith}
+use Rattle.std.proofs.Common.{◌≡◌, ℕ, ◌<◌, false, List, [], ◌∷◌, ◌++◌, length, length-append, Result, Ok, Err, refl, sym, ap, ◌∙◌, inl, inr, ◌⊎◌, subst, arith}
 use Rattle.std.proofs.lemmas.Bool.{lt-ltb}
 use Rattle.carte_value.specs.declared.kind.Kind.{Kind}
 use Rattle.carte_value.specs.declared.kind.Kind.TheVariants.{Rules, Sheet}
 use Rattle.carte_book.specs.Book.{Book}
+use Rattle.carte_book.specs.Reason.{AllClean, IsReason}
+use Rattle.carte_book.proofs.Reasons.{no_reason, one_reason}
+use Rattle.carte_session.specs.declared.end.SessionEnd.{SessionEnd}
 use Rattle.carte_book.specs.declared.fault.BookFault.{BookFault}
 use Rattle.carte_book.specs.declared.fault.BookFault.TheVariants.{Limit, NoMemory as BookNoMemory}
 use Rattle.carte_book.specs.declared.fault.Which.TheVariants.{Bytes}
@@ -18,16 +21,17 @@ use Rattle.carte_state.proofs.Folds.{bad_at_one, keeps_one, keeps_or_bad}
 use Rattle.carte_words.specs.declared.words.Command.{Command}
 use Rattle.carte_words.specs.declared.words.Command.TheVariants as command
 use Rattle.carte_words.specs.declared.words.Words.{Words as Asked}
+use Rattle.carte_engine.specs.Answers.{Under}
 use Rattle.carte_engine.specs.Schedulers.{IsServed, IsRefusedFor}
 use Rattle.carte_engine.specs.declared.answer.Answer.{Answer}
 use Rattle.carte_engine.specs.declared.answer.Answer.TheVariants as answer
 use Rattle.carte_report.specs.declared.status.Status.{Status}
-use Rattle.carte_report.specs.declared.status.Status.TheVariants.{Done, BookRefused, Usage, BuildRefused, ReadFault, WriteFault, DiskFault, BadState, StateFull, NoMemory}
+use Rattle.carte_report.specs.declared.status.Status.TheVariants.{Done, BookRefused, Usage, BuildRefused, ReadFault, WriteFault, DiskFault, BadState, StateFull, NoMemory, ScriptTooLong}
 use Rattle.carte_top.specs.Around.{OverSource, OverDisk, OverSink, TakesAll}
 use Rattle.carte_top.specs.Chosen.{scheduler_of, BookOfKind}
-use Rattle.carte_top.specs.Due.{AllFit, AllOver, IsBadNow, IsBook, IsBuildDue, IsCleanDue, IsDue, IsDueFor, IsFound, IsHindered, IsKept, IsPlanned}
-use Rattle.carte_top.specs.Found.{Clears, ClearsNot, Commits, FitsIn, Found, HasRoomFor, Holds, IsClearing, IsNeeded, IsOver, IsPut, Overfills, Refuses, Replies}
-use Rattle.carte_top.specs.Outcome.{Asks, Built, Cleaned, Does, IsBad, Ran}
+use Rattle.carte_top.specs.Due.{AllFit, AllOver, IsBadNow, IsBook, IsBuildDue, IsCleanDue, IsDue, IsDueFor, IsExplainDue, IsFound, IsHindered, IsKept, IsPlanned, IsSessionDue}
+use Rattle.carte_top.specs.Found.{Clears, ClearsNot, Commits, FitsIn, Found, HasRoomFor, Holds, IsClearing, IsNeeded, IsOver, IsPut, Overfills, Refuses, Replies, Explains, Carries}
+use Rattle.carte_top.specs.Outcome.{Asks, Built, Cleaned, ComesTo, Does, Explained, IsBad, Lacks, Ran, Sat}
 use Rattle.carte_top.proofs.Unique.{one_meant, one_needed, one_of_kind, one_outcome, one_refusal, served_or_refused}
 
 -- ---- the book
@@ -196,6 +200,8 @@ module _ (limit : ℕ) (w : Asked) (s : OverSource) (d : OverDisk) (k : OverSink
   built_due DiskFault due did is = inr tt
   built_due NoMemory due did is = inr tt
   built_due (Usage fault) due did is = absurd did
+  built_due ScriptTooLong due did is = absurd did
+  built_due status ScriptTooLong did is = absurd is
   built_due status (Usage fault) did is = absurd is
   built_due status ReadFault did is = absurd is
   built_due status WriteFault did is = absurd is
@@ -241,6 +247,8 @@ module _ (limit : ℕ) (d : OverDisk) (k : OverSink) where
   cleaned_due (Usage fault) due did is = absurd did
   cleaned_due (BookRefused fault) due did is = absurd did
   cleaned_due (BuildRefused reason) due did is = absurd did
+  cleaned_due ScriptTooLong due did is = absurd did
+  cleaned_due status ScriptTooLong did is = absurd is
   cleaned_due status (Usage fault) did is = absurd is
   cleaned_due status (BookRefused fault) did is = absurd is
   cleaned_due status (BuildRefused reason) did is = absurd is
@@ -264,19 +272,124 @@ module _ (limit : ℕ) (d : OverDisk) (k : OverSink) where
       let at = found_one limit d (λ K. AllOver limit d needed most (IsClearing K)) (ClearsNot limit d n m) is did.0 in
       inl (over_same limit d (IsClearing at.0) at.3.batch at.3.clearing is.0 at.0 needed most n m at.1 at.2 at.3.over)
 
+-- ---- an explanation
+
+module _ (limit : ℕ) (w : Asked) (s : OverSource) (d : OverDisk) (k : OverSink) where
+  abbrev Seen : Book → Type 0
+  Seen b = IsFound limit d b (λ K. Unit {0})
+
+  module _ (X : Book → Type 0) (is : IsBook w.kind s (λ b. X b × Seen b)) where
+    seen_none : (fault : BookFault) → Refuses w.kind s fault → ⊥
+    seen_none fault refuses = is_book w.kind s (λ b. X b × Seen b) fault is refuses
+
+    seen_bad : (offset : ℕ) → IsBad limit d offset → ⊥
+    seen_bad offset bad = kept_or_bad limit d (λ K. (H : List Book) × IsSound K H × HasDistinctDigests (H ++ is.1 ∷ []) × Unit {0}) offset is.3.1 bad
+
+    seen_with : (Q : Book → SomeKept → Type 0) → Holds w.kind s (λ b. Found limit d (λ K. Under K b (Q b K))) → (b : Book) × X b × ((K : SomeKept) × Q b K)
+    seen_with Q did =
+        let m = meet limit w.kind s d X (λ b K. Unit {0}) (λ b K. Under K b (Q b K)) is did in
+        (m.book, m.first, (m.kept, m.did m.history m.sound m.distinct))
+
+  explained : Holds w.kind s (λ b. Found limit d (Explains w k TakesAll b)) → Holds w.kind s (λ b. Found limit d (λ K. Under K b (AllClean b w.targets)))
+  explained did = let found = did.4 in (did.0, did.1, did.2, did.3, (found.0, found.1, (λ H sound distinct. (found.2.whys H sound distinct).0)))
+
+  told_due : (status due : Status) → Explained limit w s d k status → IsExplainDue limit w s d due → (status ≡ due) ⊎ IsHindered status
+  told_due ReadFault due did is = inr tt
+  told_due WriteFault due did is = inr tt
+  told_due DiskFault due did is = inr tt
+  told_due NoMemory due did is = inr tt
+  told_due (Usage fault) due did is = absurd did.0
+  told_due (StateFull n m) due did is = absurd did.0
+  told_due ScriptTooLong due did is = absurd did.0
+  told_due status (Usage fault) did is = absurd is
+  told_due status (StateFull n m) did is = absurd is
+  told_due status ScriptTooLong did is = absurd is
+  told_due status ReadFault did is = absurd is
+  told_due status WriteFault did is = absurd is
+  told_due status DiskFault did is = absurd is
+  told_due status NoMemory did is = absurd is
+  told_due Done Done did is = inl refl
+  told_due Done (BookRefused f) did is = absurd (is_none w.kind s (λ b. Found limit d (Explains w k TakesAll b)) f is.0 is.1 did)
+  told_due Done (BuildRefused r) did is =
+      let at = seen_with (λ b. IsReason b w.targets r) is (λ b K. AllClean b w.targets) (explained did) in
+      absurd (no_reason at.0 w.targets r at.1 at.2.1)
+  told_due Done (BadState at) did is = absurd (found_or_bad limit d (Explains w k TakesAll did.2) at is.3 did.4)
+  told_due (BookRefused f) Done did is = absurd (seen_none (λ b. AllClean b w.targets) is f did.0.0)
+  told_due (BookRefused f) (BookRefused g) did is = inl (ap BookRefused (one_fault w.kind s f g is.0 did.0.0 is.1))
+  told_due (BookRefused f) (BuildRefused r) did is = absurd (seen_none (λ b. IsReason b w.targets r) is f did.0.0)
+  told_due (BookRefused f) (BadState at) did is = absurd (is_book w.kind s (λ b. IsBadNow limit d at) f is did.0.0)
+  told_due (BuildRefused r) Done did is =
+      let at = seen_with (λ b. AllClean b w.targets) is (λ b K. IsReason b w.targets r) did.0 in
+      absurd (no_reason at.0 w.targets r at.2.1 at.1)
+  told_due (BuildRefused r) (BookRefused f) did is = absurd (is_none w.kind s (λ b. Found limit d (λ K. Under K b (IsReason b w.targets r))) f is.0 is.1 did.0)
+  told_due (BuildRefused r) (BuildRefused q) did is =
+      let at = seen_with (λ b. IsReason b w.targets q) is (λ b K. IsReason b w.targets r) did.0 in
+      inl (ap BuildRefused (one_reason at.0 w.targets r q at.2.1 at.1))
+  told_due (BuildRefused r) (BadState at) did is = absurd (found_or_bad limit d (λ K. Under K did.0.2 (IsReason did.0.2 w.targets r)) at is.3 did.0.4)
+  told_due (BadState at) Done did is = absurd (seen_bad (λ b. AllClean b w.targets) is at did.0.1)
+  told_due (BadState at) (BookRefused f) did is = absurd (is_none w.kind s (λ b. Unit {0}) f is.0 is.1 did.0.0)
+  told_due (BadState at) (BuildRefused r) did is = absurd (seen_bad (λ b. IsReason b w.targets r) is at did.0.1)
+  told_due (BadState at) (BadState offset) did is = inl (bad_one limit d offset at is.3 did.0.1)
+
+-- ---- a session
+
+module _ (limit : ℕ) (w : Asked) (s c : OverSource) (d : OverDisk) (k : OverSink) where
+  lacking_due : (status due : Status) → Lacks limit w s d status → IsSessionDue limit w s d due → (status ≡ due) ⊎ IsHindered status
+  lacking_due ReadFault due did is = inr tt
+  lacking_due DiskFault due did is = inr tt
+  lacking_due NoMemory due did is = inr tt
+  lacking_due WriteFault due did is = absurd did
+  lacking_due Done due did is = absurd did
+  lacking_due (Usage fault) due did is = absurd did
+  lacking_due (BuildRefused r) due did is = absurd did
+  lacking_due (StateFull n m) due did is = absurd did
+  lacking_due ScriptTooLong due did is = absurd did
+  lacking_due status Done did is = absurd is
+  lacking_due status (Usage fault) did is = absurd is
+  lacking_due status (BuildRefused r) did is = absurd is
+  lacking_due status (StateFull n m) did is = absurd is
+  lacking_due status ScriptTooLong did is = absurd is
+  lacking_due status ReadFault did is = absurd is
+  lacking_due status WriteFault did is = absurd is
+  lacking_due status DiskFault did is = absurd is
+  lacking_due status NoMemory did is = absurd is
+  lacking_due (BookRefused f) (BookRefused g) did is = inl (ap BookRefused (one_fault w.kind s f g is.0 did.0 is.1))
+  lacking_due (BookRefused f) (BadState at) did is = absurd (is_book w.kind s (λ b. IsBadNow limit d at) f is did.0)
+  lacking_due (BadState at) (BookRefused f) did is = absurd (is_none w.kind s (λ b. Unit {0}) f is.0 is.1 did.0)
+  lacking_due (BadState at) (BadState offset) did is = inl (bad_one limit d offset at is.3 did.1)
+
+  begun_due : (end : Result (Unit {0}) SessionEnd) (due : Status) → ComesTo limit w s c d k end → IsSessionDue limit w s d due → ⊥
+  begun_due end (BookRefused f) did is = is_none w.kind s (λ b. Found limit d (Carries limit w c d k end b)) f is.0 is.1 did
+  begun_due end (BadState at) did is = found_or_bad limit d (Carries limit w c d k end did.2) at is.3 did.4
+  begun_due end Done did is = is
+  begun_due end (Usage fault) did is = is
+  begun_due end (BuildRefused r) did is = is
+  begun_due end (StateFull n m) did is = is
+  begun_due end ScriptTooLong did is = is
+  begun_due end ReadFault did is = is
+  begun_due end WriteFault did is = is
+  begun_due end DiskFault did is = is
+  begun_due end NoMemory did is = is
+
+  sat_due : (status due : Status) → Sat limit w s c d k status → IsSessionDue limit w s d due → (status ≡ due) ⊎ IsHindered status
+  sat_due status due (inl did) is = lacking_due status due did.0 is
+  sat_due status due (inr (end, told, did)) is = absurd (begun_due end due did is)
+
 -- ---- a run
 
-module _ (limit : ℕ) (words : List (List ℕ)) (s : OverSource) (d : OverDisk) (k : OverSink) where
-  by_command : (c : Command) (w : Asked) (status due : Status) → Does c limit w s d k status → IsDueFor c limit w s d due → (status ≡ due) ⊎ IsHindered status
+module _ (limit : ℕ) (words : List (List ℕ)) (s c : OverSource) (d : OverDisk) (k : OverSink) where
+  by_command : (to : Command) (w : Asked) (status due : Status) → Does to limit w s c d k status → IsDueFor to limit w s d due → (status ≡ due) ⊎ IsHindered status
   by_command command.Build w status due did is = built_due limit w s d k status due did is
+  by_command command.Session w status due did is = sat_due limit w s c d k status due did is
+  by_command command.Explain w status due did is = told_due limit w s d k status due did.0 is
   by_command command.Clean w status due did is = cleaned_due limit d k status due did.1 is
 
-  asked_due : (status due : Status) → Asks words (λ w. Does w.command limit w s d k status) → Asks words (λ w. IsDueFor w.command limit w s d due) → (status ≡ due) ⊎ IsHindered status
+  asked_due : (status due : Status) → Asks words (λ w. Does w.command limit w s c d k status) → Asks words (λ w. IsDueFor w.command limit w s d due) → (status ≡ due) ⊎ IsHindered status
   asked_due status due did is =
       let same : did.0 ≡ is.0 = one_meant words did.0 is.0 did.1 is.1 in
-      by_command is.0.command is.0 status due (subst (λ (w : Asked). Does w.command limit w s d k status) same did.2) is.2
+      by_command is.0.command is.0 status due (subst (λ (w : Asked). Does w.command limit w s c d k status) same did.2) is.2
 
-  pub comes : (status due : Status) → Ran limit words s d k status → IsDue limit words s d due → (status ≡ due) ⊎ IsHindered status
+  pub comes : (status due : Status) → Ran limit words s c d k status → IsDue limit words s d due → (status ≡ due) ⊎ IsHindered status
   comes NoMemory due ran is = inr tt
   comes (Usage f) (Usage g) ran is = inl (let same : f ≡ g = (let e = ran.0 in cc) in ap Usage same)
   comes (Usage f) due ran is = let e = ran.0 in let g = is.1 in cc

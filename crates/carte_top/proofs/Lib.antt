@@ -6,8 +6,11 @@ pub mod Cleaning
 pub mod Building
 pub mod Opening
 pub mod Books
+pub mod Lacking
+pub mod Serving
 pub mod Sounds
 pub mod Completing
+pub mod Commands
 pub mod Outcomes
 pub mod HistoryRuns
 pub mod Plain

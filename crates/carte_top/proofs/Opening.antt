@@ -11,7 +11,7 @@ use Rattle.carte_words.specs.declared.words.Words.{Words as Asked}
 use Rattle.carte_engine.specs.declared.answer.Answer.{Answer}
 use Rattle.carte_engine.specs.declared.answer.Answer.TheVariants as answer
 use Rattle.carte_report.specs.declared.status.Status.{Status}
-use Rattle.carte_report.specs.declared.status.Status.TheVariants.{Done, BookRefused, Usage, BuildRefused, ReadFault, WriteFault, DiskFault, BadState, StateFull, NoMemory}
+use Rattle.carte_report.specs.declared.status.Status.TheVariants.{Done, BookRefused, Usage, BuildRefused, ReadFault, WriteFault, DiskFault, BadState, StateFull, NoMemory, ScriptTooLong}
 use Rattle.carte_top.specs.Around.{OverDisk, OverSink, IsUntouched, TakesAll, TakesFront}
 use Rattle.carte_top.specs.Found.{Clears, ClearsNot, Commits, FitsIn, GrowsBy, IsClearing, IsNeeded, IsOver, IsPut, Overfills, Replies, calls_into}
 use Rattle.carte_top.specs.Outcome.{Cleaned, TellsDisk, TellsSink}
@@ -74,6 +74,7 @@ module _ (limit : ℕ) (o : OverDisk) (m : Story) (f : ℕ) (q : Type 0) (e : o.
   built_from w b K k (Usage fault) found did = absurd did
   built_from w b K k ReadFault found did = absurd did
   built_from w b K k (BadState offset) found did = absurd did
+  built_from w b K k ScriptTooLong found did = absurd did
 
   pub builds_from : (w : Asked) (b : Book) (K : SomeKept) (k : OverSink) (status : Status) → (o.tells → Keeps limit K o.old.now.reads) → BuildsWith limit w b K (loaded_from o m f q) k status → BuildsOver limit w b o k status
   builds_from w b K k status found builds = record {
@@ -100,6 +101,7 @@ module _ (limit : ℕ) (o : OverDisk) (m : Story) (f : ℕ) (q : Type 0) (e : o.
   cleaned_from K k (BuildRefused reason) found did = absurd did
   cleaned_from K k ReadFault found did = absurd did
   cleaned_from K k (BadState offset) found did = absurd did
+  cleaned_from K k ScriptTooLong found did = absurd did
 
   pub cleans_from : (K : SomeKept) (k : OverSink) (status : Status) → (o.tells → Keeps limit K o.old.now.reads) → CleansWith limit K (loaded_from o m f q) k status → Cleans limit o k status
   cleans_from K k status found cleans = record {
@@ -125,6 +127,7 @@ module _ (limit : ℕ) (d : OverDisk) (k : OverSink) (story : d.tells → d.new 
   unbuilt w b ReadFault loaded = absurd loaded
   unbuilt w b WriteFault loaded = absurd loaded
   unbuilt w b (StateFull needed most) loaded = absurd loaded
+  unbuilt w b ScriptTooLong loaded = absurd loaded
 
   pub builds_nothing : (w : Asked) (b : Book) (status : Status) → LoadedOr limit d (Err status) → TellsDisk d status → BuildsOver limit w b d k status
   builds_nothing w b status loaded told = let parts = unbuilt w b status loaded in record { did = parts.0; stays = stays_unloaded (MayBuild w b); disk = told; sink = parts.1 }
@@ -140,6 +143,7 @@ module _ (limit : ℕ) (d : OverDisk) (k : OverSink) (story : d.tells → d.new 
   uncleaned ReadFault loaded = absurd loaded
   uncleaned WriteFault loaded = absurd loaded
   uncleaned (StateFull needed most) loaded = absurd loaded
+  uncleaned ScriptTooLong loaded = absurd loaded
 
   pub cleans_nothing : (status : Status) → LoadedOr limit d (Err status) → TellsDisk d status → Cleans limit d k status
   cleans_nothing status loaded told = let parts = uncleaned status loaded in record { did = parts.0; stays = stays_unloaded IsClearing; disk = told; sink = parts.1 }

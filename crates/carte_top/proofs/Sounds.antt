@@ -1,5 +1,5 @@
 -- Whatever the status, and wherever a crash cuts a run off, the state stays sound.
-use Rattle.std.proofs.Common.{ℕ, List, [], ◌∷◌, ◌++◌, refl, sym, subst, inl, inr}
+use Rattle.std.proofs.Common.{◌≡◌, ℕ, List, [], ◌∷◌, ◌++◌, Ok, refl, sym, subst, inl, inr, ◌⊎◌}
 use Rattle.carte_io.proofs.Images.{leaves_more}
 use Rattle.carte_book.specs.Book.{Book}
 use Rattle.carte_record.specs.Folds.{apply}
@@ -7,18 +7,29 @@ use Rattle.carte_record.specs.Kept.{SomeKept}
 use Rattle.carte_sound.specs.Sound.{IsSound}
 use Rattle.carte_sound.proofs.Begins.{behind_sound}
 use Rattle.carte_sound.proofs.Histories.{nothing_sound}
+use Rattle.carte_session.specs.Lines.{lines_of}
+use Rattle.carte_words.specs.Words.{words_of}
+use Rattle.carte_words.specs.declared.words.Command.{Command}
+use Rattle.carte_words.specs.declared.words.Command.TheVariants as command
 use Rattle.carte_words.specs.declared.words.Words.{Words as Asked}
-use Rattle.carte_top.specs.Around.{OverSource, OverDisk, IsUnvisited}
+use Rattle.carte_top.specs.Around.{OverSource, OverDisk}
 use Rattle.carte_top.specs.Chosen.{scheduler_of, how_of}
 use Rattle.carte_top.specs.Found.{IsClearing}
-use Rattle.carte_top.specs.Sound.{IsSoundRun, IsStation, KeepsSound, MayBuild, StaysAt, StaysSound, Visits}
+use Rattle.carte_top.specs.Outcome.{IsSpared}
+use Rattle.carte_top.specs.Running.{SessionStaysOver}
+use Rattle.carte_top.specs.Sound.{AreRead, AreReadFor, IsSoundRun, IsStation, KeepsOn, KeepsSound, MayBuild, StaysAt, StaysSound, Visits}
 use Rattle.carte_top.proofs.Keeping.{lead_sound}
 use Rattle.carte_top.proofs.Putting.{stays_kept}
 
--- where the disk wasn't called
-unvisited_sound : (limit : ℕ) (d : OverDisk) → IsUnvisited d → StaysSound limit [] d
-unvisited_sound limit d unvisited told settled H (K, keeps, sound) distinct =
-    stays_kept limit K d.old d.new (KeepsSound limit (H ++ [])) keeps settled unvisited.story (λ file at. (K, at, behind_sound K H [] sound))
+-- where nothing was written to the disk
+pub spared_sound : (limit : ℕ) (d : OverDisk) → IsSpared d → StaysSound limit [] d
+spared_sound limit d spared told settled H (K, keeps, sound) distinct =
+    stays_kept limit K d.old d.new (KeepsSound limit (H ++ [])) keeps settled (spared told) (λ file at. (K, at, behind_sound K H [] sound))
+
+-- and before the first line of a session
+pub stays_unbegun : (limit : ℕ) (b : Book) (c : OverSource) (d : OverDisk) → IsSpared d → SessionStaysOver limit b c d
+stays_unbegun limit b c d spared =
+    ([], record { lines = []; first = λ told. (lines_of c.old.left, refl); last = b; books = (refl, refl) }, spared_sound limit d spared)
 
 -- under a build
 built_sound : (limit : ℕ) (w : Asked) (b : Book) (d : OverDisk) → StaysAt limit (MayBuild w b) d → StaysSound limit (b ∷ []) d
@@ -40,8 +51,18 @@ cleaned_sound limit d stays told settled H (K, keeps, sound) distinct =
     at file (inl there) = (K, there, behind_sound K H [] sound)
     at file (inr (B, may, there)) = (apply B K, there, subst (λ (L : SomeKept). IsSound L (H ++ [])) (sym may.leaves) (nothing_sound (H ++ [])))
 
-pub sound_run : (limit : ℕ) (words : List (List ℕ)) (s : OverSource) (d : OverDisk) → Visits limit words s d → IsSoundRun limit words s d
-sound_run limit words s d (inl unvisited) = ([], tt, unvisited_sound limit d unvisited)
-sound_run limit words s d (inr (w, asked, inl (is_build, holds))) =
-    (holds.2 ∷ [], (w, asked, (is_build, (holds.0, holds.1, holds.2, holds.3, refl))), built_sound limit w holds.2 d holds.4)
-sound_run limit words s d (inr (w, asked, inr (is_clean, stays))) = ([], tt, cleaned_sound limit d stays)
+visited_sound : (limit : ℕ) (to : Command) (w : Asked) (s c : OverSource) (d : OverDisk) → KeepsOn to limit w s c d → (J : List Book) × ((J ≡ []) ⊎ AreReadFor to w s c J) × StaysSound limit J d
+visited_sound limit command.Build w s c d (bytes, was, b, is, stays) = (b ∷ [], inr (bytes, was, b, is, refl), built_sound limit w b d stays)
+visited_sound limit command.Session w s c d (bytes, was, b, is, (J, first, stays)) = (J, inr (bytes, was, b, is, first), stays)
+visited_sound limit command.Explain w s c d (book, spared) = ([], inl refl, spared_sound limit d spared)
+visited_sound limit command.Clean w s c d stays = ([], inl refl, cleaned_sound limit d stays)
+
+asked_sound : (limit : ℕ) (words : List (List ℕ)) (w : Asked) (s c : OverSource) (d : OverDisk) (J : List Book) → words_of words ≡ Ok w → (J ≡ []) ⊎ AreReadFor w.command w s c J → AreRead words s c J
+asked_sound limit words w s c d J asked (inl none) = inl none
+asked_sound limit words w s c d J asked (inr read) = inr (w, asked, read)
+
+pub sound_run : (limit : ℕ) (words : List (List ℕ)) (s c : OverSource) (d : OverDisk) → Visits limit words s c d → IsSoundRun limit words s c d
+sound_run limit words s c d (inl unvisited) = ([], inl refl, spared_sound limit d (λ told. unvisited.story))
+sound_run limit words s c d (inr (w, asked, keeps)) =
+    let all = visited_sound limit w.command w s c d keeps in
+    (all.0, asked_sound limit words w s c d all.0 asked all.1, all.2)

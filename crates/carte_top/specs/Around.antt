@@ -3,12 +3,8 @@ use Rattle.std.specs.Prelude.{ℕ, ◌≡◌, ◌≤◌, ◌⊎◌, List, ◌++�
 use Rattle.carte_io.specs.Causes.{Rose}
 use Rattle.carte_io.specs.Disk.{Story}
 use Rattle.carte_io.specs.Streams.{SinkState, SourceState}
-
--- a source over a call: whether its type tells its bytes, and what it was and is
-pub record OverSource : Type 1 where
-  pub tells : Type 0
-  pub old : SourceState
-  pub new : SourceState
+-- a source over a call, and a sink: whether its type tells its bytes, and what it was and is
+pub use Rattle.carte_session.specs.Around.{OverSource, OverSink}
 
 -- a disk over a call: whether its type tells its story, that story, and how often it failed; `same` says that it is the very disk still
 pub record OverDisk : Type 1 where
@@ -18,12 +14,6 @@ pub record OverDisk : Type 1 where
   pub failed_before : ℕ
   pub failed : ℕ
   pub same : Type 0
-
--- a sink over a call
-pub record OverSink : Type 1 where
-  pub tells : Type 0
-  pub old : SinkState
-  pub new : SinkState
 
 abbrev pub over_source : {A : Type 0} → Type 0 → (A → SourceState) → A → A → OverSource
 over_source tells seen old new = record { tells = tells; old = seen old; new = seen new }
@@ -38,6 +28,7 @@ over_sink tells seen old new = record { tells = tells; old = seen old; new = see
 pub record Around : Type 1 where
   pub words : List (List ℕ)
   pub book : OverSource
+  pub script : OverSource
   pub state : OverDisk
   pub out : OverSink
   pub err : OverSink

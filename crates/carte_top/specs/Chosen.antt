@@ -4,26 +4,15 @@ use Rattle.carte_value.specs.declared.kind.Kind.{Kind}
 use Rattle.carte_value.specs.declared.kind.Kind.TheVariants.{Rules, Sheet}
 use Rattle.carte_book.specs.Book.{Book}
 use Rattle.carte_book.specs.declared.fault.BookFault.{BookFault}
-use Rattle.carte_record.specs.declared.way.Way.TheVariants.{Verifying, Constructive, Deep}
 use Rattle.carte_rules.specs.Reading.{BookOf as RulesOf}
 use Rattle.carte_sheet.specs.Reading.{BookOf as SheetOf}
-use Rattle.carte_sound.specs.Held.{How, dirty, tracing}
-use Rattle.carte_words.specs.declared.words.Scheduler4.{Scheduler4}
-use Rattle.carte_words.specs.declared.words.Scheduler4.TheVariants as word
-use Rattle.carte_words.specs.declared.words.Rebuilder4.{Rebuilder4}
-use Rattle.carte_words.specs.declared.words.Rebuilder4.TheVariants as rebuilder
-use Rattle.carte_engine.specs.declared.scheduler.Scheduler.{Scheduler}
-use Rattle.carte_engine.specs.declared.scheduler.Scheduler.TheVariants.{Topological, Suspending}
+use Rattle.carte_words.specs.declared.words.Words.{Words as Asked}
+use Rattle.carte_shell.specs.declared.choices.Choices.{Choices}
+pub use Rattle.carte_shell.specs.Chosen.{scheduler_of, how_of}
 
-abbrev pub scheduler_of : Scheduler4 → Scheduler
-scheduler_of word.Topological = Topological
-scheduler_of word.Suspending = Suspending
-
-abbrev pub how_of : Rebuilder4 → How
-how_of rebuilder.Dirty = dirty
-how_of rebuilder.Verifying = tracing Verifying
-how_of rebuilder.Constructive = tracing Constructive
-how_of rebuilder.Deep = tracing Deep
+-- for all builds of a run
+abbrev pub choices_of : Asked → Choices
+choices_of w = record { scheduler = w.scheduler; rebuilder = w.rebuilder; list = w.list }
 
 -- the book that bytes are, or why they are none, by the kind of book
 abbrev pub BookOfKind : Kind → List ℕ → Result Book BookFault → Type 0

@@ -2,6 +2,7 @@
 use Rattle.std.specs.Prelude.{ℕ, ◌≡◌, ◌<◌, false, List, [], ◌∷◌, ◌++◌, Ok, Err}
 use Rattle.carte_value.specs.declared.kind.Kind.{Kind}
 use Rattle.carte_book.specs.Book.{Book}
+use Rattle.carte_book.specs.Reason.{AllClean, IsReason}
 use Rattle.carte_record.specs.declared.batch.Batch.{Batch}
 use Rattle.carte_record.specs.Empty.{is_empty}
 use Rattle.carte_record.specs.Kept.{SomeKept}
@@ -16,7 +17,7 @@ use Rattle.carte_engine.specs.declared.answer.Answer.{Answer}
 use Rattle.carte_engine.specs.Answers.{IsPlan}
 use Rattle.carte_engine.specs.Schedulers.{IsServed, IsRefusedFor}
 use Rattle.carte_report.specs.declared.status.Status.{Status}
-use Rattle.carte_report.specs.declared.status.Status.TheVariants.{Done, BookRefused, Usage, BuildRefused, ReadFault, WriteFault, DiskFault, BadState, StateFull, NoMemory}
+use Rattle.carte_report.specs.declared.status.Status.TheVariants.{Done, BookRefused, Usage, BuildRefused, ReadFault, WriteFault, DiskFault, BadState, StateFull, NoMemory, ScriptTooLong}
 use Rattle.carte_top.specs.Around.{OverSource, OverDisk}
 use Rattle.carte_top.specs.Chosen.{scheduler_of, how_of, BookOfKind}
 use Rattle.carte_top.specs.Found.{FitsIn, HasRoomFor, IsNeeded, IsClearing}
@@ -69,8 +70,23 @@ IsCleanDue limit d (BadState at) = IsBadNow limit d at
 IsCleanDue limit d (StateFull needed most) = IsKept limit d (λ K. AllOver limit d needed most (IsClearing K))
 IsCleanDue limit d _ = ⊥
 
+abbrev pub IsExplainDue : ℕ → Asked → OverSource → OverDisk → Status → Type 0
+IsExplainDue limit w s d Done = IsBook w.kind s (λ b. AllClean b w.targets × IsFound limit d b (λ K. Unit {0}))
+IsExplainDue limit w s d (BookRefused fault) = s.tells × BookOfKind w.kind s.old.left (Err fault)
+IsExplainDue limit w s d (BuildRefused reason) = IsBook w.kind s (λ b. IsReason b w.targets reason × IsFound limit d b (λ K. Unit {0}))
+IsExplainDue limit w s d (BadState at) = IsBook w.kind s (λ b. IsBadNow limit d at)
+IsExplainDue limit w s d _ = ⊥
+
+-- where no line is looked at
+abbrev pub IsSessionDue : ℕ → Asked → OverSource → OverDisk → Status → Type 0
+IsSessionDue limit w s d (BookRefused fault) = s.tells × BookOfKind w.kind s.old.left (Err fault)
+IsSessionDue limit w s d (BadState at) = IsBook w.kind s (λ b. IsBadNow limit d at)
+IsSessionDue limit w s d _ = ⊥
+
 abbrev pub IsDueFor : Command → ℕ → Asked → OverSource → OverDisk → Status → Type 0
 IsDueFor command.Build limit w s d due = IsBuildDue limit w s d due
+IsDueFor command.Session limit w s d due = IsSessionDue limit w s d due
+IsDueFor command.Explain limit w s d due = IsExplainDue limit w s d due
 IsDueFor command.Clean limit w s d due = IsCleanDue limit d due
 
 abbrev pub IsDue : ℕ → List (List ℕ) → OverSource → OverDisk → Status → Type 0

@@ -1,9 +1,10 @@
 -- What a run has found, and what a build has made of it.
-use Rattle.std.specs.Prelude.{ℕ, ◌≡◌, ◌⊎◌, ◌+◌, ◌<◌, ◌≤◌, nat_le, true, false, List, [], ◌∷◌, ◌++◌, codes, length, Ok, Err, if◌then◌else◌}
+use Rattle.std.specs.Prelude.{ℕ, ◌≡◌, ◌⊎◌, ◌+◌, ◌<◌, ◌≤◌, nat_le, true, false, List, [], ◌∷◌, ◌++◌, codes, length, map, Result, Ok, Err, if◌then◌else◌}
 use Rattle.carte_io.specs.Disk.{IsSettled, Moment}
 use Rattle.carte_journal.specs.Frames.{BodyAt, Ends, end_of, reading}
 use Rattle.carte_value.specs.declared.kind.Kind.{Kind}
 use Rattle.carte_book.specs.Book.{Book}
+use Rattle.carte_book.specs.Reason.{AllClean}
 use Rattle.carte_book.specs.declared.fault.BookFault.{BookFault}
 use Rattle.carte_book.specs.declared.fault.BookFault.TheVariants.{NoMemory as BookNoMemory}
 use Rattle.carte_record.specs.declared.batch.Batch.{Batch}
@@ -13,16 +14,24 @@ use Rattle.carte_record.specs.Empty.{is_empty}
 use Rattle.carte_record.specs.Folds.{apply}
 use Rattle.carte_record.specs.Kept.{SomeKept, nothing_kept}
 use Rattle.carte_sound.specs.LeadsTo.{empty_batch}
+use Rattle.carte_session.specs.Session.{IsSession}
+use Rattle.carte_session.specs.declared.end.SessionEnd.{SessionEnd}
 use Rattle.carte_state.specs.Folding.{Keeps}
+use Rattle.carte_state.specs.States.{IsLoaded, kept_in}
 use Rattle.carte_words.specs.declared.words.Words.{Words as Asked}
 use Rattle.carte_engine.specs.declared.answer.Answer.{Answer}
 use Rattle.carte_engine.specs.declared.answer.Answer.TheVariants as answer
 use Rattle.carte_engine.specs.declared.answer.Built.{Built}
 use Rattle.carte_engine.specs.Answers.{IsPlan, Under}
 use Rattle.carte_engine.specs.Schedulers.{KeepsBy}
+use Rattle.carte_explain.specs.declared.why.Why.{Why}
+use Rattle.carte_report.specs.Lines.{why_lines}
 use Rattle.carte_report.specs.Reply.{reply}
+use Rattle.carte_shell.specs.Answers.{Answers as AnswersLine, Ends as EndsAt}
+use Rattle.carte_shell.specs.Explained.{AreWhys}
+use Rattle.carte_shell.specs.Scenes.{Scene}
 use Rattle.carte_top.specs.Around.{OverSource, OverDisk, OverSink}
-use Rattle.carte_top.specs.Chosen.{scheduler_of, how_of, BookOfKind}
+use Rattle.carte_top.specs.Chosen.{scheduler_of, how_of, choices_of, BookOfKind}
 
 -- ---- the book
 
@@ -144,3 +153,33 @@ pub record ClearsNot (limit : ℕ) (d : OverDisk) (needed most : ℕ) (K : SomeK
   pub batch : Batch
   pub clearing : IsClearing K batch
   pub over : IsOver limit d batch needed most
+
+-- ---- the explanation
+
+-- each target has a clean value, and its line with the cause why a build would run it, or would not; the lines went to the sink
+pub record Explains (w : Asked) (k : OverSink) (Takes : OverSink → List ℕ → Type 0) (b : Book) (K : SomeKept) : Type 0 where
+  pub told : List (List ℕ × Why)
+  pub of_targets : map (λ t. t.0) told ≡ w.targets
+  pub whys : Under K b (AllClean b w.targets × AreWhys (how_of w.rebuilder) K b told)
+  pub takes : k.tells → Takes k (why_lines told)
+
+-- ---- the session
+
+-- what the first line finds: what the words choose, the book that was read, what was found to be kept, and the disk, on which nothing was written yet
+pub record Begins (limit : ℕ) (w : Asked) (d : OverDisk) (b : Book) (K : SomeKept) (m : Scene) : Type 0 where
+  pub choices : m.choices ≡ choices_of w
+  pub book : m.book ≡ b
+  pub keeps : kept_in m.stand ≡ K
+  pub limit_is : m.stand.journal.limit ≡ limit
+  pub loaded : d.tells → IsLoaded m.stand d.old.now.reads
+  pub story : d.tells → m.story ≡ d.old
+  pub faults : m.faults ≡ d.failed_before
+
+-- lines of the script were carried out, from the first one on, and their replies went to the sink; the end says which, and why no more were
+pub record Carries (limit : ℕ) (w : Asked) (c : OverSource) (d : OverDisk) (k : OverSink) (end : Result (Unit {0}) SessionEnd) (b : Book) (K : SomeKept) : Type 0 where
+  pub first : Scene
+  pub last : Scene
+  pub begins : Begins limit w d b K first
+  pub story : last.story ≡ d.new
+  pub faults : last.faults ≡ d.failed
+  pub goes : IsSession (AnswersLine d.tells) (EndsAt d.tells) first last c k 67108864 end

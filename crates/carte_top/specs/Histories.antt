@@ -1,11 +1,16 @@
 -- Runs of the program one after another over one state, each of which a crash may cut off at any moment.
-use Rattle.std.specs.Prelude.{ℕ, ◌≡◌, List, [], ◌∷◌, ◌++◌, Ok}
+use Rattle.std.specs.Prelude.{ℕ, ◌≡◌, ◌⊎◌, List, [], ◌∷◌, ◌++◌, Ok, Err}
 use Rattle.carte_io.specs.Disk.{IsImage, IsSettled, Moment, Story, moments}
 use Rattle.carte_io.specs.Streams.{SinkState, SourceState}
 use Rattle.carte_value.specs.Lists.{Has}
 use Rattle.carte_book.specs.Book.{Book}
+use Rattle.carte_session.specs.Lines.{lines_of}
+use Rattle.carte_shell.specs.Books.{AreBooks as AreBooksAt}
 use Rattle.carte_sound.specs.Base.{HasDistinctDigests}
 use Rattle.carte_words.specs.Words.{words_of}
+use Rattle.carte_value.specs.declared.kind.Kind.{Kind}
+use Rattle.carte_words.specs.declared.fault.WordsFault.{WordsFault}
+use Rattle.carte_words.specs.declared.words.Command.{Command}
 use Rattle.carte_words.specs.declared.words.Command.TheVariants as command
 use Rattle.carte_words.specs.declared.words.Words.{Words as Asked}
 use Rattle.carte_report.specs.declared.status.Status.{Status}
@@ -20,6 +25,8 @@ pub record Run : Type 0 where
   pub words : List (List ℕ)
   pub book : SourceState
   pub book_after : SourceState
+  pub script : SourceState
+  pub script_after : SourceState
   pub old : Story
   pub new : Story
   pub failed_before : ℕ
@@ -35,6 +42,7 @@ abbrev pub around_of : Run → Around
 around_of r = record {
   words = r.words;
   book = record { tells = Unit {0}; old = r.book; new = r.book_after };
+  script = record { tells = Unit {0}; old = r.script; new = r.script_after };
   state = record { tells = Unit {0}; old = r.old; new = r.new; failed_before = r.failed_before; failed = r.failed; same = r.new ≡ r.old };
   out = record { tells = Unit {0}; old = r.out; new = r.out_after };
   err = record { tells = Unit {0}; old = r.err; new = r.err_after };
@@ -55,11 +63,20 @@ pub record IsRunFrom (limit : ℕ) (file : List ℕ) (r : Run) : Type 0 where
   pub outcome : IsOutcome limit (around_of r) r.status
   pub left : IsLeft r.old r.new r.file
 
--- the books of a run: that of a build whose bytes are one, and else none
+-- the bytes are a book that has these behind it, or none, which has none
+abbrev pub HasBehind : Kind → List ℕ → (Book → List Book → Type 0) → List Book → Type 0
+HasBehind kind bytes Behind J = (((b : Book) → ¬ (BookOfKind kind bytes (Ok b))) × (J ≡ [])) ⊎ ((b : Book) × BookOfKind kind bytes (Ok b) × Behind b J)
+
+-- that of a build or an explanation; those at the lines of a session that build or explain, and edits stand between them
+abbrev pub AreBooksFor : Command → Asked → List ℕ → List ℕ → List Book → Type 0
+AreBooksFor command.Build w book script J = HasBehind w.kind book (λ b I. I ≡ b ∷ []) J
+AreBooksFor command.Session w book script J = HasBehind w.kind book (λ b I. (c : Book) × AreBooksAt b (lines_of script) I c) J
+AreBooksFor command.Explain w book script J = HasBehind w.kind book (λ b I. I ≡ b ∷ []) J
+AreBooksFor command.Clean w book script J = J ≡ []
+
+-- the books of a run
 abbrev pub AreBooks : Run → List Book → Type 0
-AreBooks r [] = (w : Asked) (b : Book) → words_of r.words ≡ Ok w → w.command ≡ command.Build → ¬ (BookOfKind w.kind r.book.left (Ok b))
-AreBooks r (b ∷ []) = Asks r.words (λ w. (w.command ≡ command.Build) × BookOfKind w.kind r.book.left (Ok b))
-AreBooks r (b ∷ c ∷ bs) = ⊥
+AreBooks r J = ((fault : WordsFault) × (words_of r.words ≡ Err fault) × (J ≡ [])) ⊎ Asks r.words (λ w. AreBooksFor w.command w r.book.left r.script.left J)
 
 -- runs from a file to a file, over these books
 abbrev pub AreRuns : ℕ → List ℕ → List Run → List Book → List ℕ → Type 0

@@ -1,5 +1,5 @@
 -- What the parts of a run have done.
-use Rattle.std.specs.Prelude.{ℕ, ◌≡◌, ◌⊎◌, ◌≤◌, Bool, true, false, List, length, Result, Ok, Err}
+use Rattle.std.specs.Prelude.{ℕ, ◌≡◌, ◌⊎◌, ◌≤◌, Bool, true, false, List, length, map, Result, Ok, Err}
 use Rattle.carte_io.specs.Causes.{Rose}
 use Rattle.carte_io.specs.Disk.{IsSettled, LeavesOnly}
 use Rattle.carte_io.specs.Streams.{Reads}
@@ -9,6 +9,7 @@ use Rattle.carte_journal.specs.declared.faults.LoadFault.{LoadFault}
 use Rattle.carte_journal.specs.declared.faults.LoadFault.TheVariants as load
 use Rattle.carte_value.specs.declared.kind.Kind.{Kind}
 use Rattle.carte_book.specs.Book.{Book, book_view}
+use Rattle.carte_book.specs.Reason.{AllClean, IsReason}
 use Rattle.carte_book.specs.declared.book.Book.{Book as CodeBook}
 use Rattle.carte_book.specs.declared.fault.BookFault.{BookFault}
 use Rattle.carte_book.specs.declared.fault.BookFault.TheVariants.{Limit, NoMemory as BookNoMemory}
@@ -21,17 +22,27 @@ use Rattle.carte_state.specs.Folding.{Keeps, IsBadState}
 use Rattle.carte_state.specs.States.{IsLoaded, Stand}
 use Rattle.carte_state.specs.declared.fault.ApplyFault.{ApplyFault}
 use Rattle.carte_state.specs.declared.fault.ApplyFault.TheVariants as applying
+use Rattle.carte_session.specs.Session.{IsSession}
+use Rattle.carte_session.specs.declared.end.SessionEnd.{SessionEnd}
+use Rattle.carte_shell.specs.Answers.{Answers as AnswersLine, Ends as EndsAt}
+use Rattle.carte_shell.specs.Explained.{AreWhys}
+use Rattle.carte_shell.specs.Scenes.{Scene}
+use Rattle.carte_sound.specs.Held.{How}
+use Rattle.carte_explain.specs.declared.why.Why.{Why}
+use Rattle.carte_report.specs.Lines.{why_lines}
 use Rattle.carte_words.specs.declared.fault.WordsFault.{WordsFault}
 use Rattle.carte_words.specs.declared.fault.WordsFault.TheVariants.{NoMemory as WordsNoMemory}
+use Rattle.carte_words.specs.declared.words.Command.TheVariants as command
 use Rattle.carte_words.specs.declared.words.Words.{Words as Asked}
+use Rattle.carte_engine.specs.Answers.{Under}
 use Rattle.carte_engine.specs.declared.answer.Answer.TheVariants as answer
 use Rattle.carte_report.specs.declared.status.Status.{Status}
-use Rattle.carte_report.specs.declared.status.Status.TheVariants.{Done, BookRefused, Usage, BuildRefused, ReadFault, WriteFault, DiskFault, BadState, StateFull, NoMemory}
-use Rattle.carte_top.specs.Around.{OverSource, OverDisk, OverSink, IsUnvisited, IsUntouched, TakesAll, TakesFront}
+use Rattle.carte_report.specs.declared.status.Status.TheVariants.{Done, BookRefused, Usage, BuildRefused, ReadFault, WriteFault, DiskFault, BadState, StateFull, NoMemory, ScriptTooLong}
+use Rattle.carte_top.specs.Around.{OverSource, OverDisk, OverSink, IsUnread, IsUnvisited, IsUntouched, TakesAll, TakesFront}
 use Rattle.carte_top.specs.Chosen.{BookOfKind}
-use Rattle.carte_top.specs.Found.{Holds, Refuses, Found, IsPut, IsOver, Commits, Replies, Overfills, IsClearing, Clears, ClearsNot}
-use Rattle.carte_top.specs.Outcome.{Asks, IsBad, IsSpared, Built, Cleaned, Does, Ran, TellsSource, TellsDisk, TellsSink}
-use Rattle.carte_top.specs.Sound.{IsStation, StaysAt, MayBuild, KeepsOn}
+use Rattle.carte_top.specs.Found.{Holds, Refuses, Found, IsPut, IsOver, Commits, Replies, Overfills, IsClearing, Clears, ClearsNot, HasBook, Explains, Carries}
+use Rattle.carte_top.specs.Outcome.{Asks, Explained, IsBad, IsSpared, Built, Cleaned, Does, Lacks, Ran, Sat, TellsEither, TellsSource, TellsSources, TellsDisk, TellsSink, status_of}
+use Rattle.carte_top.specs.Sound.{AreFirst, IsStation, StaysAt, StaysSound, MayBuild, KeepsOn, SessionStays}
 
 -- ---- the book
 
@@ -176,24 +187,92 @@ CleansWith limit K d k status = StateRun (CleanedWith limit K d k status) (Stays
 abbrev pub Cleans : ℕ → OverDisk → OverSink → Status → Type 0
 Cleans limit d k status = StateRun (Cleaned limit d k status) (StaysAt limit IsClearing d) d k status
 
+-- ---- an explanation
+
+-- the lines of an explanation
+abbrev pub AreToldWhys : How → SomeKept → Book → List (List ℕ) → List ℕ → Type 0
+AreToldWhys h K b targets text = (told : List (List ℕ × Why)) × (map (λ t. t.0) told ≡ targets) × (text ≡ why_lines told) × Under K b (AllClean b targets × AreWhys h K b told)
+
+-- lines, or the reason of a refusal
+abbrev pub ExplainedWith : Asked → Book → SomeKept → OverSink → Status → Type 0
+ExplainedWith w b K k Done = Explains w k TakesAll b K
+ExplainedWith w b K k (BuildRefused reason) = Under K b (IsReason b w.targets reason) × IsUntouched k
+ExplainedWith w b K k WriteFault = Explains w k TakesFront b K
+ExplainedWith w b K k NoMemory = IsUntouched k
+ExplainedWith w b K k status = ⊥
+
+abbrev pub ExplainedOver : ℕ → Asked → Book → OverDisk → OverSink → Status → Type 0
+ExplainedOver limit w b d k Done = Found limit d (Explains w k TakesAll b)
+ExplainedOver limit w b d k (BuildRefused reason) = Found limit d (λ K. Under K b (IsReason b w.targets reason)) × IsUntouched k
+ExplainedOver limit w b d k WriteFault = Found limit d (Explains w k TakesFront b)
+ExplainedOver limit w b d k DiskFault = IsUntouched k
+ExplainedOver limit w b d k (BadState offset) = IsBad limit d offset × IsUntouched k
+ExplainedOver limit w b d k NoMemory = IsUntouched k
+ExplainedOver limit w b d k status = ⊥
+
+pub record ExplainsWith (w : Asked) (b : Book) (K : SomeKept) (k : OverSink) (status : Status) : Type 0 where
+  pub did : ExplainedWith w b K k status
+  pub sink : TellsSink k status
+
+-- over a disk
+abbrev pub TellsOver : ℕ → Asked → Book → OverDisk → OverSink → Status → Type 0
+TellsOver limit w b d k status = StateRun (ExplainedOver limit w b d k status) (IsSpared d) d k status
+
+-- ---- a session
+
+-- lines were carried out over a shell and a disk
+pub record Serves (m m' : Scene) (tells : Type 0) (c : OverSource) (k : OverSink) (status : Status) : Type 0 where
+  pub end : Result (Unit {0}) SessionEnd
+  pub status_is : status ≡ status_of end
+  pub goes : IsSession (AnswersLine tells) (EndsAt tells) m m' c k 67108864 end
+
+-- no line was looked at, since there is no state to look at
+abbrev pub LacksState : ℕ → OverDisk → Status → Type 0
+LacksState limit d DiskFault = Unit {0}
+LacksState limit d (BadState offset) = IsBad limit d offset
+LacksState limit d NoMemory = Unit {0}
+LacksState limit d status = ⊥
+
+-- over a disk, with the book that was read
+abbrev pub SatOver : ℕ → Asked → Book → OverSource → OverDisk → OverSink → Status → Type 0
+SatOver limit w b c d k status = (LacksState limit d status × IsSpared d × IsUntouched k × IsUnread c)
+    ⊎ ((end : Result (Unit {0}) SessionEnd) × (status ≡ status_of end) × Found limit d (Carries limit w c d k end b))
+
+-- what a crash leaves of its disk
+abbrev pub SessionStaysOver : ℕ → Book → OverSource → OverDisk → Type 0
+SessionStaysOver limit b c d = (J : List Book) × AreFirst c b J × StaysSound limit J d
+
+pub record SitsOver (limit : ℕ) (w : Asked) (b : Book) (c : OverSource) (d : OverDisk) (k : OverSink) (status : Status) : Type 0 where
+  pub did : SatOver limit w b c d k status
+  pub stays : SessionStaysOver limit b c d
+  pub source : TellsSource c status
+  pub disk : TellsDisk d status
+  pub sink : TellsSink k status
+
 -- ---- a run over a book and a state
 
-pub record RunOf (Did Visited : Type 0) (s : OverSource) (d : OverDisk) (k : OverSink) (status : Status) : Type 0 where
+pub record RunOf (Did Visited Told : Type 0) (s : OverSource) (d : OverDisk) (k : OverSink) (status : Status) : Type 0 where
   pub did : Did
   pub read : ReadsEnough s
   pub visits : IsUnvisited d ⊎ Visited
-  pub source : TellsSource s status
+  pub source : Told
   pub disk : TellsDisk d status
   pub sink : TellsSink k status
 
 abbrev pub Builds : ℕ → Asked → OverSource → OverDisk → OverSink → Status → Type 0
-Builds limit w s d k status = RunOf (Built limit w s d k status) (Holds w.kind s (λ b. StaysAt limit (MayBuild w b) d)) s d k status
+Builds limit w s d k status = RunOf (Built limit w s d k status) (Holds w.kind s (λ b. StaysAt limit (MayBuild w b) d)) (TellsSource s status) s d k status
 
-abbrev pub Runs : ℕ → Asked → OverSource → OverDisk → OverSink → Status → Type 0
-Runs limit w s d k status = RunOf (Does w.command limit w s d k status) (KeepsOn limit w s d) s d k status
+abbrev pub Tells : ℕ → Asked → OverSource → OverDisk → OverSink → Status → Type 0
+Tells limit w s d k status = RunOf (Explained limit w s d k status × IsSpared d) (HasBook w.kind s × IsSpared d) (TellsSource s status) s d k status
 
-abbrev pub IsRun : ℕ → List (List ℕ) → OverSource → OverDisk → OverSink → Status → Type 0
-IsRun limit words s d k status = RunOf (Ran limit words s d k status) (Asks words (λ w. KeepsOn limit w s d)) s d k status
+abbrev pub Sits : ℕ → Asked → OverSource → OverSource → OverDisk → OverSink → Status → Type 0
+Sits limit w s c d k status = RunOf (Sat limit w s c d k status) (SessionStays limit w s c d) (TellsEither s c status (Unit {0})) s d k status
+
+abbrev pub Runs : ℕ → Asked → OverSource → OverSource → OverDisk → OverSink → Status → Type 0
+Runs limit w s c d k status = RunOf (Does w.command limit w s c d k status) (KeepsOn w.command limit w s c d) (TellsEither s c status (w.command ≡ command.Session)) s d k status
+
+abbrev pub IsRun : ℕ → List (List ℕ) → OverSource → OverSource → OverDisk → OverSink → Status → Type 0
+IsRun limit words s c d k status = RunOf (Ran limit words s c d k status) (Asks words (λ w. KeepsOn w.command limit w s c d)) (TellsSources words s c status) s d k status
 
 -- ---- what is written
 

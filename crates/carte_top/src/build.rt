@@ -9,7 +9,7 @@ ghost use Rattle.carte_top.specs.Found.{reply_to};
 ghost use Rattle.carte_top.specs.Running.{Builds, BuildsOver, BuildsWith, Settles};
 
 use crate::book::load_book;
-use crate::chosen::plan;
+use crate::chosen::choices_of;
 use crate::commit::{commit, load_state};
 use crate::say::print;
 use carte_book::Book;
@@ -17,6 +17,7 @@ use carte_engine::{Answer, Built, Engine, Plan};
 use carte_io::{Disk, Sink, Source};
 use carte_record::Batch;
 use carte_report::{Status, reply};
+use carte_shell::plan;
 use carte_words::Words;
 use std::alloc::Global;
 
@@ -73,7 +74,13 @@ fn build_with<D: Disk, O: Sink>(
         (over_sink O.tells O.state out.old out.new)
         result }
 {
-    let Plan { batch, answer } = match plan(alloc, asked, engine, book) {
+    let Plan { batch, answer } = match plan(
+        alloc,
+        choices_of(asked),
+        engine,
+        book,
+        &asked.targets,
+    ) {
         Ok(plan) => plan,
         Err(_) => return Status::NoMemory,
     };

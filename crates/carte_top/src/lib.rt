@@ -27,9 +27,12 @@ mod build;
 mod chosen;
 mod clean;
 mod commit;
+mod explain;
 mod laws;
 mod say;
+mod session;
 mod top;
+mod whys;
 
 pub use carte_report::Status;
 pub use carte_words::{Command, Word, Words, WordsFault, read_words};

@@ -5,22 +5,26 @@ ghost use Rattle.carte_top.specs.Whole.{IsOutcome};
 
 use crate::build::build;
 use crate::clean::clean;
+use crate::explain::explain;
 use crate::say::report;
+use crate::session::session;
 use carte_io::{Disk, Sink, Source};
 use carte_report::Status;
 use carte_words::{Command, Word, Words, WordsFault, read_words};
 use std::alloc::Global;
 
 /// All that the program does: reads the command in the words; builds the targets over the book and what the state's disk
-/// keeps, or clears the state; commits what was made; writes the reply to `out`, and where something went wrong one line
-/// to `err`.
+/// keeps, or tells why they would run, or carries out the lines of the script, or clears the state; commits what was made;
+/// writes the reply to `out`, and where something went wrong one line to `err`.
 ///
 /// The book is read to its end, where it has at most 16,777,216 bytes, and for `clean` not at all. The state is limited to
-/// 268,435,456 bytes. No call of the disk is made before the words and the book were read.
-pub fn carte<B: Source, D: Disk, O: Sink, E: Sink>(
+/// 268,435,456 bytes. No call of the disk is made before the words and the book were read. The script is read by a session
+/// alone, behind the book and the state, up to 67,108,864 bytes.
+pub fn carte<B: Source, S: Source, D: Disk, O: Sink, E: Sink>(
     alloc: Global,
     words: &[Word],
     book: &mut B,
+    script: &mut S,
     state: &mut D,
     out: &mut O,
     err: &mut E,
@@ -29,31 +33,34 @@ pub fn carte<B: Source, D: Disk, O: Sink, E: Sink>(
         (record {
           words = words.now;
           book = over_source B.tells B.state book.old book.new;
+          script = over_source S.tells S.state script.old script.new;
           state = over_disk D.tells D.story D.faults state.old state.new;
           out = over_sink O.tells O.state out.old out.new;
           err = over_sink E.tells E.state err.old err.new;
         })
         result }
 {
-    let status = run(alloc, words, book, state, out);
+    let status = run(alloc, words, book, script, state, out);
     report(alloc, err, status)
 }
 
-fn run<B: Source, D: Disk, O: Sink>(
+fn run<B: Source, S: Source, D: Disk, O: Sink>(
     alloc: Global,
     words: &[Word],
     book: &mut B,
+    script: &mut S,
     state: &mut D,
     out: &mut O,
 ) -> Status
     ensures { IsRun 268435456 words.now
         (over_source B.tells B.state book.old book.new)
+        (over_source S.tells S.state script.old script.new)
         (over_disk D.tells D.story D.faults state.old state.new)
         (over_sink O.tells O.state out.old out.new)
         result }
 {
     match read_words(alloc, words) {
-        Ok(asked) => command(alloc, &asked, book, state, out),
+        Ok(asked) => command(alloc, &asked, book, script, state, out),
         Err(fault) => usage(fault),
     }
 }
@@ -67,21 +74,25 @@ fn usage(fault: WordsFault) -> Status
     }
 }
 
-fn command<B: Source, D: Disk, O: Sink>(
+fn command<B: Source, S: Source, D: Disk, O: Sink>(
     alloc: Global,
     asked: &Words,
     book: &mut B,
+    script: &mut S,
     state: &mut D,
     out: &mut O,
 ) -> Status
     ensures { Runs 268435456 asked.now
         (over_source B.tells B.state book.old book.new)
+        (over_source S.tells S.state script.old script.new)
         (over_disk D.tells D.story D.faults state.old state.new)
         (over_sink O.tells O.state out.old out.new)
         result }
 {
     match asked.command {
         Command::Build => build(alloc, asked, book, state, out),
+        Command::Session => session(alloc, asked, book, script, state, out),
+        Command::Explain => explain(alloc, asked, book, state, out),
         Command::Clean => clean(alloc, state, out),
     }
 }

@@ -17,16 +17,25 @@ fn failing(
     line: u64,
 ) -> Result<String, Fail> {
     let mut book = MemSource::of(alloc, SUMS.as_bytes(), &[read])?;
+    let mut script = MemSource::of(alloc, b"", &[1])?;
     let mut state = MemDisk::of(alloc, &[], &[disk])?;
     let mut out = MemSink::new(alloc, 8, &[write])?;
     let mut err = MemSink::new(alloc, 8, &[line])?;
-    let code = code_of(alloc, words, &mut book, &mut state, &mut out, &mut err)?;
+    let code = code_of(
+        alloc,
+        words,
+        &mut book,
+        &mut script,
+        &mut state,
+        &mut out,
+        &mut err,
+    )?;
     let out = str::from_utf8(out.bytes())?;
     let err = str::from_utf8(err.bytes())?;
     Ok(format!(in alloc; "{code}\n{out}{err}")?)
 }
 
-/// The reply of 39 bytes takes five calls of at most eight bytes, and the call that hands it on.
+/// The script's first read fails. The reply of 39 bytes takes five calls of at most eight bytes, and the call that hands it on.
 #[test]
 fn each_call_may_fail(rt: HostRuntime) -> Result<(), Fail> {
     let build = "build b s total";
@@ -50,6 +59,9 @@ fn each_call_may_fail(rt: HostRuntime) -> Result<(), Fail> {
         (build, 3, 0, 7, 1, "0\n", whole),
         ("build b s", 1, 1, 1, 2, "2\n", "carte: u"),
         ("clean b s", 1, 0, 0, 1, "0\n", "cleaned\n"),
+        ("explain b s total", 0, 0, 1, 0, "5\n", ""),
+        ("session b s", 3, 0, 0, 0, "4\n", "carte: a read failed\n"),
+        ("session b s", 1, 0, 0, 0, "4\n", "carte: a read failed\n"),
     ];
     for (words, read, disk, write, line, code, said) in cases.iter() {
         let text = failing(rt.alloc(), words, *read, *disk, *write, *line)?;

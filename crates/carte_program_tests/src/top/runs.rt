@@ -14,30 +14,54 @@ fn words_of(alloc: Global, text: &str) -> Result<Vec<Word>, Fail> {
     Ok(words)
 }
 
-pub(crate) fn code_of<B: Source, D: Disk, O: Sink, E: Sink>(
+pub(crate) fn code_of<B: Source, S: Source, D: Disk, O: Sink, E: Sink>(
     alloc: Global,
     words: &str,
     book: &mut B,
+    script: &mut S,
     state: &mut D,
     out: &mut O,
     err: &mut E,
 ) -> Result<u8, Fail> {
     let words = words_of(alloc, words)?;
-    let status = carte(alloc, words.as_slice(), book, state, out, err);
+    let status = carte(alloc, words.as_slice(), book, script, state, out, err);
     Ok(status.code())
 }
 
-/// The exit status, a line feed, and what stands on both outputs.
+/// The exit status, a line feed, and what stands on both outputs. The first read of a script fails.
 pub(crate) fn shown(
     alloc: Global,
     words: &str,
     book: &str,
     state: &mut MemDisk,
 ) -> Result<String, Fail> {
+    let mut script = MemSource::of(alloc, b"clean", &[1])?;
+    with_script(alloc, words, book, &mut script, state)
+}
+
+/// The same of a session.
+pub(crate) fn said(
+    alloc: Global,
+    words: &str,
+    book: &str,
+    script: &str,
+    state: &mut MemDisk,
+) -> Result<String, Fail> {
+    let mut script = MemSource::of(alloc, script.as_bytes(), &[])?;
+    with_script(alloc, words, book, &mut script, state)
+}
+
+fn with_script(
+    alloc: Global,
+    words: &str,
+    book: &str,
+    script: &mut MemSource,
+    state: &mut MemDisk,
+) -> Result<String, Fail> {
     let mut book = MemSource::of(alloc, book.as_bytes(), &[])?;
     let mut out = MemSink::new(alloc, 4096, &[])?;
     let mut err = MemSink::new(alloc, 4096, &[])?;
-    let code = code_of(alloc, words, &mut book, state, &mut out, &mut err)?;
+    let code = code_of(alloc, words, &mut book, script, state, &mut out, &mut err)?;
     let out = str::from_utf8(out.bytes())?;
     let err = str::from_utf8(err.bytes())?;
     Ok(format!(in alloc; "{code}\n{out}{err}")?)

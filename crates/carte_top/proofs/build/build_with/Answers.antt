@@ -25,7 +25,7 @@ returns-in-Built g c =
     let w = c.args.asked.now in
     let b = book_view c.args.book.now in
     let p = c.in-Ok.plan in
-    built_with e.journal.limit w b (kept_in e) p.batch c.in-Built.built (answers_so w b (kept_in e) p (answer.Built c.in-Built.built) c.in-Built.is c.in-Ok.ensures.plans)
+    built_with e.journal.limit w b (kept_in e) p.batch c.in-Built.built (answers_so w c.choices_of.result c.choices_of.ensures b (kept_in e) p (answer.Built c.in-Built.built) c.in-Built.is c.in-Ok.ensures.plans)
     (over_disk g.D.Disk.tells g.D.Disk.story g.D.Disk.faults c.args.state.now c.settle.new.state)
     (over_sink g.O.Sink.tells g.O.Sink.state c.args.out.now c.settle.new.out) c.settle.result c.settle.ensures
 
@@ -35,7 +35,7 @@ returns-in-Ok-commit g c =
     let w = c.args.asked.now in
     let b = book_view c.args.book.now in
     let p = c.in-Ok.plan in
-    let answers = answers_so w b (kept_in e) p (answer.Refused c.in-Refused.reason) c.in-Refused.is c.in-Ok.ensures.plans in
+    let answers = answers_so w c.choices_of.result c.choices_of.ensures b (kept_in e) p (answer.Refused c.in-Refused.reason) c.in-Refused.is c.in-Ok.ensures.plans in
     let d = over_disk g.D.Disk.tells g.D.Disk.story g.D.Disk.faults c.args.state.now c.commit.new.state in
     record {
       did = (record { batch = p.batch; answers = answers; put = c.in-Ok-commit.ensures.put }, (refl, refl, refl));
@@ -50,7 +50,7 @@ returns g c =
     let w = c.args.asked.now in
     let b = book_view c.args.book.now in
     let p = c.in-Ok.plan in
-    let answers = answers_so w b (kept_in e) p (answer.Refused c.in-Refused.reason) c.in-Refused.is c.in-Ok.ensures.plans in
+    let answers = answers_so w c.choices_of.result c.choices_of.ensures b (kept_in e) p (answer.Refused c.in-Refused.reason) c.in-Refused.is c.in-Ok.ensures.plans in
     let d = over_disk g.D.Disk.tells g.D.Disk.story g.D.Disk.faults c.args.state.now c.commit.new.state in
     let k = over_sink g.O.Sink.tells g.O.Sink.state c.args.out.now c.args.out.now in
     record {

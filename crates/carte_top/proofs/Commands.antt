@@ -1,0 +1,41 @@
+-- What was done for each command.
+use Rattle.std.proofs.Common.{◌≡◌, ℕ, refl, sym, subst, inl, inr, ◌⊎◌}
+use Rattle.carte_words.specs.declared.words.Command.{Command}
+use Rattle.carte_words.specs.declared.words.Command.TheVariants as command
+use Rattle.carte_words.specs.declared.words.Words.{Words as Asked}
+use Rattle.carte_report.specs.declared.status.Status.{Status}
+use Rattle.carte_report.specs.declared.status.Status.TheVariants.{ReadFault}
+use Rattle.carte_top.specs.Around.{OverSource, OverDisk, OverSink, IsUnread}
+use Rattle.carte_top.specs.Outcome.{Cleaned, Does, TellsEither, TellsSource}
+use Rattle.carte_top.specs.Running.{Builds, Cleans, ReadsEnough, RunOf, Runs, Sits, Tells}
+use Rattle.carte_top.specs.Sound.{KeepsOn}
+
+module _ (limit : ℕ) (w : Asked) (s c : OverSource) (d : OverDisk) (k : OverSink) (status : Status) where
+  abbrev For : Command → Type 0
+  For to = RunOf (Does to limit w s c d k status) (KeepsOn to limit w s c d) (TellsEither s c status (w.command ≡ command.Session)) s d k status
+
+  run_for : (to : Command) → w.command ≡ to → For to → Runs limit w s c d k status
+  run_for to is run = subst For (sym is) run
+
+  pub for_build : w.command ≡ command.Build → IsUnread c → Builds limit w s d k status → Runs limit w s c d k status
+  for_build is unread run =
+      run_for command.Build is (record { did = run.did; read = run.read; visits = run.visits; source = inl (run.source, unread); disk = run.disk; sink = run.sink })
+
+  pub for_explain : w.command ≡ command.Explain → IsUnread c → Tells limit w s d k status → Runs limit w s c d k status
+  for_explain is unread run =
+      run_for command.Explain is (record { did = run.did; read = run.read; visits = run.visits; source = inl (run.source, unread); disk = run.disk; sink = run.sink })
+
+  pub for_session : w.command ≡ command.Session → Sits limit w s c d k status → Runs limit w s c d k status
+  for_session is run = run_for command.Session is (record { did = run.did; read = run.read; visits = run.visits; source = told run.source; disk = run.disk; sink = run.sink })
+    where
+      told : TellsEither s c status (Unit {0}) → TellsEither s c status (w.command ≡ command.Session)
+      told (inl alone) = inl alone
+      told (inr (u, same, tells)) = inr (is, same, tells)
+
+  alone : (to : Status) → Cleaned limit d k to → s.new.faults ≡ s.old.faults → TellsSource s to
+  alone ReadFault did same = absurd did
+  alone to did same = same
+
+  pub for_clean : w.command ≡ command.Clean → IsUnread s → IsUnread c → ReadsEnough s → Cleans limit d k status → Runs limit w s c d k status
+  for_clean is unread still read run =
+      run_for command.Clean is (record { did = (unread, run.did); read = read; visits = inr run.stays; source = inl (alone status run.did unread.1, still); disk = run.disk; sink = run.sink })

@@ -1,0 +1,98 @@
+// The lines of a script, carried out one after another.
+ghost use Rattle.std.specs.Prelude.{◌≡◌, false, Err};
+ghost use Rattle.carte_book.specs.Book.{book_view};
+ghost use Rattle.carte_shell.specs.Scenes.{scene};
+ghost use Rattle.carte_top.specs.Around.{over_source, over_disk, over_sink};
+ghost use Rattle.carte_top.specs.Outcome.{status_of};
+ghost use Rattle.carte_top.specs.Running.{Serves, Sits, SitsOver};
+
+use crate::book::load_book;
+use crate::chosen::choices_of;
+use crate::commit::load_state;
+use carte_book::Book;
+use carte_io::{Disk, Sink, Source};
+use carte_report::Status;
+use carte_session::{SessionEnd, StepEnd, run_session};
+use carte_shell::Shell;
+use carte_words::Words;
+use std::alloc::Global;
+
+const MOST_SCRIPT: usize = 67108864;
+
+/// Carries out the lines of the script over the book and the state of the words. Edits of the book stay in memory.
+pub(crate) fn session<B: Source, S: Source, D: Disk, O: Sink>(
+    alloc: Global,
+    asked: &Words,
+    source: &mut B,
+    script: &mut S,
+    state: &mut D,
+    out: &mut O,
+) -> Status
+    ensures { Sits 268435456 asked.now
+        (over_source B.tells B.state source.old source.new)
+        (over_source S.tells S.state script.old script.new)
+        (over_disk D.tells D.story D.faults state.old state.new)
+        (over_sink O.tells O.state out.old out.new)
+        result }
+{
+    match load_book(alloc, asked.kind, source) {
+        Ok(book) => session_over(alloc, asked, book, script, state, out),
+        Err(status) => status,
+    }
+}
+
+fn session_over<S: Source, D: Disk, O: Sink>(
+    alloc: Global,
+    asked: &Words,
+    book: Book,
+    script: &mut S,
+    state: &mut D,
+    out: &mut O,
+) -> Status
+    ensures { SitsOver 268435456 asked.now (book_view book)
+        (over_source S.tells S.state script.old script.new)
+        (over_disk D.tells D.story D.faults state.old state.new)
+        (over_sink O.tells O.state out.old out.new)
+        result }
+{
+    match load_state(alloc, state) {
+        Ok(engine) => {
+            let mut shell = Shell::new(choices_of(asked), book, engine);
+            session_with(alloc, &mut shell, script, state, out)
+        }
+        Err(status) => status,
+    }
+}
+
+fn session_with<S: Source, D: Disk, O: Sink>(
+    alloc: Global,
+    shell: &mut Shell,
+    script: &mut S,
+    state: &mut D,
+    out: &mut O,
+) -> Status
+    requires whole { shell.old.engine.journal.broken ≡ false }
+    ensures { Serves (scene D.story D.faults (shell.old, state.old)) (scene D.story D.faults (shell.new, state.new)) D.tells
+        (over_source S.tells S.state script.old script.new)
+        (over_sink O.tells O.state out.old out.new)
+        result }
+{
+    match run_session(alloc, script, shell, state, out, MOST_SCRIPT) {
+        Ok(()) => Status::Done,
+        Err(end) => ended(end),
+    }
+}
+
+fn ended(end: SessionEnd) -> Status
+    ensures { result ≡ status_of (Err end) }
+{
+    match end {
+        SessionEnd::ReadFault => Status::ReadFault,
+        SessionEnd::WriteFault => Status::WriteFault,
+        SessionEnd::TooLong => Status::ScriptTooLong,
+        SessionEnd::NoMemory => Status::NoMemory,
+        SessionEnd::Machine(StepEnd::DiskFault) => Status::DiskFault,
+        SessionEnd::Machine(StepEnd::StateFull(needed, limit)) => Status::StateFull(needed, limit),
+        SessionEnd::Machine(StepEnd::NoMemory) => Status::NoMemory,
+    }
+}
