@@ -50,7 +50,7 @@ set_same : (b : Book) (k : List ℕ) (v : Value) → IsSettable b k → rules_di
 set_same b k v settable =
     let none = no_rule (get b.items k) (default_of b.kind k) settable.0.0 settable.0.1 in
     let rules : rules_of (with_item b k (input v)) ≡ rules_of b =
-        ap rules_among (entries-insert nat_list_cmp_total b.items k (input v)) ∙ put_input k v (entries b.items) (subst NoRule (get-entries b.items k) none) in
+    ap rules_among (entries-insert nat_list_cmp_total b.items k (input v)) ∙ put_input k v (entries b.items) (subst NoRule (get-entries b.items k) none) in
     rw rules
 
 -- whatever comes of it

@@ -12,6 +12,6 @@ loop-word-preserved c =
     let words = c.args.words.now in
     let next : drop at words ≡ get_or words at _ ∷ drop (at + 1) words = simp unary_clauses (drop-cons words at _ c.loop-word-test.true) in
     ap (λ ns. put_before ns (names_in c.args.kind (texts (drop (at + 1) words)))) c.in_default.ensures
-      ∙ put_next c.args.kind c.loop-word.names _ c.in_ok-name.name _ c.in_ok-name.ensures
-      ∙ ap (λ ts. put_before c.loop-word.names (names_in c.args.kind ts)) (sym (ap texts next))
-      ∙ c.loop-word.invariant
+    ∙ put_next c.args.kind c.loop-word.names _ c.in_ok-name.name _ c.in_ok-name.ensures
+    ∙ ap (λ ts. put_before c.loop-word.names (names_in c.args.kind ts)) (sym (ap texts next))
+    ∙ c.loop-word.invariant
