@@ -367,8 +367,9 @@ def long_scripts(runs):
     runs.put("p.csv", "10,=A1+A2\n20,=B1*2\n")
     script = b"build B2\n" + 67_108_856 * b"#"
     runs.same("of 67,108,865 bytes", run(runs, ["session", "p.csv", "rows"], script), (10, b"B2 = 60\nran 2, given up 0, reused 0\n", TOO_LONG))
-    runs.same("a last line that is cut at the limit isn't carried out", run(runs, session, b"\n" * (MOST_SCRIPT - 5) + b"clean#"), (10, b"", TOO_LONG))
-    runs.same("and one that ends there is", run(runs, session, b"\n" * (MOST_SCRIPT - 5) + b"clean"), (0, b"cleaned\n", b""))
+    comment = b"#" * (MOST_SCRIPT - 6) + b"\n"
+    runs.same("a last line that is cut at the limit isn't carried out", run(runs, session, comment + b"clean#"), (10, b"", TOO_LONG))
+    runs.same("and one that ends there is", run(runs, session, comment + b"clean"), (0, b"cleaned\n", b""))
     text = b"x" * 65_536
     lines = b'set a "%s"\nbuild a\nset a "%sx"\n' % (text, text)
     runs.same("the longest text", run(runs, session, lines), (0, b'set a\na = "%s"\nran 0, given up 0, reused 0\nline 3: not understood\n' % text, b""))
