@@ -2,8 +2,9 @@
 
 It shares no code with the program. `build` gives the reply or the refusal, the rules that ran, and what is kept
 afterwards, for the schedulers `topological` and `suspending` and the rebuilders `dirty`, `verifying`,
-`constructive` and `deep`; `why` gives the cause why a build would run a name, or would not. A book is its inputs and its rules, as `reference.read_book` or `sheets.read_sheet` gives
-them; in a sheet every other cell is an input that is empty.
+`constructive` and `deep`; `why` gives the cause why a build would run a name, or would not. A book is its inputs and
+its rules, as `reference.read_book` or `sheets.read_sheet` gives them; in a sheet every other cell is an input that is
+empty.
 """
 import copy
 import hashlib

@@ -24,6 +24,7 @@ case $1 in
 version) echo "${TOOLCHAIN:-stand-in 1}" ;;
 lib)
   [ -z "${SLOW:-}" ] || sleep "$SLOW"
+  cat >/dev/null
   grep -q wrong src/lib.rt && echo "src/lib.rt is wrong" && exit 1
   if [ -n "${EDIT:-}" ] && [ -e "$EDIT" ]; then mv "$EDIT" ../carte/src/main.rt; fi
   exit 0 ;;
@@ -32,7 +33,8 @@ run)
   rm -f out/carte
   { echo '#!/bin/sh'
     echo '[ $# -gt 0 ] || { echo "carte: usage: the words are no command" >&2; exit 2; }'
-    echo "echo built of $(cat src/main.rt): \"\$@\""; } >out/carte
+    echo "echo built of $(cat src/main.rt): \"\$@\""
+    echo '[ "$1" != session ] || cat'; } >out/carte
   chmod +x out/carte
   out/carte ;;
 ci) mkdir -p crates/carte/out; (cd crates/carte && "$0" run 2>/dev/null); exit "${GATE:-0}" ;;
@@ -73,7 +75,8 @@ class House:
         top = top or self.top
         if words[0] == "carte" or str(words[0]).startswith(".ci/"):
             words = [top / words[0], *words[1:]]
-        done = subprocess.run(words, cwd=cwd or self.folder, env=env, stdin=subprocess.DEVNULL, capture_output=True, timeout=60, **how)
+        how = how if "input" in how else {"stdin": subprocess.DEVNULL, **how}
+        done = subprocess.run(words, cwd=cwd or self.folder, env=env, capture_output=True, timeout=60, **how)
         return done.returncode, done.stdout.decode(), done.stderr.decode()
 
     def built(self):
@@ -113,6 +116,9 @@ def calls(house):
     house.says("by a name on the path", False, "one", "bash", "-c", 'PATH=$PATH:$PWD; builder "a word"')
     house.same("a word with a blank, none, and a star", house.run("carte", "a  b", "", "*")[1], "built of one: a  b  *\n")
     house.same("without a word", house.run("carte"), (2, "", "carte: usage: the words are no command\n"))
+    (house.top / "crates/carte/out/carte").unlink()
+    for what in ("a script at the first call", "a script at the next call"):
+        house.same(what, house.run("carte", "session", input=b"a line\n")[:2], (0, "built of one: session\na line\n"))
     slow = house.run(".ci/build", env={"SLOW": "2.5"})
     house.same("a slow crate is named", "carte: proving carte_value, 1 of 2\n" in slow[2], True)
 
