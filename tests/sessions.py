@@ -179,6 +179,15 @@ class Piped:
             found += piece
         return found
 
+    def is_answered(self, runs, what, line, wanted):
+        """Writes a line; whether just the wanted reply came. Else the session is killed, since it may never come."""
+        self.write(line)
+        got = self.read(len(wanted))
+        runs.same(f"{what}, {line}", got, wanted)
+        if got != wanted:
+            self.kill()
+        return got == wanted
+
     def is_silent(self):
         return not select.select([self.process.stdout], [], [], 0.01)[0]
 
@@ -207,9 +216,8 @@ def piped(runs, seed):
         session = Piped(runs, ["session", history.file, f"pipe{number}"])
         for at in range(1, 21):
             line = lines.line()
-            wanted = shell.reply(at, line)
-            session.write(line)
-            runs.same(f"line {at} over a pipe, {line}", session.read(len(wanted)), wanted)
+            if not session.is_answered(runs, f"line {at} over a pipe", line, shell.reply(at, line)):
+                return
         runs.same("nothing behind the last reply", session.is_silent(), True)
         runs.same("the end of a pipe", session.end(), (b"", 0))
 
@@ -239,9 +247,8 @@ def killed(runs, count, seed):
         session = Piped(runs, ["session", history.file, state])
         for at in range(1, chance.randint(2, 12)):
             line = lines.line()
-            wanted = shell.reply(at, line)
-            session.write(line)
-            runs.same(f"line {at} before a kill, {line}", session.read(len(wanted)), wanted)
+            if not session.is_answered(runs, f"line {at} before a kill", line, shell.reply(at, line)):
+                return
         stations = [shell.kept]
         if number % 2:
             line = b"build " + b" ".join(history.targets())
