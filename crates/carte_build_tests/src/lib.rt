@@ -19,8 +19,6 @@ mod dirty;
 #[cfg(test)]
 mod engine;
 #[cfg(test)]
-mod explain;
-#[cfg(test)]
 mod mark;
 #[cfg(test)]
 mod note;
