@@ -1,5 +1,7 @@
 -- The bytes that are hashed, rule by rule.
-use Rattle.std.proofs.Common.{◌≡◌, ℕ, List, [], ◌∷◌, ◌++◌, ap, sym, ◌∙◌, append_assoc}
+use Rattle.std.proofs.Common.{◌≡◌, ℕ, List, [], ◌∷◌, ◌++◌, Global, ap, sym, ◌∙◌, append_assoc}
+use Rattle.std.specs.declared.sync.Arc.{Arc}
+use Rattle.std.specs.Arc.{arc_value}
 use Rattle.std.specs.BTreeMap as tree
 use Rattle.sha2.specs.Hashers.{Holds256}
 use Rattle.sha2.specs.declared.Sha256.{Sha256}
@@ -37,12 +39,12 @@ fed_input b h rest left k v is fed = record {
   whole = rw is at fed.whole;
 }
 
-pub fed_rule : (b : CodeBook) (h next : Sha256) (rest left : Entries) (k : List ℕ) (f : Expr) → rest ≡ (k, RuleItem f) ∷ left
-    → ((m : List ℕ) → Holds256 h m → Holds256 next ((m ++ spelled_name k) ++ spelled_formula (tree_of f))) → IsFed b h rest → IsFed b next left
-fed_rule b h next rest left k f is more fed = record {
-  front = (fed.front ++ spelled_name k) ++ spelled_formula (tree_of f);
-  holds = more fed.front fed.holds;
-  whole = ap (λ xs. xs ++ spelled_rules (rules_among (entries_view left))) (append_assoc fed.front (spelled_name k) (spelled_formula (tree_of f)))
-      ∙ append_assoc fed.front (spelled_name k ++ spelled_formula (tree_of f)) (spelled_rules (rules_among (entries_view left)))
+pub fed_rule : (b : CodeBook) (h next : Sha256) (rest left : Entries) (k : List ℕ) (f : Arc Expr Global) (e : Expr) → rest ≡ (k, RuleItem f) ∷ left → e ≡ arc_value f
+    → ((m : List ℕ) → Holds256 h m → Holds256 next ((m ++ spelled_name k) ++ spelled_formula (tree_of e))) → IsFed b h rest → IsFed b next left
+fed_rule b h next rest left k f e is shared more fed = record {
+  front = (fed.front ++ spelled_name k) ++ spelled_formula (tree_of (arc_value f));
+  holds = rw shared at more fed.front fed.holds;
+  whole = ap (λ xs. xs ++ spelled_rules (rules_among (entries_view left))) (append_assoc fed.front (spelled_name k) (spelled_formula (tree_of (arc_value f))))
+      ∙ append_assoc fed.front (spelled_name k ++ spelled_formula (tree_of (arc_value f))) (spelled_rules (rules_among (entries_view left)))
       ∙ (rw is at fed.whole);
 }

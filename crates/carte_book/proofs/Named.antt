@@ -1,5 +1,6 @@
 -- What a rule looks up are names of its book's kind.
 use Rattle.std.proofs.Common.{◌≡◌, ◌∙◌, ap, ℕ, Bool, true, false, cond, IsTrue, List, [], ◌∷◌, ◌++◌, option_map, Option, Some, None, Result, Ok, Err, refl, sym, inl, inr}
+use Rattle.std.specs.Arc.{arc_value}
 use Rattle.std.specs.BTreeMap as tree
 use Rattle.carte_value.specs.declared.kind.Kind.{Kind}
 use Rattle.carte_value.specs.declared.kind.Kind.TheVariants.{Rules, Sheet}
@@ -149,8 +150,8 @@ mutual
 rule_named : (b : CodeBook) (k : List ℕ) (e : Tree) → content (book_view b) k ≡ Some (rule e) → IsExpr e × HasNames b.kind e
 rule_named b k e stands =
     let found = rule_found (tree.get name_cmp b.items k) e (sym (item_found b k) ∙ rule_held (book_view b) k e stands) in
-    let same : Some (rule (tree_of found.0)) ≡ Some (rule e) = ap (option_map item_view) (sym found.1) ∙ sym (item_found b k) ∙ rule_held (book_view b) k e stands in
-    let one : tree_of found.0 ≡ e = cc in
+    let same : Some (rule (tree_of (arc_value found.0))) ≡ Some (rule e) = ap (option_map item_view) (sym found.1) ∙ sym (item_found b k) ∙ rule_held (book_view b) k e stands in
+    let one : tree_of (arc_value found.0) ≡ e = cc in
     rw (← one) (found_fits b k (RuleItem found.0) found.1)
 
 pub needs_named : (b : CodeBook) → NeedsAreNames (book_view b)

@@ -1,5 +1,7 @@
 -- Gathering the names of rules, entry by entry.
-use Rattle.std.proofs.Common.{◌≡◌, ℕ, true, false, cond, List, [], ◌∷◌, option_map, Option, Some, None, is_some, BTreeMap, BTreeSet, refl, ap, sym, ◌∙◌, inl, inr, ◌⊎◌}
+use Rattle.std.proofs.Common.{◌≡◌, ℕ, true, false, cond, List, [], ◌∷◌, option_map, Option, Some, None, is_some, BTreeMap, BTreeSet, Global, refl, ap, sym, ◌∙◌, inl, inr, ◌⊎◌}
+use Rattle.std.specs.declared.sync.Arc.{Arc}
+use Rattle.std.specs.Arc.{arc_value}
 use Rattle.std.specs.Ordering.{eq_by_cmp}
 use Rattle.std.specs.Map.{lookup}
 use Rattle.std.specs.BTreeMap as tree
@@ -14,6 +16,7 @@ use Rattle.carte_tree.specs.Tree.{Tree}
 use Rattle.carte_tree.specs.Code.{tree_of}
 use Rattle.carte_book.specs.declared.book.Book.{Book as CodeBook}
 use Rattle.carte_book.specs.Book.{rule, default_of, or_default, item_view, book_view}
+use Rattle.carte_book.specs.Needs.{IsRule}
 use Rattle.carte_book.specs.Looked.{HasRules, AddsRule}
 use Rattle.carte_book.proofs.Books.{item_found}
 use Rattle.carte_book.proofs.Clean.{tied_name, rule_held}
@@ -25,7 +28,7 @@ abbrev pub Entries : Type 0
 Entries = List (List ℕ × CodeItem)
 
 abbrev pub HasRuleAt : Map → List ℕ → Type 0
-HasRuleAt m k = (f : Expr) × (tree.get name_cmp m k ≡ Some (RuleItem f))
+HasRuleAt m k = (f : Arc Expr Global) × (tree.get name_cmp m k ≡ Some (RuleItem f))
 
 -- the names of the rules that aren't among the entries left
 pub record IsSoFar (m : Map) (names : BTreeSet (List ℕ)) (rest : Entries) : Type 0 where
@@ -81,15 +84,19 @@ one_more m names new rest left k (RuleItem f) is has adds so = record {
       | false ↦ λ apart there. inr there
     ] refl
 
-pub rule_found : (o : Option CodeItem) (e : Tree) → option_map item_view o ≡ Some (rule e) → (f : Expr) × (o ≡ Some (RuleItem f))
+pub rule_found : (o : Option CodeItem) (e : Tree) → option_map item_view o ≡ Some (rule e) → (f : Arc Expr Global) × (o ≡ Some (RuleItem f))
 rule_found None e h = cc
 rule_found (Some (InputItem v)) e h = cc
 rule_found (Some (RuleItem f)) e h = (f, refl)
 
+-- a rule of the book stands in the map
+pub rule_at : (b : CodeBook) (k : List ℕ) → IsRule (book_view b) k → HasRuleAt b.items k
+rule_at b k is_rule = rule_found (tree.get name_cmp b.items k) is_rule.0 (sym (item_found b k) ∙ rule_held (book_view b) k is_rule.0 is_rule.1)
+
 pub at_last : (b : CodeBook) (names : BTreeSet (List ℕ)) → IsSoFar b.items names [] → HasRules (book_view b) names
 at_last b names so k = (
-  (λ in_names. let has = so.only k in_names in (tree_of has.0, ap (λ o. or_default o (default_of b.kind k)) (item_found b k ∙ ap (option_map item_view) has.1))),
-  (λ is_rule. elim (so.each k (rule_found (tree.get name_cmp b.items k) is_rule.0 (sym (item_found b k) ∙ rule_held (book_view b) k is_rule.0 is_rule.1))) [
+  (λ in_names. let has = so.only k in_names in (tree_of (arc_value has.0), ap (λ o. or_default o (default_of b.kind k)) (item_found b k ∙ ap (option_map item_view) has.1))),
+  (λ is_rule. elim (so.each k (rule_at b k is_rule)) [
     | inl in_names ↦ in_names
     | inr later ↦ cc
   ]),

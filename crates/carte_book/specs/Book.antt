@@ -1,5 +1,6 @@
 -- Books, and the clean values of their names.
 use Rattle.std.specs.Prelude.{ℕ, zero, suc, ◌+◌, List, [], ◌∷◌, length, map, Option, Some, None, if◌then◌else◌}
+use Rattle.std.specs.Arc.{arc_value}
 use Rattle.std.specs.Result.{result_ok}
 use Rattle.std.specs.FinMap.{FinMap, get, entries, from_entries}
 use Rattle.carte_value.specs.declared.kind.Kind.{Kind}
@@ -68,7 +69,7 @@ clean b = val b (length (rules_of b) + 1)
 -- the book that stands in memory
 abbrev pub item_view : CodeItem → Item
 item_view (InputItem v) = input v
-item_view (RuleItem e) = rule (tree_of e)
+item_view (RuleItem e) = rule (tree_of (arc_value e))
 
 abbrev pub entries_view : List (List ℕ × CodeItem) → List (List ℕ × Item)
 entries_view es = map (λ e. (e.0, item_view e.1)) es

@@ -1,7 +1,10 @@
 -- What a look-up answers.
 use Rattle.std.specs.Prelude.{ℕ, ◌≡◌, ◌↔◌, List, Option, Some, None, true, false, ⊤, if◌then◌else◌}
 use Rattle.std.specs.BTreeSet.{BTreeSet, contains}
+use Rattle.std.specs.declared.sync.Arc.{Arc}
+use Rattle.std.specs.Arc.{arc_value}
 use Rattle.std.specs.Ordering.{eq_by_cmp}
+use Rattle.carte_tree.specs.declared.expr.Expr.{Expr}
 use Rattle.carte_tree.specs.Code.{tree_of}
 use Rattle.carte_tree.specs.Formula.{IsExpr, HasNames}
 use Rattle.carte_book.specs.declared.book.Item.{Item as CodeItem}
@@ -24,6 +27,10 @@ abbrev pub IsFormula : Kind → Looked → Type 0
 IsFormula q (FoundInput v) = ⊤
 IsFormula q (FoundRule e) = IsExpr (tree_of e.now) × HasNames q (tree_of e.now)
 IsFormula q FoundNone = ⊤
+
+-- it is the formula of the rule at the name, as reading makes one
+abbrev pub IsFormulaAt : {Z : Type 0} → Book → List ℕ → Arc Expr Z → Type 0
+IsFormulaAt b k e = (content b k ≡ Some (rule (tree_of (arc_value e)))) × IsExpr (tree_of (arc_value e))
 
 -- a name of the other kind has nothing
 abbrev pub HasNoOthers : Book → Type 0

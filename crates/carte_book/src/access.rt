@@ -4,12 +4,15 @@ ghost use Rattle.carte_value.specs.Kinds.{is_name_of};
 ghost use Rattle.carte_book.specs.Fits.{FitsItem};
 ghost use Rattle.carte_book.specs.Book.{book_view, item_view, content, default_of};
 ghost use Rattle.carte_book.specs.Edits.{with_item};
-ghost use Rattle.carte_book.specs.Looked.{Answers, IsFormula, HasNoOthers, HasRules, AddsRule};
+ghost use Rattle.carte_book.specs.Looked.{Answers, IsFormula, IsFormulaAt, HasNoOthers, HasRules, AddsRule};
+ghost use Rattle.carte_book.specs.Needs.{IsRule};
 
 use crate::{Book, Item, Looked};
+use carte_tree::Expr;
 use carte_value::{Kind, Name, NoMemory, Value};
 use std::alloc::Global;
 use std::collections::{BTreeMap, BTreeSet};
+use std::sync::Arc;
 
 impl Book {
     /// The book of this kind without keys. It takes no memory.
@@ -43,6 +46,18 @@ impl Book {
             Some(Item::Input(value)) => Looked::Input(value),
             Some(Item::Rule(formula)) => Looked::Rule(formula),
             None => self.unheld(name),
+        }
+    }
+
+    /// The formula of a rule, shared with the book: it takes nothing from the allocator.
+    pub fn formula(&self, name: &Name) -> Result<Arc<Expr>, NoMemory>
+        requires { IsRule (book_view self.now) name.now }
+        ensures { IfOk result (IsFormulaAt (book_view self.now) name.now) }
+    {
+        match self.items.get(name) {
+            Some(Item::Rule(formula)) => Ok(formula.clone()?),
+            Some(Item::Input(_)) => unreachable!(),
+            None => unreachable!(),
         }
     }
 

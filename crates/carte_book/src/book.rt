@@ -6,12 +6,13 @@ use carte_tree::Expr;
 use carte_value::{Kind, Name, Value};
 use std::alloc::Global;
 use std::collections::BTreeMap;
+use std::sync::Arc;
 
-/// What stands at a name of a book.
+/// What stands at a name of a book. A formula is shared with those who may run it later, without the book.
 #[derive(Debug, Drop)]
 pub enum Item {
     Input(Value),
-    Rule(Expr),
+    Rule(Arc<Expr>),
 }
 
 /// A rule file or a sheet in memory. Its names are of its kind, and its formulas are as reading makes them.

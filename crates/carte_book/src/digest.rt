@@ -6,7 +6,7 @@ ghost use Rattle.carte_book.specs.Book.{book_view};
 ghost use Rattle.carte_book.specs.Digest.{kind_code, spelled_name, spelled_formula, rules_digest_of};
 
 use crate::{Book, Item};
-use carte_tree::{Expr, print};
+use carte_tree::{Expr, print_expr};
 use carte_value::{Digest, Kind, Name, NoMemory};
 use sha2::{Digest as Hasher, Sha256};
 use std::alloc::Global;
@@ -18,10 +18,11 @@ impl Book {
     {
         let mut hasher = Sha256::new();
         hasher.update([kind_code(self.kind)]);
+        let mut text = String::new(alloc);
         for (name, item) in &self.items {
             if let Item::Rule(formula) = item {
                 feed_name(&mut hasher, name);
-                feed_formula(alloc, &mut hasher, formula)?;
+                feed_formula(alloc, &mut hasher, &mut text, formula)?;
             }
         }
         Ok(Digest(hasher.finalize()))
@@ -45,11 +46,18 @@ fn feed_name(hasher: &mut Sha256, name: &Name)
     hasher.update(name.as_bytes());
 }
 
-fn feed_formula(alloc: Global, hasher: &mut Sha256, formula: &Expr) -> Result<(), NoMemory>
+// `text` is a buffer: what it holds is written over.
+fn feed_formula(
+    alloc: Global,
+    hasher: &mut Sha256,
+    text: &mut String,
+    formula: &Expr,
+) -> Result<(), NoMemory>
     requires { IsExpr (tree_of formula.now) }
     ensures { OnOk result ((m : List ℕ) → Holds256 hasher.old m → Holds256 hasher.new (m ++ spelled_formula (tree_of formula.now))) }
 {
-    let text = print(alloc, formula)?;
+    text.clear();
+    print_expr(alloc, text, formula)?;
     // The length of a longer text doesn't fit its 4 bytes. Such a formula is refused as one that memory is too small for.
     if text.len() > u32::MAX as usize {
         return Err(NoMemory);

@@ -1,14 +1,16 @@
-ghost use Rattle.std.specs.Prelude.{◌≡◌, IsTrue};
+ghost use Rattle.std.specs.Prelude.{◌≡◌, ◌<◌, None, IsTrue};
+ghost use Rattle.std.specs.FinMap.{get};
 ghost use Rattle.carte_value.specs.Kinds.{is_name_of};
 ghost use Rattle.carte_tree.specs.Code.{tree_of};
 ghost use Rattle.carte_tree.specs.Formula.{IsExpr, HasNames};
 ghost use Rattle.carte_book.specs.Fits.{FitsItem};
 ghost use Rattle.carte_book.specs.Book.{book_view, item_view, input, rule};
-ghost use Rattle.carte_book.specs.Edits.{keys_of, Adds, IsInput, Sets};
+ghost use Rattle.carte_book.specs.Edits.{keys_of, Admits, Adds, IsInput, Sets};
 
 use crate::{AddFault, Book, Item, Looked, SetFault};
 use carte_tree::Expr;
 use carte_value::{Name, Value};
+use std::sync::Arc;
 
 /// As many names as a book has at most.
 const MOST_KEYS: u64 = 65_536;
@@ -26,6 +28,7 @@ impl Book {
         requires { IsTrue (is_name_of (book_view self.old).kind name) }
         ensures { Adds (book_view self.old) (book_view self.new) name (input value) result }
     {
+        self.admit(&name)?;
         self.add(name, Item::Input(value))
     }
 
@@ -36,25 +39,39 @@ impl Book {
         requires names { HasNames (book_view self.old).kind (tree_of expr) }
         ensures { Adds (book_view self.old) (book_view self.new) name (rule (tree_of expr)) result }
     {
-        self.add(name, Item::Rule(expr))
+        self.admit(&name)?;
+        let Ok(formula) = Arc::new(self.alloc, expr) else {
+            return Err(AddFault::NoMemory);
+        };
+        self.add(name, Item::Rule(formula))
     }
 
-    fn add(&mut self, name: Name, item: Item) -> Result<(), AddFault>
-        requires name { IsTrue (is_name_of (book_view self.old).kind name) }
-        requires item { FitsItem (book_view self.old).kind item }
-        ensures { Adds (book_view self.old) (book_view self.new) name (item_view item) result }
+    // Whether a name may be added, so far as memory isn't asked.
+    fn admit(&self, name: &Name) -> Result<(), AddFault>
+        ensures { Admits (book_view self.now) name.now result }
     {
-        if self.has(&name) {
+        if self.has(name) {
             return Err(AddFault::Twice);
         }
         if self.keys() >= MOST_KEYS {
             return Err(AddFault::Limit);
         }
+        Ok(())
+    }
+
+    fn add(&mut self, name: Name, item: Item) -> Result<(), AddFault>
+        requires name { IsTrue (is_name_of (book_view self.old).kind name) }
+        requires item { FitsItem (book_view self.old).kind item }
+        requires absent { get (book_view self.old).items name ≡ None }
+        requires room { keys_of (book_view self.old) < 65536 }
+        ensures { Adds (book_view self.old) (book_view self.new) name (item_view item) result }
+    {
         match self.put(name, item) {
             Ok(()) => Ok(()),
             Err(_) => Err(AddFault::NoMemory),
         }
     }
+
     /// Gives an input, or a cell that holds nothing yet, another value. After a fault the book is as before.
     pub fn set(&mut self, name: &Name, value: Value) -> Result<(), SetFault>
         requires { IsTrue (is_name_of (book_view self.old).kind name.now) }

@@ -1,5 +1,5 @@
 -- What is left of a job under deep traces.
-use Rattle.std.specs.Prelude.{ℕ, ◌≡◌, Bool, false, not, is_some, List, Option, Some, None}
+use Rattle.std.specs.Prelude.{ℕ, ◌≡◌, Bool, false, List, Option, Some, None}
 use Rattle.carte_value.specs.Asks.{Asks, done}
 use Rattle.carte_tree.specs.Tree.{Tree}
 use Rattle.carte_tree.specs.Meaning.{asks}
@@ -7,9 +7,8 @@ use Rattle.carte_book.specs.Book.{Book, rule, content}
 use Rattle.carte_effect.specs.declared.outcome.Made.{Made}
 use Rattle.carte_effect.specs.declared.outcome.Made.TheVariants.{Reused}
 use Rattle.carte_effect.specs.Outcomes.{Outcome}
-use Rattle.carte_task.specs.Machines.{state_of}
 use Rattle.carte_rebuild.specs.Trying.{task_left}
-use Rattle.carte_rebuild.specs.Left.{left_of}
+use Rattle.carte_rebuild.specs.Left.{name_of, is_started, left_of}
 use Rattle.carte_deep.specs.declared.job.DeepJob.{DeepJob}
 use Rattle.carte_deep.specs.declared.job.Work.{Work}
 use Rattle.carte_deep.specs.declared.job.Work.TheVariants.{Held, Task}
@@ -23,14 +22,14 @@ left_in j = left_of_work j.work
 
 abbrev pub name_of_work : Work → List ℕ
 name_of_work (Held o) = o.key
-name_of_work (Task p) = (state_of p.machine).key
+name_of_work (Task p) = name_of p
 
 abbrev pub name_in : DeepJob → List ℕ
 name_in j = name_of_work j.work
 
 abbrev pub is_begun : Work → Bool
 is_begun (Held o) = false
-is_begun (Task p) = not (is_some p.checks)
+is_begun (Task p) = is_started p
 
 abbrev pub has_begun : DeepJob → Bool
 has_begun j = is_begun j.work

@@ -4,6 +4,7 @@ ghost use Rattle.carte_io.specs.Causes.{HasCauseOf};
 ghost use Rattle.carte_io.specs.Disk.{LeavesOnly};
 ghost use Rattle.carte_io.specs.Stations.{StepsThrough};
 ghost use Rattle.carte_book.specs.Book.{Book as SomeBook, book_view};
+ghost use Rattle.carte_book.specs.Digest.{rules_digest_of};
 ghost use Rattle.carte_book.specs.declared.reason.Reason.{Reason as SomeReason};
 ghost use Rattle.carte_record.specs.Bodies.{IsUnmarked};
 ghost use Rattle.carte_record.specs.Empty.{is_empty};
@@ -85,7 +86,25 @@ impl Engine {
             (IfOk result (IsPlan scheduler (R.how rebuilder.now) (kept_in self.now) (book_view book.now) targets.now)) }
     {
         let rules = book.rules_digest(alloc)?;
-        let begun = begin(alloc, self.state.kept(), book, &rules)?;
+        self.plan_under(alloc, book, &rules, rebuilder, scheduler, targets)
+    }
+
+    /// The same for whoever has the digest of the book's rules. It is worked out over all rules, and no input changes it.
+    pub fn plan_under<R: Rebuilder>(
+        &self,
+        alloc: Global,
+        book: &Book,
+        rules: &Digest,
+        rebuilder: &R,
+        scheduler: Scheduler,
+        targets: &Names,
+    ) -> Result<Plan, NoMemory>
+        requires { rules.now ≡ rules_digest_of (book_view book.now) }
+        ensures unmarked { IfOk result (λ p. EachFits IsUnmarked p.batch.entries) }
+        ensures plans { Under (kept_in self.now) (book_view book.now)
+            (IfOk result (IsPlan scheduler (R.how rebuilder.now) (kept_in self.now) (book_view book.now) targets.now)) }
+    {
+        let begun = begin(alloc, self.state.kept(), book, rules)?;
         let end = run(
             alloc,
             rebuilder,
@@ -94,7 +113,7 @@ impl Engine {
             scheduler,
             targets,
         )?;
-        planned(alloc, rebuilder, &begun, rules, book, targets, end)
+        planned(alloc, rebuilder, &begun, *rules, book, targets, end)
     }
 
     /// Commits the batch of a plan, as `State::apply` does: in one step, whole or not at all, whatever crash comes.

@@ -1,5 +1,6 @@
 ghost use Rattle.std.specs.Prelude.{◌≡◌, IfOk, Err};
 ghost use Rattle.carte_book.specs.Book.{book_view};
+ghost use Rattle.carte_book.specs.Digest.{rules_digest_of};
 ghost use Rattle.carte_book.specs.Reason.{IsReason};
 ghost use Rattle.carte_book.specs.declared.reason.Reason.{Reason as SomeReason};
 ghost use Rattle.carte_state.specs.States.{kept_in};
@@ -10,7 +11,7 @@ use crate::Engine;
 use carte_book::Book;
 use carte_mark::begin;
 use carte_rebuild::{PlanFault, Rebuilder, Work, WorkEnd};
-use carte_value::{Names, NoMemory};
+use carte_value::{Digest, Names, NoMemory};
 use std::alloc::Global;
 
 impl Engine {
@@ -29,7 +30,26 @@ impl Engine {
         ensures refused { Under (kept_in self.now) (book_view book.now)
             ((reason : SomeReason) → result ≡ Err (PlanFault.Refused reason) → IsReason (book_view book.now) targets.now reason) }
     {
-        match self.foresee(alloc, book, rebuilder, targets)? {
+        let rules = book.rules_digest(alloc)?;
+        self.preview_under(alloc, book, &rules, rebuilder, targets)
+    }
+
+    /// The same for whoever has the digest of the book's rules.
+    pub fn preview_under<R: Rebuilder>(
+        &self,
+        alloc: Global,
+        book: &Book,
+        rules: &Digest,
+        rebuilder: &R,
+        targets: &Names,
+    ) -> Result<Work, PlanFault>
+        requires { rules.now ≡ rules_digest_of (book_view book.now) }
+        ensures served { Under (kept_in self.now) (book_view book.now)
+            (IfOk result (IsPreview (R.how rebuilder.now) (kept_in self.now) (book_view book.now) targets.now)) }
+        ensures refused { Under (kept_in self.now) (book_view book.now)
+            ((reason : SomeReason) → result ≡ Err (PlanFault.Refused reason) → IsReason (book_view book.now) targets.now reason) }
+    {
+        match self.foresee(alloc, book, rules, rebuilder, targets)? {
             WorkEnd::All(work) => Ok(work),
             WorkEnd::Refused(_, reason) => Err(PlanFault::Refused(reason)),
         }
@@ -39,14 +59,15 @@ impl Engine {
         &self,
         alloc: Global,
         book: &Book,
+        rules: &Digest,
         rebuilder: &R,
         targets: &Names,
     ) -> Result<WorkEnd, NoMemory>
+        requires { rules.now ≡ rules_digest_of (book_view book.now) }
         ensures { Under (kept_in self.now) (book_view book.now)
             (IfOk result (IsForeseen (R.how rebuilder.now) (kept_in self.now) (book_view book.now) targets.now)) }
     {
-        let rules = book.rules_digest(alloc)?;
-        let begun = begin(alloc, self.kept(), book, &rules)?;
+        let begun = begin(alloc, self.kept(), book, rules)?;
         carte_suspend::build(alloc, rebuilder, begun.base.kept(), book, targets)
     }
 }

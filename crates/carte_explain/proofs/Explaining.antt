@@ -44,7 +44,7 @@ use Rattle.carte_sound.proofs.Held.{need_has_value}
 use Rattle.carte_sound.proofs.Tests.{name_self, staled_from, tested_among}
 use Rattle.carte_explain.specs.Found.{Finds, FindsCause, FindsEntry, FindsMark, digest_found, is_apart, is_match, is_of_needs, matching_why, other_why, path_why, stored_why, traces_why, verifying_why}
 use Rattle.carte_explain.specs.Paths.{IsChangedAnswer}
-use Rattle.carte_explain.specs.Why.{IsCause, IsNew, IsWhy, NoneMatches, how_of}
+use Rattle.carte_explain.specs.Why.{IsCause, IsEntered, IsNew, IsWhy, NoneMatches, how_of}
 use Rattle.carte_explain.specs.declared.why.RebuilderKind.{RebuilderKind}
 use Rattle.carte_explain.specs.declared.why.RebuilderKind.TheVariants as kind
 use Rattle.carte_explain.specs.declared.why.Why.{Why}
@@ -178,13 +178,16 @@ module _ (K : Kept) (b : Book) (H : List Book) (marks : List (List ℕ)) (same :
       Causes : Why → Type 0
       Causes = IsCause dirty (kept_view K) (with_marks (kept_view K) marks) b k
 
+      entered : (e : Entry) → first_entry K.entries k ≡ Some e → IsEntered (with_marks (kept_view K) marks) k
+      entered e is = (staled (is_among marks k) e, ap (option_map (staled (is_among marks k))) is)
+
       path : (e : Entry) → first_entry K.entries k ≡ Some e → e.stale ≡ false → e.shallow ≡ false → (o : Option (List (List ℕ))) → IsChangedAnswer (kept_view K) b k o → Causes (path_why o)
       path e is fresh full None nothing = absurd (no_change (kept_view K) b k nothing (leads_on e is fresh full unheld))
-      path e is fresh full (Some first_path) first = (is_rule, unheld, first)
+      path e is fresh full (Some first_path) first = (is_rule, unheld, entered e is, (e, is, fresh, full), first)
 
       mark : (e : Entry) → first_entry K.entries k ≡ Some e → (s t : Bool) → e.stale ≡ s → e.shallow ≡ t → FindsMark s t (kept_view K) b k why → Causes why
-      mark e is true t is_stale is_shallow found = subst Causes (sym found) (is_rule, unheld, (e, is, is_stale))
-      mark e is false true fresh is_shallow found = subst Causes (sym found) (is_rule, unheld, (e, is, fresh, is_shallow))
+      mark e is true t is_stale is_shallow found = subst Causes (sym found) (is_rule, unheld, entered e is, (e, is, is_stale))
+      mark e is false true fresh is_shallow found = subst Causes (sym found) (is_rule, unheld, entered e is, (e, is, fresh, is_shallow))
       mark e is false false fresh full found = subst Causes (sym found.2) (path e is fresh full found.0 found.1)
 
       on : (o : Option Entry) → first_entry K.entries k ≡ o → FindsEntry o (kept_view K) b k why → Causes why

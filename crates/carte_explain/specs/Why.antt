@@ -85,6 +85,14 @@ IsStale K k = (e : Entry) × (K.entries k ≡ Some e) × (e.stale ≡ true)
 abbrev pub IsShallow : SomeKept → List ℕ → Type 0
 IsShallow K k = (e : Entry) × (K.entries k ≡ Some e) × (e.stale ≡ false) × (e.shallow ≡ true)
 
+-- it was kept with neither mark
+abbrev pub IsKeptFresh : SomeKept → List ℕ → Type 0
+IsKeptFresh K k = (e : Entry) × (K.entries k ≡ Some e) × (e.stale ≡ false) × (e.shallow ≡ false)
+
+-- the build begins with an entry of it
+abbrev pub IsEntered : SomeKept → List ℕ → Type 0
+IsEntered M k = (e : Entry) × (M.entries k ≡ Some e)
+
 -- over what was kept, K, and what the build begins with, M
 abbrev pub IsCause : How → SomeKept → SomeKept → Book → List ℕ → Why → Type 0
 IsCause h K M b k Input = (v : Value) × (content b k ≡ Some (input v))
@@ -93,9 +101,9 @@ IsCause (tracing w) K M b k NoTrace = IsRule b k × ¬ (IsHeld (tracing w) M b k
 IsCause (tracing w) K M b k (FirstDifference name old new) = IsRule b k × ¬ (IsHeld (tracing w) M b k) × IsNewestDifference w M b k name old new
 IsCause (tracing Verifying) K M b k (StoredDiffers stored result) = IsRule b k × ¬ (IsHeld (tracing Verifying) M b k) × IsOtherResult M b k stored result
 IsCause dirty K M b k NoEntry = IsRule b k × ¬ (IsHeld dirty M b k) × (M.entries k ≡ None)
-IsCause dirty K M b k Stale = IsRule b k × ¬ (IsHeld dirty M b k) × IsStale K k
-IsCause dirty K M b k Shallow = IsRule b k × ¬ (IsHeld dirty M b k) × IsShallow K k
-IsCause dirty K M b k (DirtyInput path) = IsRule b k × ¬ (IsHeld dirty M b k) × IsFirstChangedPath K b k path
+IsCause dirty K M b k Stale = IsRule b k × ¬ (IsHeld dirty M b k) × IsEntered M k × IsStale K k
+IsCause dirty K M b k Shallow = IsRule b k × ¬ (IsHeld dirty M b k) × IsEntered M k × IsShallow K k
+IsCause dirty K M b k (DirtyInput path) = IsRule b k × ¬ (IsHeld dirty M b k) × IsEntered M k × IsKeptFresh K k × IsFirstChangedPath K b k path
 IsCause h K M b k why = ⊥
 
 -- why a build over what was kept would run the key, or would not

@@ -21,14 +21,15 @@ pub(crate) fn cause(
     alloc: Global,
     kept: &Kept,
     book: &Book,
+    rules: &Digest,
     finished: &FinishedList,
     rebuilder: RebuilderKind,
     key: &Name,
 ) -> Result<Why, NoMemory>
+    requires { rules.now ≡ rules_digest_of (book_view book.now) }
     ensures { IfOk result (Finds (has_rules_of (kept_view kept.now) (book_view book.now)) rebuilder kept.now (book_view book.now) finished.now key.now) }
 {
-    let rules = book.rules_digest(alloc)?;
-    if has_rules(kept, &rules) {
+    if has_rules(kept, rules) {
         return same_cause(alloc, kept, book, finished, rebuilder, key);
     }
     Ok(other_why(rebuilder))

@@ -24,5 +24,5 @@ mod target;
 mod traces;
 mod why;
 
-pub use target::explain;
+pub use target::{explain, explain_under};
 pub use why::{RebuilderKind, Why};

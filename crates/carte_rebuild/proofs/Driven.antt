@@ -110,34 +110,34 @@ machine_gave {S = S} left state t own log0 log p q m n result from to gave = rec
 -- 3. both
 
 -- an earlier end holds
-pub gave_again : {J S : Type 0} (left : J → Asks Made) (t : Truth) (own : List ℕ → S → Type 0) (log0 log : Option Answers) (cs ds : List Checking) (s : State) (p q : J) (o : Outcome) → left p ≡ tries cs (machine_left s) → Tried t own log0 log cs ds (Ok (Some o)) → Gave (λ x u a step y. Gives (left x) u a step (left y)) t own log0 log p q (Ok (Reused o))
-gave_again left t own log0 log cs ds s p q o from tried =
-    let n = tried (machine_left s) in
+pub gave_again : {J S : Type 0} (left : J → Asks Made) (t : Truth) (own : List ℕ → S → Type 0) (log0 log : Option Answers) (cs ds : List Checking) (m : Asks Made) (p q : J) (o : Outcome) → left p ≡ tries cs m → Tried t own log0 log cs ds (Ok (Some o)) → Gave (λ x u a step y. Gives (left x) u a step (left y)) t own log0 log p q (Ok (Reused o))
+gave_again left t own log0 log cs ds m p q o from tried =
+    let n = tried m in
     record { further = n.0; known = n.1.known; logged = n.1.logged; gave = (n.1.known, subst (λ x. Went x n.0 (done (Reused o))) (sym from) n.1.went) }
 
 -- a check halts
-pub gave_halt : {J S : Type 0} (left : J → Asks Made) (t : Truth) (own : List ℕ → S → Type 0) (log0 log : Option Answers) (cs ds : List Checking) (s : State) (p q : J) (h : Halt S) → left p ≡ tries cs (machine_left s) → left q ≡ tries ds (machine_left s) → Tried t own log0 log cs ds (Err h) → Gave (λ x u a step y. Gives (left x) u a step (left y)) t own log0 log p q (Err h)
-gave_halt left t own log0 log cs ds s p q NoMemory from to tried =
-    let n = tried (machine_left s) in
+pub gave_halt : {J S : Type 0} (left : J → Asks Made) (t : Truth) (own : List ℕ → S → Type 0) (log0 log : Option Answers) (cs ds : List Checking) (m : Asks Made) (p q : J) (h : Halt S) → left p ≡ tries cs m → left q ≡ tries ds m → Tried t own log0 log cs ds (Err h) → Gave (λ x u a step y. Gives (left x) u a step (left y)) t own log0 log p q (Err h)
+gave_halt left t own log0 log cs ds m p q NoMemory from to tried =
+    let n = tried m in
     record { further = n.0; known = n.1.known; logged = n.1.logged; gave = (n.1.known, rw (from, to) n.1.went) }
-gave_halt left t own log0 log cs ds s p q (Stop stop) from to tried =
-    let n = tried (machine_left s) in
+gave_halt left t own log0 log cs ds m p q (Stop stop) from to tried =
+    let n = tried m in
     record { further = n.0; known = n.1.known; logged = n.1.logged; gave = (n.2.name, n.2.none, n.2.own_stop, (n.1.known, rw (from, to) n.1.went, (n.2.go, to ∙ n.2.is), n.2.none)) }
 
 -- no check holds, and then the task was driven
-pub gave_behind : {J S : Type 0} (left : J → Asks Made) (t u : Truth) (own other : List ℕ → S → Type 0) (log0 log1 log : Option Answers) (cs ds : List Checking) (s : State) (p mid q : J) (result : Result Made (Halt S)) → u ≡ t → SameStops own other → left p ≡ tries cs (machine_left s) → left mid ≡ machine_left s → Tried t own log0 log1 cs ds (Ok None) → Gave (λ x w a step y. Gives (left x) w a step (left y)) u other log1 log mid q result → Gave (λ x w a step y. Gives (left x) w a step (left y)) t own log0 log p q result
-gave_behind {S = S} left t u own other log0 log1 log cs ds s p mid q result same stops from to tried gave = record {
+pub gave_behind : {J S : Type 0} (left : J → Asks Made) (t u : Truth) (own other : List ℕ → S → Type 0) (log0 log1 log : Option Answers) (cs ds : List Checking) (m : Asks Made) (p mid q : J) (result : Result Made (Halt S)) → u ≡ t → SameStops own other → left p ≡ tries cs m → left mid ≡ m → Tried t own log0 log1 cs ds (Ok None) → Gave (λ x w a step y. Gives (left x) w a step (left y)) u other log1 log mid q result → Gave (λ x w a step y. Gives (left x) w a step (left y)) t own log0 log p q result
+gave_behind {S = S} left t u own other log0 log1 log cs ds m p mid q result same stops from to tried gave = record {
   further = n.0 ++ gave.further;
   known = answers_on t n.0 gave.further n.1.known (subst (λ w. AnswersOf w gave.further) same gave.known);
   logged = gave.logged ∙ ap (λ l. more l gave.further) n.1.logged ∙ more_more log0 n.0 gave.further;
   gave = on result gave.gave;
 }
   where
-    n : (further : Answers) × Led t log0 log1 (tries cs (machine_left s)) further (machine_left s)
-    n = tried.1 (machine_left s)
+    n : (further : Answers) × Led t log0 log1 (tries cs m) further m
+    n = tried.1 m
 
     way : (r : Asks Made) → Went (left mid) gave.further r → Went (left p) (n.0 ++ gave.further) r
-    way r rest = subst (λ x. Went x (n.0 ++ gave.further) r) (sym from) (went_on (tries cs (machine_left s)) (machine_left s) r n.0 gave.further n.1.went (subst (λ x. Went x gave.further r) to rest))
+    way r rest = subst (λ x. Went x (n.0 ++ gave.further) r) (sym from) (went_on (tries cs m) m r n.0 gave.further n.1.went (subst (λ x. Went x gave.further r) to rest))
 
     all : AnswersOf u gave.further → AnswersOf t (n.0 ++ gave.further)
     all of = answers_on t n.0 gave.further n.1.known (subst (λ w. AnswersOf w gave.further) same of)

@@ -1,4 +1,5 @@
 pub mod Behind
+mod Begun
 pub mod Trials
 pub mod Parting
 pub mod Comparing

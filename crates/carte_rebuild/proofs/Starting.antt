@@ -3,6 +3,7 @@ use Rattle.std.proofs.Common.{◌≡◌, ℕ, Bool, true, false, cond, List, [],
 use Rattle.carte_value.specs.declared.digest.Digest.{Digest}
 use Rattle.carte_value.specs.declared.value.Value.{Value}
 use Rattle.carte_value.specs.Names.{name_eq}
+use Rattle.carte_tree.specs.Meaning.{asks}
 use Rattle.carte_task.specs.Checking.{Checking}
 use Rattle.carte_book.specs.Book.{Book}
 use Rattle.carte_record.specs.declared.trace.Trace.{Trace}
@@ -13,7 +14,11 @@ use Rattle.carte_value.specs.Lists.{Has}
 use Rattle.carte_sound.specs.Held.{IsTrusted}
 use Rattle.carte_rebuild.specs.Earlier.{check_of, check_at, is_wanted, checks_for, checks_in}
 use Rattle.carte_rebuild.specs.Traced.{AreTried, IsTracedJob, IsStart}
+use Rattle.carte_rebuild.specs.Trying.{task_left, tries}
+use Rattle.carte_rebuild.specs.declared.recipe.Recipe.{Recipe}
+use Rattle.carte_rebuild.specs.Recipes.{formula_in, asks_in, IsRecipeOf}
 use Rattle.carte_rebuild.specs.declared.tries.Tries.{Tries}
+use Rattle.carte_rebuild.specs.Left.{left_of}
 use Rattle.carte_rebuild.proofs.TracesOf.{traces_there, traces_only}
 
 -- a check that was collected
@@ -92,6 +97,14 @@ collected_tried w K k wanted vs ts traces values trusts wants = record {
     | inl (there, key) ↦ collected_each wanted vs k ts t v there key (wants t trusted) (ap (λ f. f t.result) (sym values) ∙ stored)
     | inr never ↦ absurd never
   ];
+}
+
+-- a job that holds what the task of a rule is made of is at its start
+pub recipe_start : (b : Book) (k : List ℕ) (cs : List Checking) (r : Recipe) (p : Tries) → left_of p ≡ tries cs (task_left r.key (asks_in r)) → IsRecipeOf b k r → IsStart b k cs p
+recipe_start b k cs r p left of = record {
+  formula = formula_in r;
+  is_rule = of.is_rule;
+  left = left ∙ ap (λ j. tries cs (task_left j (asks_in r))) of.key ∙ ap (λ q. tries cs (task_left k (asks q (formula_in r)))) of.kind;
 }
 
 -- a job at its start was driven over no truth

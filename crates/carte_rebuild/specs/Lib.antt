@@ -1,4 +1,4 @@
-pub mod Tasks
+pub mod Recipes
 pub mod Earlier
 pub mod Goes
 pub mod Trying

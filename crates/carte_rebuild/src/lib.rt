@@ -10,7 +10,8 @@
 //! kept information that isn't sound a build still ends, and promises less.
 //!
 //! One job serves all rebuilders that compare the needs of a key (`Tries`): checks of earlier ends, then the task. Its
-//! meaning is one computation, what it still asks for, and a drive leads from what was left to what is left.
+//! meaning is one computation, what it still asks for, and a drive leads from what was left to what is left. Until the
+//! checks have failed it holds only what the task is made of: most jobs of a build that changes little never run.
 //!
 //! A finished key gets the inputs beneath it, where the rebuilder gathers these, from its links alone: those beneath the
 //! rules among them were gathered as these were finished, so nothing walks over the book.
@@ -28,6 +29,7 @@ mod gather;
 mod laws;
 mod made;
 mod rebuilder;
+mod recipe;
 mod tries;
 mod work;
 

@@ -2,6 +2,7 @@
 ghost use Rattle.std.specs.Prelude.{◌≡◌, ℕ, IfOk, Err};
 ghost use Rattle.carte_codec.specs.Each.{EachFits};
 ghost use Rattle.carte_book.specs.Book.{book_view};
+ghost use Rattle.carte_book.specs.Digest.{rules_digest_of};
 ghost use Rattle.carte_book.specs.Reason.{IsReason};
 ghost use Rattle.carte_book.specs.declared.reason.Reason.{Reason as SomeReason};
 ghost use Rattle.carte_record.specs.Bodies.{IsUnmarked};
@@ -19,7 +20,7 @@ use carte_dirty::Dirty;
 use carte_engine::{Engine, Plan, Scheduler};
 use carte_explain::RebuilderKind;
 use carte_rebuild::{PlanFault, Work};
-use carte_value::{Names, NoMemory};
+use carte_value::{Digest, Names, NoMemory};
 use carte_verify::Verify;
 use carte_words::{Rebuilder4, Scheduler4};
 use std::alloc::Global;
@@ -36,12 +37,32 @@ pub fn plan(
     ensures plans { Under (kept_in engine.now) (book_view book.now)
         (IfOk result (IsPlan (scheduler_of choices.scheduler) (how_of choices.rebuilder) (kept_in engine.now) (book_view book.now) targets.now)) }
 {
+    let rules = book.rules_digest(alloc)?;
+    plan_under(alloc, choices, engine, book, &rules, targets)
+}
+
+/// The same for whoever has the digest of the book's rules.
+pub(crate) fn plan_under(
+    alloc: Global,
+    choices: Choices,
+    engine: &Engine,
+    book: &Book,
+    rules: &Digest,
+    targets: &Names,
+) -> Result<Plan, NoMemory>
+    requires { rules.now ≡ rules_digest_of (book_view book.now) }
+    ensures unmarked { IfOk result (λ p. EachFits IsUnmarked p.batch.entries) }
+    ensures plans { Under (kept_in engine.now) (book_view book.now)
+        (IfOk result (IsPlan (scheduler_of choices.scheduler) (how_of choices.rebuilder) (kept_in engine.now) (book_view book.now) targets.now)) }
+{
     let scheduler = scheduler_of(choices.scheduler);
     match choices.rebuilder {
-        Rebuilder4::Dirty => engine.plan(alloc, book, &Dirty, scheduler, targets),
-        Rebuilder4::Verifying => engine.plan(alloc, book, &Verify, scheduler, targets),
-        Rebuilder4::Constructive => engine.plan(alloc, book, &Construct, scheduler, targets),
-        Rebuilder4::Deep => engine.plan(alloc, book, &Deep, scheduler, targets),
+        Rebuilder4::Dirty => engine.plan_under(alloc, book, rules, &Dirty, scheduler, targets),
+        Rebuilder4::Verifying => engine.plan_under(alloc, book, rules, &Verify, scheduler, targets),
+        Rebuilder4::Constructive => {
+            engine.plan_under(alloc, book, rules, &Construct, scheduler, targets)
+        }
+        Rebuilder4::Deep => engine.plan_under(alloc, book, rules, &Deep, scheduler, targets),
     }
 }
 
@@ -51,18 +72,20 @@ pub(crate) fn preview(
     rebuilder: Rebuilder4,
     engine: &Engine,
     book: &Book,
+    rules: &Digest,
     targets: &Names,
 ) -> Result<Work, PlanFault>
+    requires { rules.now ≡ rules_digest_of (book_view book.now) }
     ensures served { Under (kept_in engine.now) (book_view book.now)
         (IfOk result (IsPreview (how_of rebuilder) (kept_in engine.now) (book_view book.now) targets.now)) }
     ensures refused { Under (kept_in engine.now) (book_view book.now)
         ((reason : SomeReason) → result ≡ Err (PlanFault.Refused reason) → IsReason (book_view book.now) targets.now reason) }
 {
     match rebuilder {
-        Rebuilder4::Dirty => engine.preview(alloc, book, &Dirty, targets),
-        Rebuilder4::Verifying => engine.preview(alloc, book, &Verify, targets),
-        Rebuilder4::Constructive => engine.preview(alloc, book, &Construct, targets),
-        Rebuilder4::Deep => engine.preview(alloc, book, &Deep, targets),
+        Rebuilder4::Dirty => engine.preview_under(alloc, book, rules, &Dirty, targets),
+        Rebuilder4::Verifying => engine.preview_under(alloc, book, rules, &Verify, targets),
+        Rebuilder4::Constructive => engine.preview_under(alloc, book, rules, &Construct, targets),
+        Rebuilder4::Deep => engine.preview_under(alloc, book, rules, &Deep, targets),
     }
 }
 

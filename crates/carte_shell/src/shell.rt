@@ -1,27 +1,25 @@
-ghost use Rattle.std.specs.Prelude.{◌≡◌, false, IsTrue, MatchResult, OnOk, string_bytes};
-ghost use Rattle.carte_value.specs.Kinds.{is_name_of};
+ghost use Rattle.std.specs.Prelude.{◌≡◌, false, IfOk, IsTrue, MatchResult, OnOk, Some, string_bytes};
+ghost use Rattle.carte_value.specs.declared.digest.Digest.{Digest as SomeDigest};
 ghost use Rattle.carte_codec.specs.Each.{EachFits};
 ghost use Rattle.carte_book.specs.Book.{book_view};
+ghost use Rattle.carte_book.specs.Digest.{rules_digest_of};
 ghost use Rattle.carte_record.specs.Bodies.{IsUnmarked};
 ghost use Rattle.carte_engine.specs.Clearing.{clearing};
-ghost use Rattle.carte_session.specs.declared.end.StepEnd.TheVariants.{NoMemory as OutOfMemory};
 ghost use Rattle.carte_words.specs.Named.{LineNamed};
 ghost use Rattle.carte_words.specs.declared.line.Line.TheVariants.{Build as build_line, Clean as clean_line};
-ghost use Rattle.carte_shell.specs.Answers.{Answers, Breaks, Ends, Obeys, SetsInput};
-ghost use Rattle.carte_shell.specs.Commits.{Puts, Stops};
-ghost use Rattle.carte_shell.specs.Scenes.{scene};
 
 use crate::Choices;
-use crate::chosen::plan;
+use crate::chosen::plan_under;
+use crate::inputs::{known, set_input};
 use crate::stops::{build_text, stopped};
-use crate::why::explanation;
-use carte_book::{Book, SetFault};
+use crate::why::explanation_under;
+use carte_book::Book;
 use carte_engine::{Engine, Plan};
 use carte_io::Disk;
 use carte_record::Batch;
-use carte_report::{cleaned_line, not_set_line, set_line, stray_line};
+use carte_report::{cleaned_line, stray_line};
 use carte_session::{Machine, StepEnd};
-use carte_value::{Name, Names, Value};
+use carte_value::{Digest, Names};
 use carte_words::{Line, read_line};
 use std::alloc::Global;
 
@@ -32,9 +30,15 @@ pub struct Shell {
     pub(crate) choices: Choices,
     pub(crate) book: Book,
     pub(crate) engine: Engine,
+    /// The digest of the book's rules, from when it was first needed. Lines set inputs, and change no rule.
+    pub(crate) rules: Option<Digest>,
+    ghost known: { (d : SomeDigest) → rules ≡ Some d → d ≡ rules_digest_of (book_view book) },
 }
 
 impl<D: Disk> Machine<D> for Shell {
+    ghost use Rattle.carte_shell.specs.Answers.{Answers, Ends};
+    ghost use Rattle.carte_shell.specs.Scenes.{scene};
+
     ghost answers = { λ m n line reply m'. Answers D.tells (scene D.story D.faults m) n line reply (scene D.story D.faults m') };
 
     ghost ends = { λ m n line end m'. Ends D.tells (scene D.story D.faults m) n line end (scene D.story D.faults m') };
@@ -56,6 +60,10 @@ impl<D: Disk> Machine<D> for Shell {
 }
 
 impl Shell {
+    ghost use Rattle.carte_shell.specs.Answers.{Breaks, Obeys};
+    ghost use Rattle.carte_shell.specs.Commits.{Puts, Stops};
+    ghost use Rattle.carte_shell.specs.Scenes.{scene};
+
     /// Over an engine that isn't broken. It takes no memory.
     pub fn new(choices: Choices, book: Book, engine: Engine) -> Shell
         ensures choices { result.choices ≡ choices }
@@ -66,6 +74,7 @@ impl Shell {
             choices,
             book,
             engine,
+            rules: None,
         }
     }
 
@@ -80,13 +89,11 @@ impl Shell {
         match line {
             Line::Set(name, value) => set_input(alloc, &mut self.book, &name, value),
             Line::Build(targets) => self.build(alloc, disk, &targets),
-            Line::Explain(targets) => Ok(explanation(
-                alloc,
-                self.choices.rebuilder,
-                &self.engine,
-                &self.book,
-                &targets,
-            )?),
+            Line::Explain(targets) => {
+                let rules = known(alloc, &mut self.rules, &self.book)?;
+                let rebuilder = self.choices.rebuilder;
+                Ok(explanation_under(alloc, rebuilder, &self.engine, &self.book, &rules, &targets)?)
+            }
             Line::Clean => self.clean(alloc, disk),
             Line::Nothing => Ok(String::new(alloc)),
         }
@@ -105,7 +112,15 @@ impl Shell {
             (λ end. Breaks D.tells (scene D.story D.faults (self.old, disk.old)) (build_line targets.now) end (scene D.story D.faults (self.new, disk.new))) }
         ensures on { OnOk result (self.new.engine.journal.broken ≡ false) }
     {
-        let Plan { batch, answer } = plan(alloc, self.choices, &self.engine, &self.book, targets)?;
+        let rules = known(alloc, &mut self.rules, &self.book)?;
+        let Plan { batch, answer } = plan_under(
+            alloc,
+            self.choices,
+            &self.engine,
+            &self.book,
+            &rules,
+            targets,
+        )?;
         let text = build_text(alloc, self.choices.list, targets, &answer)?;
         match self.commit(alloc, disk, &batch) {
             Ok(()) => Ok(text),
@@ -139,20 +154,5 @@ impl Shell {
             Ok(()) => Ok(text),
             Err(fault) => Err(stopped(fault)),
         }
-    }
-}
-
-// The text of a line that sets is made before, too; a refusal changes nothing.
-fn set_input(alloc: Global, book: &mut Book, name: &Name, value: Value) -> Result<String, StepEnd>
-    requires { IsTrue (is_name_of (book_view book.old).kind name.now) }
-    ensures { MatchResult result
-        (λ text. SetsInput (book_view book.old) (book_view book.new) name.now value (string_bytes text))
-        (λ end. (end ≡ OutOfMemory) × (book_view book.new ≡ book_view book.old)) }
-{
-    let done = set_line(alloc, name)?;
-    match book.set(name, value) {
-        Ok(()) => Ok(done),
-        Err(SetFault::NoMemory) => Err(StepEnd::NoMemory),
-        Err(fault) => Ok(not_set_line(alloc, name, fault)?),
     }
 }

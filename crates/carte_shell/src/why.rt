@@ -1,6 +1,7 @@
 // The reply to a line that asks why.
 ghost use Rattle.std.specs.Prelude.{◌≡◌, ℕ, List, IfOk, OnOk, map, string_bytes};
 ghost use Rattle.carte_book.specs.Book.{book_view};
+ghost use Rattle.carte_book.specs.Digest.{rules_digest_of};
 ghost use Rattle.carte_explain.specs.declared.why.Why.{Why as SomeWhy};
 ghost use Rattle.carte_report.specs.Lines.{why_line, why_lines};
 ghost use Rattle.carte_record.specs.Kept.{kept_view};
@@ -11,11 +12,11 @@ ghost use Rattle.carte_shell.specs.Explained.{Explained, Tells, TellsEach, Tells
 use crate::chosen::{kind_of, preview};
 use carte_book::Book;
 use carte_engine::Engine;
-use carte_explain::{RebuilderKind, explain};
+use carte_explain::{RebuilderKind, explain_under};
 use carte_rebuild::{PlanFault, Work};
 use carte_record::Kept;
 use carte_report::{refused_line, why_line};
-use carte_value::{Name, Names, NoMemory};
+use carte_value::{Digest, Name, Names, NoMemory};
 use carte_words::Rebuilder4;
 use std::alloc::Global;
 
@@ -30,11 +31,28 @@ pub fn explanation(
 ) -> Result<String, NoMemory>
     ensures { IfOk result (λ text. Explained (how_of rebuilder) (kept_in engine.now) (book_view book.now) targets.now (string_bytes text)) }
 {
-    match preview(alloc, rebuilder, engine, book, targets) {
+    let rules = book.rules_digest(alloc)?;
+    explanation_under(alloc, rebuilder, engine, book, &rules, targets)
+}
+
+/// The same for whoever has the digest of the book's rules.
+pub(crate) fn explanation_under(
+    alloc: Global,
+    rebuilder: Rebuilder4,
+    engine: &Engine,
+    book: &Book,
+    rules: &Digest,
+    targets: &Names,
+) -> Result<String, NoMemory>
+    requires { rules.now ≡ rules_digest_of (book_view book.now) }
+    ensures { IfOk result (λ text. Explained (how_of rebuilder) (kept_in engine.now) (book_view book.now) targets.now (string_bytes text)) }
+{
+    match preview(alloc, rebuilder, engine, book, rules, targets) {
         Ok(work) => why_lines(
             alloc,
             engine.kept(),
             book,
+            rules,
             &work,
             kind_of(rebuilder),
             targets,
@@ -56,15 +74,17 @@ fn why_lines(
     alloc: Global,
     kept: &Kept,
     book: &Book,
+    rules: &Digest,
     work: &Work,
     kind: RebuilderKind,
     targets: &Names,
 ) -> Result<String, NoMemory>
+    requires { rules.now ≡ rules_digest_of (book_view book.now) }
     ensures { IfOk result (λ text. TellsEach kind (kept_view kept.now) (book_view book.now) work.now targets.now (string_bytes text)) }
 {
     let mut text = String::new(alloc);
     for key in targets.as_slice() {
-        let line = line_of(alloc, kept, book, work, kind, key)?;
+        let line = line_of(alloc, kept, book, rules, work, kind, key)?;
         text.push_str(line.as_str())?;
     }
     Ok(text)
@@ -74,12 +94,14 @@ fn line_of(
     alloc: Global,
     kept: &Kept,
     book: &Book,
+    rules: &Digest,
     work: &Work,
     kind: RebuilderKind,
     key: &Name,
 ) -> Result<String, NoMemory>
+    requires { rules.now ≡ rules_digest_of (book_view book.now) }
     ensures { IfOk result (λ text. (y : SomeWhy) × Tells kind (kept_view kept.now) (book_view book.now) work.now key.now y × (string_bytes text ≡ why_line key.now y)) }
 {
-    let why = explain(alloc, kept, book, work, kind, key)?;
+    let why = explain_under(alloc, kept, book, rules, work, kind, key)?;
     why_line(alloc, key, &why)
 }

@@ -36,7 +36,7 @@ pub(crate) fn build<B: Source, D: Disk, O: Sink>(
         result }
 {
     match load_book(alloc, asked.kind, source) {
-        Ok(book) => build_over(alloc, asked, &book, state, out),
+        Ok(book) => build_over(alloc, asked, book, state, out),
         Err(status) => status,
     }
 }
@@ -44,11 +44,11 @@ pub(crate) fn build<B: Source, D: Disk, O: Sink>(
 fn build_over<D: Disk, O: Sink>(
     alloc: Global,
     asked: &Words,
-    book: &Book,
+    book: Book,
     state: &mut D,
     out: &mut O,
 ) -> Status
-    ensures { BuildsOver 268435456 asked.now (book_view book.now)
+    ensures { BuildsOver 268435456 asked.now (book_view book)
         (over_disk D.tells D.story D.faults state.old state.new)
         (over_sink O.tells O.state out.old out.new)
         result }
@@ -62,14 +62,14 @@ fn build_over<D: Disk, O: Sink>(
 fn build_with<D: Disk, O: Sink>(
     alloc: Global,
     asked: &Words,
-    book: &Book,
+    book: Book,
     engine: &mut Engine,
     state: &mut D,
     out: &mut O,
 ) -> Status
     requires loaded { D.tells → IsLoaded engine.old (D.story state.old).now.reads }
     requires whole { engine.old.journal.broken ≡ false }
-    ensures { BuildsWith engine.old.journal.limit asked.now (book_view book.now) (kept_in engine.old)
+    ensures { BuildsWith engine.old.journal.limit asked.now (book_view book) (kept_in engine.old)
         (over_disk D.tells D.story D.faults state.old state.new)
         (over_sink O.tells O.state out.old out.new)
         result }
@@ -78,12 +78,14 @@ fn build_with<D: Disk, O: Sink>(
         alloc,
         choices_of(asked),
         engine,
-        book,
+        &book,
         &asked.targets,
     ) {
         Ok(plan) => plan,
         Err(_) => return Status::NoMemory,
     };
+    // The commit takes the most memory, and wants no book.
+    drop(book);
     match answer {
         Answer::Built(built) => settle(alloc, asked, &built, &batch, engine, state, out),
         Answer::Refused(reason) => match commit(alloc, engine, state, &batch) {

@@ -1,5 +1,6 @@
 -- Lists of finished keys with one key more at their end, and what is found in them.
-use Rattle.std.proofs.Common.{◌≡◌, ℕ, Bool, true, false, cond, not, ◌&&◌, List, [], ◌∷◌, ◌++◌, Some, Ok, refl, ap, sym, ◌∙◌, subst, inl, inr, ◌⊎◌}
+use Rattle.std.proofs.Common.{◌≡◌, ◌+◌, ℕ, Bool, true, false, cond, not, ◌&&◌, List, [], ◌∷◌, ◌++◌, length, Some, Ok, refl, ap, sym, ◌∙◌, subst, inl, inr, ◌⊎◌}
+use Rattle.std.proofs.lemmas.List.{length-append}
 use Rattle.std.specs.Cmp.Lexicographic.{bytes_decides}
 use Rattle.carte_value.specs.Truths.{Among, NoneTwice}
 use Rattle.carte_value.proofs.Members.{same_or_not, name_apart}
@@ -27,6 +28,9 @@ finishes_end (g ∷ gs) f = ap (λ r. (key_of g, has_run g.made) ∷ r) (finishe
 pub keys_end : (fs : List Finished) (f : Finished) → keys_in (fs ++ f ∷ []) ≡ keys_in fs ++ key_of f ∷ []
 keys_end [] f = refl
 keys_end (g ∷ gs) f = ap (λ r. key_of g ∷ r) (keys_end gs f)
+
+pub one_longer : (fs gs : List Finished) (f : Finished) → gs ≡ fs ++ f ∷ [] → length gs ≡ length fs + 1
+one_longer fs gs f is = ap length is ∙ length-append fs (f ∷ [])
 
 pub ran_end : (fs : List Finished) (f : Finished) → ran_in (fs ++ f ∷ []) ≡ ran_in fs ++ cond (has_run f.made) (key_of f ∷ []) []
 ran_end [] f = refl

@@ -1,5 +1,5 @@
 -- What a build has come to that treats the rules of an order one after the other.
-use Rattle.std.specs.Prelude.{ℕ, ◌≡◌, List, [], ◌∷◌, ◌++◌, None, Result, Ok, Err}
+use Rattle.std.specs.Prelude.{ℕ, ◌≡◌, List, [], ◌∷◌, ◌++◌, length, None, Result, Ok, Err}
 use Rattle.carte_value.specs.Truths.{Among, HasValue}
 use Rattle.carte_book.specs.Book.{Book}
 use Rattle.carte_record.specs.Kept.{SomeKept}
@@ -9,10 +9,12 @@ use Rattle.carte_note.specs.Right.{AreRight, finishes_of, keys_in, ran_in}
 use Rattle.carte_bench.specs.Spots.{Spots, job_in, seen_in}
 use Rattle.carte_bench.specs.Steps.{FitsOf, IsCore}
 use Rattle.carte_rebuild.specs.declared.work.Work.{Work}
+use Rattle.carte_rebuild.specs.declared.work.WorkEnd.{WorkEnd}
+use Rattle.carte_rebuild.specs.declared.work.WorkEnd.TheVariants.{All, Refused}
 use Rattle.carte_rebuild.specs.Ends.{IsGiven, IsWork, NothingGivenUp}
 use Rattle.carte_topo.specs.declared.building.Fault.{Fault}
 use Rattle.carte_topo.specs.declared.building.Fault.TheVariants.{Stopped, NoMemory}
-use Rattle.carte_topo.specs.Orders.{IsNext}
+use Rattle.carte_topo.specs.Orders.{IsNext, IsOrder}
 
 -- no job stands on the bench
 abbrev pub HaveNoJobs : {J : Type 0} → Spots J → Type 0
@@ -43,8 +45,13 @@ abbrev pub Advances : {J : Type 0} → FitsOf J → How → SomeKept → Book �
 Advances fits h K b old new w w' k result =
     IsGiven K b → (ks : List (List ℕ)) → IsNext b ks k → IsSoFar fits h K b old ks w → AdvancesBehind fits h K b old new w w' k ks result
 
--- all of an order; a job stops only where what the build began with may not be relied on
+-- all of an order, in number whatever the build began with; a job stops only where that may not be relied on
 abbrev pub Treats : How → SomeKept → Book → List (List ℕ) → Result Work Fault → Type 0
-Treats h K b ks (Ok w) = (w.chain ≡ None) × (IsGiven K b → IsWork h K b (Among ks) w × NothingGivenUp w)
+Treats h K b ks (Ok w) = (w.chain ≡ None) × (length w.finished ≡ length ks) × (IsGiven K b → IsWork h K b (Among ks) w × NothingGivenUp w)
 Treats h K b ks (Err Stopped) = ¬ (IsGiven K b)
 Treats h K b ks (Err NoMemory) = Unit {0}
+
+-- as many keys are finished as an order of the targets has rules
+abbrev pub FinishesAll : Book → List (List ℕ) → WorkEnd → Type 0
+FinishesAll b targets (All w) = (ks : List (List ℕ)) × IsOrder b targets ks × (length w.finished ≡ length ks)
+FinishesAll b targets (Refused w reason) = Unit {0}

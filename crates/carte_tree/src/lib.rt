@@ -36,4 +36,4 @@ pub use fault::FormulaFault;
 pub use fixed::is_static;
 pub use laws::{static_asks, static_ends, static_looks, static_needs, static_runs};
 pub use mentioned::refs;
-pub use printer::print;
+pub use printer::{print, print_expr};

@@ -22,8 +22,10 @@ pub fn print(alloc: Global, expr: &Expr) -> Result<String, NoMemory>
     Ok(out)
 }
 
+/// Puts the canonical text of a formula behind what a text holds, so that one buffer serves many formulas. Where there is
+/// no memory a part of it may stand there.
 #[cycle(print)]
-fn print_expr(alloc: Global, out: &mut String, expr: &Expr) -> Result<(), NoMemory>
+pub fn print_expr(alloc: Global, out: &mut String, expr: &Expr) -> Result<(), NoMemory>
     requires { IsExpr (tree_of expr.now) }
     ensures { OnOk result (string_bytes out.new ≡ string_bytes out.old ++ printed (tree_of expr.now)) }
 {

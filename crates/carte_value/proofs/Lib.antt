@@ -6,6 +6,8 @@ pub mod Stops
 pub mod Once
 pub mod Laws
 pub mod Fetches
+pub mod Ascii
+pub mod Fronts
 pub mod Prefixes
 pub mod CellPrefixes
 pub mod Raised

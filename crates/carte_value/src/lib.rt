@@ -7,8 +7,9 @@
 //! contracts speak of items and not of capacities. An area is plain too, with the condition on its sides in the
 //! contracts: it stands in trees of formulas, where an invariant in the type would stand in the way.
 //!
-//! Names and texts share their bytes with their copies: a name stands in many lists, and a long text may be looked up by
-//! thousands of rules. An `Rc` would do so too, but no name could then pass to another thread.
+//! A name of at most 16 bytes stands in itself, and two numbers tell it from others: names are what lists and maps are
+//! made of. Longer names and texts share their bytes with their copies, since a long text may be looked up by thousands
+//! of rules. An `Rc` would do so too, but no name could then pass to another thread.
 //!
 //! What is promised of a format is a relation between bytes and values in `specs/`, never the reader's loop again:
 //! bytes begin with a spelling, a text is the printed form of a text, a prefix begins some name. Laws over all values
@@ -28,6 +29,7 @@ mod area_law;
 mod asks_law;
 mod cell_name;
 mod digest;
+mod front;
 mod items;
 mod kind;
 mod link;
@@ -38,6 +40,7 @@ mod place;
 mod printing;
 mod reading;
 mod reading_law;
+mod rest;
 mod spelling;
 mod spelling_law;
 mod text;

@@ -1,10 +1,9 @@
 ghost use Rattle.std.specs.Prelude.{◌≡◌, ℕ, Some, refl, IsTrue, IfOk};
 ghost use Rattle.std.proofs.Common.{rules};
 ghost use Rattle.std.specs.Ordering.{nat_cmp};
-ghost use Rattle.std.specs.Hash as fed;
 ghost use Rattle.std.specs.Cmp.{on_equiv, on_total, on_po, on_per, partial_equiv_from_equiv};
 ghost use Rattle.std.specs.Cmp.Lexicographic.{nat_list_eq_equiv, nat_list_cmp_total, texts_ties, texts_po};
-ghost use Rattle.std.specs.Cmp.Rules.{comparing, hashing};
+ghost use Rattle.carte_value.specs.Fronts.{fed, fed_alike};
 ghost use Rattle.carte_value.specs.Names.{name_cmp, name_eq, is_name, is_rule_name, is_cell_name, is_cell_text};
 ghost use Rattle.carte_value.specs.Areas.{cell_at, IsPlace, IsPlaceOf};
 ghost use Rattle.carte_value.specs.Kinds.{is_name_of, is_text_of, name_of};
@@ -12,11 +11,15 @@ ghost use Rattle.carte_value.specs.Prefixes.{IsNameRead};
 ghost use Rattle.std.specs.Str.{str_to_ascii_uppercase};
 
 use crate::cell_name::cell_name;
-use crate::name_text::{cell_prefix, first, is_cell, is_name, is_rule, name_prefix, rule_prefix};
+use crate::front::{alike, front_of, order};
+use crate::name_text::{cell_prefix, is_cell, is_name, is_rule, name_prefix, rule_prefix};
 use crate::place::{column, row};
+use crate::rest::Rest;
 use crate::{Kind, NameFault, NoMemory};
-use std::alloc::Global;
+use std::alloc::{AllocError, Global};
 use std::cmp::Ordering;
+use std::fmt;
+use std::fmt::{Debug, Formatter, Write};
 use std::hash::{Hash, Hasher};
 use std::marker::Model;
 use std::sync::ArcStr;
@@ -26,22 +29,24 @@ pub const NAME_LIMIT: usize = 64;
 
 /// The name of a key: of a rule or an input in a rule file, or of a cell in a sheet.
 ///
-/// Its text is shared by its copies, since a name stands in many lists at once: a copy costs a pointer.
-#[derive(Debug, Drop)]
+/// Up to 16 bytes stand in the name itself: it takes no memory then, and names are told apart and put in order by two
+/// numbers. A longer text is shared by its copies, since a name stands in many lists at once.
+#[derive(Drop)]
 pub struct Name {
-    text: ArcStr,
+    /// Its first 16 bytes, and zeros behind them.
+    front: [u8; 16],
+    rest: Rest,
 }
 
 impl Model for Name {
-    ghost use Rattle.std.specs.Prelude.{ℕ, List, IsTrue};
-    ghost use Rattle.std.specs.Arc.{arc_str_bytes};
-    ghost use Rattle.carte_value.specs.Names.{is_name};
+    ghost use Rattle.std.specs.Prelude.{ℕ, List};
+    ghost use Rattle.carte_value.specs.Fronts.{shown, IsHeld};
 
     ghost Value = { List ℕ };
 
-    ghost view = { λ k. arc_str_bytes k.text };
+    ghost view = { λ k. shown k.front k.rest };
 
-    ghost invariant = { λ k. IsTrue (is_name (arc_str_bytes k.text)) };
+    ghost invariant = { λ k. IsHeld k.front k.rest };
 }
 
 impl Name {
@@ -52,8 +57,7 @@ impl Name {
         if !is_rule(text.as_bytes()) {
             return Err(NameFault::BadName(rule_prefix(text.as_bytes())));
         }
-        let text = ArcStr::from_str(alloc, text)?;
-        Ok(Name { text })
+        Ok(Name::held(alloc, text)?)
     }
 
     /// Reads a name of a cell, in either case: A to ZZ, and then a row from 1 to 9999 without leading zeros.
@@ -63,8 +67,8 @@ impl Name {
         if !is_cell(text.as_bytes()) {
             return Err(NameFault::BadName(cell_prefix(text.as_bytes())));
         }
-        let text = ArcStr::from_string(text.to_ascii_uppercase(alloc)?)?;
-        Ok(Name { text })
+        let upper = text.to_ascii_uppercase(alloc)?;
+        Ok(Name::held(alloc, upper.as_str())?)
     }
 
     /// The name whose text is exactly this: a name of a rule file, or a name of a cell in upper case.
@@ -74,8 +78,7 @@ impl Name {
         if !is_name(text.as_bytes()) {
             return Err(NameFault::BadName(name_prefix(text.as_bytes())));
         }
-        let text = ArcStr::from_str(alloc, text)?;
-        Ok(Name { text })
+        Ok(Name::held(alloc, text)?)
     }
 
     /// Reads a name of this kind of book.
@@ -93,8 +96,21 @@ impl Name {
         requires { IsPlace column row }
         ensures { IfOk result (λ k. k ≡ cell_at column row) }
     {
-        let text = ArcStr::from_string(cell_name(alloc, column, row)?)?;
-        Ok(Name { text })
+        let text = cell_name(alloc, column, row)?;
+        Ok(Name::held(alloc, text.as_str())?)
+    }
+
+    fn held(alloc: Global, text: &str) -> Result<Name, AllocError>
+        requires { IsTrue (is_name text.now) }
+        ensures { IfOk result (λ k. k ≡ text.now) }
+    {
+        let front = front_of(text.as_bytes());
+        let rest = if text.len() <= 16 {
+            Rest::Short(text.len() as u8)
+        } else {
+            Rest::Long(ArcStr::from_str(alloc, text)?)
+        };
+        Ok(Name { front, rest })
     }
 
     /// The column and the row of a cell, counted from 1.
@@ -104,7 +120,7 @@ impl Name {
         if !self.is_cell() {
             return None;
         }
-        let name = self.text.as_bytes();
+        let name = self.bytes();
         Some((column(name), row(name)))
     }
 
@@ -112,14 +128,14 @@ impl Name {
     pub fn is_rule(&self) -> bool
         ensures { result ≡ is_rule_name self.now }
     {
-        first(self.text.as_bytes()).is_ascii_lowercase()
+        self.front[0].is_ascii_lowercase()
     }
 
     /// Whether it is a name of a cell.
     pub fn is_cell(&self) -> bool
         ensures { result ≡ is_cell_name self.now }
     {
-        first(self.text.as_bytes()).is_ascii_uppercase()
+        self.front[0].is_ascii_uppercase()
     }
 
     /// Whether it is a name of this kind of book.
@@ -137,15 +153,43 @@ impl Name {
         ensures text { result.now ≡ self.now }
         ensures name { IsTrue (is_name self.now) }
     {
-        self.text.as_str()
+        match &self.rest {
+            Rest::Short(_) => match str::from_utf8(self.bytes()) {
+                Ok(text) => text,
+                Err(_) => unreachable!(),
+            },
+            Rest::Long(text) => text.as_str(),
+        }
     }
 
-    /// The same name. It shares the text, so it takes nothing from the allocator.
+    /// The bytes of its text, at less cost than the text.
+    pub fn bytes(&self) -> &[u8]
+        ensures { result.now ≡ self.now }
+    {
+        match &self.rest {
+            Rest::Short(length) => &self.front[..*length as usize],
+            Rest::Long(text) => text.as_bytes(),
+        }
+    }
+
+    /// The same name. A long one shares its text, so it takes nothing from the allocator.
     pub fn copy(&self, _alloc: Global) -> Result<Name, NoMemory>
         ensures { IfOk result (λ k. k ≡ self.now) }
     {
-        let text = self.text.clone()?;
-        Ok(Name { text })
+        let rest = match &self.rest {
+            Rest::Short(length) => Rest::Short(*length),
+            Rest::Long(text) => Rest::Long(text.clone()?),
+        };
+        Ok(Name {
+            front: self.front,
+            rest,
+        })
+    }
+}
+
+impl Debug for Name {
+    fn fmt<W: Write>(&self, f: &mut Formatter<W>) -> fmt::Result {
+        f.debug_struct("Name").field("text", &self.text()).finish()
     }
 }
 
@@ -155,7 +199,13 @@ impl PartialEq for Name {
     ghost laws = { partial_equiv_from_equiv nat_list_eq_equiv };
 
     fn eq(&self, other: &Name) -> bool {
-        self.text.as_str() == other.text.as_str()
+        if !alike(&self.front, &other.front) {
+            return false;
+        }
+        match (&self.rest, &other.rest) {
+            (Rest::Short(length), Rest::Short(others)) => length == others,
+            _ => self.text() == other.text(),
+        }
     }
 }
 
@@ -183,16 +233,25 @@ impl Ord for Name {
     ghost matches_eq = { texts_ties };
 
     fn cmp(&self, other: &Name) -> Ordering {
-        self.text.as_str().cmp(other.text.as_str())
+        match order(&self.front, &other.front) {
+            Ordering::Equal => match (&self.rest, &other.rest) {
+                (Rest::Short(length), Rest::Short(others)) => length.cmp(others),
+                _ => self.text().cmp(other.text()),
+            },
+            unlike => unlike,
+        }
     }
 }
 
 impl Hash for Name {
-    ghost hash_input = { fed.str };
+    ghost hash_input = { fed };
 
-    ghost respects_eq = { Prim.search (hashing, rules) };
+    ghost respects_eq = { fed_alike };
 
     fn hash<H: Hasher>(&self, state: &mut H) {
-        self.text.as_str().hash(state);
+        match &self.rest {
+            Rest::Short(_) => state.write(self.front.as_slice()),
+            Rest::Long(text) => state.write(text.as_bytes()),
+        }
     }
 }

@@ -16,12 +16,12 @@ returns-in-Ok g c =
     let m = g.D.Disk.story c.load_state.new.state in
     let f = g.D.Disk.faults c.load_state.new.state in
     builds_from 268435456 o m f (c.build_with.new.state ≡ c.load_state.new.state) c.in-Ok.ensures.story c.in-Ok.ensures.disk
-    c.args.asked.now (book_view c.args.book.now) (kept_in e) k c.build_with.result
+    c.args.asked.now (book_view c.args.book) (kept_in e) k c.build_with.result
     (λ told. subst (λ (l : ℕ). Keeps l (kept_in e) (g.D.Disk.story c.args.state.now).now.reads) c.in-Ok.ensures.loaded.1 (keeps_loaded e (g.D.Disk.story c.args.state.now).now.reads (c.in-Ok.ensures.loaded.0 told)))
-    (subst (λ (l : ℕ). BuildsWith l c.args.asked.now (book_view c.args.book.now) (kept_in e) (loaded_from o m f (c.build_with.new.state ≡ c.load_state.new.state)) k c.build_with.result) c.in-Ok.ensures.loaded.1 c.build_with.ensures)
+    (subst (λ (l : ℕ). BuildsWith l c.args.asked.now (book_view c.args.book) (kept_in e) (loaded_from o m f (c.build_with.new.state ≡ c.load_state.new.state)) k c.build_with.result) c.in-Ok.ensures.loaded.1 c.build_with.ensures)
 
 pub returns-in-Err : goal.returns-in-Err
 returns-in-Err g c =
     builds_nothing 268435456 (over_disk g.D.Disk.tells g.D.Disk.story g.D.Disk.faults c.args.state.now c.load_state.new.state)
     (over_sink g.O.Sink.tells g.O.Sink.state c.args.out.now c.args.out.now) c.in-Err.ensures.story (refl, refl, refl)
-    c.args.asked.now (book_view c.args.book.now) c.in-Err.status c.in-Err.ensures.loaded c.in-Err.ensures.disk
+    c.args.asked.now (book_view c.args.book) c.in-Err.status c.in-Err.ensures.loaded c.in-Err.ensures.disk

@@ -14,7 +14,7 @@ returns-in-Err g c =
     let s = g.D.Disk.story c.args.state.now in
     record {
       did = ((refl, refl, refl), λ told. refl);
-      stays = λ told settled. stays_still e s s (IsStation e.journal.limit (MayBuild c.args.asked.now (book_view c.args.book.now)) (kept_in e)) (c.requires.loaded told) settled refl (λ file keeps. inl keeps);
+      stays = λ told settled. stays_still e s s (IsStation e.journal.limit (MayBuild c.args.asked.now (book_view c.args.book)) (kept_in e)) (c.requires.loaded told) settled refl (λ file keeps. inl keeps);
       disk = refl;
       sink = refl;
     }
@@ -23,7 +23,7 @@ pub returns-in-Built : goal.returns-in-Built
 returns-in-Built g c =
     let e = c.args.engine.now in
     let w = c.args.asked.now in
-    let b = book_view c.args.book.now in
+    let b = book_view c.args.book in
     let p = c.in-Ok.plan in
     built_with e.journal.limit w b (kept_in e) p.batch c.in-Built.built (answers_so w c.choices_of.result c.choices_of.ensures b (kept_in e) p (answer.Built c.in-Built.built) c.in-Built.is c.in-Ok.ensures.plans)
     (over_disk g.D.Disk.tells g.D.Disk.story g.D.Disk.faults c.args.state.now c.settle.new.state)
@@ -33,7 +33,7 @@ pub returns-in-Ok-commit : goal.returns-in-Ok-commit
 returns-in-Ok-commit g c =
     let e = c.args.engine.now in
     let w = c.args.asked.now in
-    let b = book_view c.args.book.now in
+    let b = book_view c.args.book in
     let p = c.in-Ok.plan in
     let answers = answers_so w c.choices_of.result c.choices_of.ensures b (kept_in e) p (answer.Refused c.in-Refused.reason) c.in-Refused.is c.in-Ok.ensures.plans in
     let d = over_disk g.D.Disk.tells g.D.Disk.story g.D.Disk.faults c.args.state.now c.commit.new.state in
@@ -48,7 +48,7 @@ pub returns : goal.returns
 returns g c =
     let e = c.args.engine.now in
     let w = c.args.asked.now in
-    let b = book_view c.args.book.now in
+    let b = book_view c.args.book in
     let p = c.in-Ok.plan in
     let answers = answers_so w c.choices_of.result c.choices_of.ensures b (kept_in e) p (answer.Refused c.in-Refused.reason) c.in-Refused.is c.in-Ok.ensures.plans in
     let d = over_disk g.D.Disk.tells g.D.Disk.story g.D.Disk.faults c.args.state.now c.commit.new.state in

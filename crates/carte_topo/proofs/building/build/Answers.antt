@@ -1,4 +1,4 @@
-use Rattle.std.proofs.Common.{ℕ, List, subst}
+use Rattle.std.proofs.Common.{ℕ, List, length, ap, ◌∙◌, subst}
 use Rattle.carte_value.specs.Truths.{Among}
 use Rattle.carte_book.specs.Book.{book_view}
 use Rattle.carte_record.specs.Kept.{kept_view}
@@ -6,8 +6,8 @@ use Rattle.carte_rebuild.specs.Ends.{IsWork}
 use Rattle.carte_topo.proofs.Treated.{done_in_order}
 use Rattle.carte_topo.proofs.building.build.Goals as goal
 
-pub returns-in-Ok-treat_all : goal.returns-in-Ok-treat_all
-returns-in-Ok-treat_all g c =
+pub returns-in-Ok-treat_all-clause-ends : goal.returns-in-Ok-treat_all-clause-ends
+returns-in-Ok-treat_all-clause-ends g c =
     let h = g.R.Rebuilder.how c.args.rebuilder.now in
     let K = kept_view c.args.kept.now in
     let b = book_view c.args.book.now in
@@ -18,6 +18,10 @@ returns-in-Ok-treat_all g c =
       order.no_dynamic,
       order.all_clean,
       λ given.
-          let done = treated.1 given in
+          let done = treated.2 given in
           (done_in_order h K b c.args.targets.now c.in-Ok.names work order (subst (λ (l : List (List ℕ)). IsWork h K b (Among l) work) c.as_slice.ensures done.0), done.1),
     )
+
+pub returns-in-Ok-treat_all-clause-all : goal.returns-in-Ok-treat_all-clause-all
+returns-in-Ok-treat_all-clause-all g c =
+    (c.in-Ok.names, c.in-Ok.ensures, (c.in-Ok-treat_all.ensures {u = tt}).1 ∙ ap length c.as_slice.ensures)

@@ -7,6 +7,7 @@ use Rattle.carte_bench.specs.Held.{spots_of}
 use Rattle.carte_bench.specs.Spots.{PutAt}
 use Rattle.carte_bench.specs.Turns.{TurnedTo}
 use Rattle.carte_rebuild.specs.Goes.{may_ask}
+use Rattle.carte_topo.proofs.Finishing.{one_longer}
 use Rattle.carte_topo.proofs.Treating.{no_stop, one_more}
 use Rattle.carte_topo.proofs.building.treat.Goals as goal
 
@@ -40,3 +41,6 @@ returns-clause-advances g c given ks next so =
     one_more g.R.Job.Job.name g.R.Job.Job.started g.R.Job.Job.gives g.R.Job.Job.fits (g.R.Rebuilder.how r) K b (spots_of c.args.bench.now) (spots_of c.demand.new.self) (spots_of c.turn.new.self) ks k job (may_ask (g.R.Rebuilder.how r) b k) c.args.work.now c.turn.new.runs (g.met.R.Job.Job g.world.𝓛 g.world.𝓜 g.world.𝓡 ((λ s x. x), (λ x. x), (λ x. x), λ x. x)).fits_on next so c.requires.unknown put fit
     (λ part a m q is_part gave. (g.met.R.Rebuilder.goes_on r K b given.0 (λ (n : List ℕ). None) k job part a (came m) q given.1 start.begun (λ i v never. cc) is_part gave).0)
     c.in-Some.made here c.in_ok-finished.finished finished.made finished.right start.idle _ (c.in_ok-push.ensures {u = tt}) refl
+
+pub returns-clause-longer : goal.returns-clause-longer
+returns-clause-longer g c = one_longer c.args.work.now.finished _ c.in_ok-finished.finished (c.in_ok-push.ensures {u = tt})

@@ -1,4 +1,4 @@
-use Rattle.std.proofs.Common.{◌≡◌, ℕ, ◌+◌, List, [], ◌∷◌, ◌++◌, ap, sym, ◌∙◌, subst, take, arith}
+use Rattle.std.proofs.Common.{◌≡◌, ℕ, ◌+◌, List, [], ◌∷◌, ◌++◌, length, ap, sym, ◌∙◌, subst, take, arith}
 use Rattle.std.proofs.lemmas.List.{take_all}
 use Rattle.std.proofs.lemmas.Result.{err_from_is_err_and}
 use Rattle.carte_book.specs.Book.{book_view}
@@ -15,6 +15,7 @@ loop-at-init g c = record {
   no_jobs = λ q. ap job_in (c.new-bench.ensures.empty q);
   unknown = λ q apart. c.new-bench.ensures.empty q;
   chain = c.new-work.ensures.chain;
+  count = ap length c.new-work.ensures.finished;
   so_far = λ given. none_so_far g.R.Job.Job.fits (g.R.Rebuilder.how c.args.rebuilder.now) (kept_view c.args.kept.now) (book_view c.args.book.now) (spots_of c.new-bench.result) c.args.names.now c.new-work.result c.new-bench.ensures.empty c.new-work.ensures.finished c.new-work.ensures.runs;
 }
 
@@ -51,6 +52,7 @@ loop-at-preserved g c =
       no_jobs = ok.no_jobs;
       unknown = still_unknown (spots_of c.loop-at.bench) (spots_of c.treat.new.bench) (take at names) (take (at + 1) names) k more ok.others c.loop-at.invariant.unknown;
       chain = ok.chain ∙ c.loop-at.invariant.chain;
+      count = ok.longer ∙ ap (λ n. n + 1) c.loop-at.invariant.count;
       so_far = λ given. subst (λ (l : List (List ℕ)). IsSoFar g.R.Job.Job.fits (g.R.Rebuilder.how c.args.rebuilder.now) (kept_view c.args.kept.now) (book_view c.args.book.now) (spots_of c.treat.new.bench) l c.treat.new.work) (sym more) (ok.advances given (take at names) next (c.loop-at.invariant.so_far given));
     }
 
@@ -62,6 +64,7 @@ returns g c =
     let b = book_view c.args.book.now in
     let all : take c.loop-at.at names ≡ names = take_all c.loop-at.at names (omega arith) in (
       c.loop-at.invariant.chain,
+      c.loop-at.invariant.count ∙ omega arith,
       λ given.
           let so = subst (λ (l : List (List ℕ)). IsSoFar g.R.Job.Job.fits h K b (spots_of c.loop-at.bench) l c.loop-at.work) all (c.loop-at.invariant.so_far given) in (
             all_treated g.R.Job.Job.fits h K b (spots_of c.loop-at.bench) names c.loop-at.work so c.requires.once,

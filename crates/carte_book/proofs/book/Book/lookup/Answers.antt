@@ -15,7 +15,7 @@ returns-in-Some-Input-clause-answer c =
 pub returns-in-Some-Rule-clause-answer : goal.returns-in-Some-Rule-clause-answer
 returns-in-Some-Rule-clause-answer c =
     let found : tree.get name_cmp c.args.self.now.items c.args.name.now ≡ Some (RuleItem c.in-Some-Rule.formula) = cc (c.in-Some-Rule.ensures.value) in
-    ap (λ o. or_default o (default_of c.args.self.now.kind c.args.name.now)) (item_found c.args.self.now c.args.name.now ∙ ap (option_map item_view) found)
+    rw c.deref.ensures (ap (λ o. or_default o (default_of c.args.self.now.kind c.args.name.now)) (item_found c.args.self.now c.args.name.now ∙ ap (option_map item_view) found))
 
 pub returns-in-None-clause-answer : goal.returns-in-None-clause-answer
 returns-in-None-clause-answer c =
@@ -25,7 +25,7 @@ returns-in-None-clause-answer c =
 pub returns-in-Some-Rule-clause-formula : goal.returns-in-Some-Rule-clause-formula
 returns-in-Some-Rule-clause-formula c =
     let found : tree.get name_cmp c.args.self.now.items c.args.name.now ≡ Some (RuleItem c.in-Some-Rule.formula) = cc (c.in-Some-Rule.ensures.value) in
-    found_fits c.args.self.now c.args.name.now (RuleItem c.in-Some-Rule.formula) found
+    rw c.deref.ensures (found_fits c.args.self.now c.args.name.now (RuleItem c.in-Some-Rule.formula) found)
 
 pub returns-in-Some-Input-clause-others : goal.returns-in-Some-Input-clause-others
 returns-in-Some-Input-clause-others c = no_others c.args.self.now

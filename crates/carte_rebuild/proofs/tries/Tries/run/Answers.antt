@@ -1,13 +1,15 @@
-use Rattle.std.proofs.Common.{refl, ap, sym, ◌∙◌}
+use Rattle.std.proofs.Common.{refl, ap, ◌∙◌}
 use Rattle.carte_task.specs.Machines.{state_of}
 use Rattle.carte_rebuild.specs.Trying.{machine_left, tries}
-use Rattle.carte_rebuild.specs.Left.{left_of}
+use Rattle.carte_rebuild.specs.Left.{task_in, behind, left_of}
+use Rattle.carte_rebuild.proofs.Begun.{one_task}
 use Rattle.carte_rebuild.proofs.Driven.{machine_gave}
 use Rattle.carte_rebuild.proofs.tries.Tries.run.Goals as goal
 
 pub returns-clause-gave : goal.returns-clause-gave
 returns-clause-gave g c =
-    machine_gave left_of state_of _ _ _ _ _ _ c.begin.new.self.machine c.drive.new.self c.drive.result
-    (ap (λ cs. tries cs (machine_left (state_of c.args.self.now.machine))) c.requires ∙ ap (λ m. machine_left (state_of m)) (sym c.begin.ensures.machine))
-    (rw ((c.in_ok-begin.ensures {u = tt}).begun) refl)
+    let begun = (c.in_ok-begin.ensures {u = tt}).begun in
+    machine_gave left_of state_of _ _ _ _ c.args.self.now _ c.in-Task.machine c.drive.new.self c.drive.result
+    (ap (λ cs. tries cs (behind (task_in c.args.self.now))) c.requires ∙ begun.left ∙ ap (λ m. machine_left (state_of m)) (one_task c.begin.new.self.stage begun.machine c.in-Task.machine begun.stage c.in-Task.is))
+    refl
     c.drive.ensures.gave

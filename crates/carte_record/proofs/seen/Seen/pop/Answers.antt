@@ -16,3 +16,13 @@ invariant_of-self c =
           (λ q. name_eq_sym q c.in-Some.link.name) (λ q. name_eq_is c.in-Some.link.name q) (name_eq_self c.in-Some.link.name)
           (subst (λ xs. IsFirstPlaces is_link_of xs (get name_eq c.self.inside.places)) was c.self.invariant.1) c.forget.ensures,
     )
+
+pub invariant_of-self-in-Some-2 : goal.invariant_of-self-in-Some-2
+invariant_of-self-in-Some-2 c =
+    let was = (c.in-Some.ensures {u = tt}).items in
+    let end : c.len.result ≡ length c.pop.new.self.items = search rules in (
+      omega (arith, ap length was, length-append c.pop.new.self.items (c.in-Some.link ∷ []), c.self.invariant.0),
+      place_forgotten name_eq is_link_of c.pop.new.self.items c.in-Some.link c.in-Some.link.name (get name_eq c.self.inside.places) (get name_eq c.forget.new.table) c.len.result end
+          (λ q. name_eq_sym q c.in-Some.link.name) (λ q. name_eq_is c.in-Some.link.name q) (name_eq_self c.in-Some.link.name)
+          (subst (λ xs. IsFirstPlaces is_link_of xs (get name_eq c.self.inside.places)) was c.self.invariant.1) c.forget.ensures,
+    )

@@ -3,7 +3,7 @@ use Rattle.std.specs.Prelude.{IfOk}
 use Rattle.carte_book.specs.Book.{book_view}
 use Rattle.carte_explain.specs.declared.why.Why.{Why}
 use Rattle.carte_explain.proofs.Explaining.{why_input, why_ran, why_reused}
-use Rattle.carte_explain.proofs.target.explain.Goals as goal
+use Rattle.carte_explain.proofs.target.explain_under.Goals as goal
 
 told : {E : Type 0} (q : Result Why E) (P Q : Why → Type 0) → IfOk q P → ((why : Why) → P why → Q why) → IfOk q Q
 told (Ok why) P Q holds goes = goes why holds

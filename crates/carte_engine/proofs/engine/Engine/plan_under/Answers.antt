@@ -4,7 +4,7 @@ use Rattle.carte_record.specs.Kept.{kept_view}
 use Rattle.carte_mark.specs.Bases.{BeginsWith}
 use Rattle.carte_state.specs.States.{Stand, kept_in}
 use Rattle.carte_engine.specs.Reckoned.{EndsBy}
-use Rattle.carte_engine.proofs.engine.Engine.plan.Goals as goal
+use Rattle.carte_engine.proofs.engine.Engine.plan_under.Goals as goal
 
 pub returns-clause-plans : goal.returns-clause-plans
 returns-clause-plans g c H sound distinct =

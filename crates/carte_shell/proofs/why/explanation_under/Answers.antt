@@ -8,7 +8,7 @@ use Rattle.carte_shell.specs.Chosen.{how_of}
 use Rattle.carte_shell.specs.Explained.{AreWhys, TellAll}
 use Rattle.carte_shell.proofs.Results.{at_ok, lifted}
 use Rattle.carte_shell.proofs.Telling.{are_why, refused_by}
-use Rattle.carte_shell.proofs.why.explanation.Goals as goal
+use Rattle.carte_shell.proofs.why.explanation_under.Goals as goal
 
 pub returns-in-Ok : goal.returns-in-Ok
 returns-in-Ok c =

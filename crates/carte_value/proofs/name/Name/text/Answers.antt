@@ -1,0 +1,9 @@
+use Rattle.std.proofs.Common.{◌≡◌, true, subst, sym, IsUtf8}
+use Rattle.carte_value.specs.Names.{is_name}
+use Rattle.carte_value.proofs.Ascii.{name_utf8}
+use Rattle.carte_value.proofs.name.Name.text.Goals as goal
+
+pub unreachable-requires : goal.unreachable-requires
+unreachable-requires c =
+    let name = subst (λ k. is_name k ≡ true) c.self.view_is c.self.invariant.is in
+    c.in-Err.ensures.cases.0 (subst IsUtf8 (sym c.bytes.ensures) (name_utf8 c.args.self.now name))

@@ -1,0 +1,39 @@
+-- How a name is kept: its first 16 bytes, and the whole of a longer one.
+use Rattle.std.specs.Prelude.{ℕ, zero, suc, List, [], ◌∷◌, ◌≡◌, ◌≤◌, ◌<◌, length, take, nat_le, IsTrue, if◌then◌else◌}
+use Rattle.std.specs.Arc.{arc_str_bytes}
+use Rattle.carte_value.specs.declared.rest.Rest.{Rest}
+use Rattle.carte_value.specs.declared.rest.Rest.TheVariants.{Short, Long}
+use Rattle.carte_value.specs.Names.{is_name, name_eq}
+use Rattle.std.proofs.Common.{ap}
+use Rattle.std.specs.Cmp.Lexicographic.{bytes_decides}
+
+-- the first n bytes, with zeros behind them where there are fewer
+abbrev pub padded : ℕ → List ℕ → List ℕ
+padded zero k = []
+padded (suc n) [] = 0 ∷ padded n []
+padded (suc n) (x ∷ k) = x ∷ padded n k
+
+unfoldable pub front_of : List ℕ → List ℕ
+front_of k = padded 16 k
+
+-- the bytes of the name that is kept so
+abbrev pub shown : List ℕ → Rest → List ℕ
+shown front (Short n) = take n front
+shown front (Long text) = arc_str_bytes text
+
+-- a name stands in front as long as there is room for it
+abbrev pub Fits : Rest → Type 0
+Fits (Short n) = n ≤ 16
+Fits (Long text) = 16 < length (arc_str_bytes text)
+
+pub record IsHeld (front : List ℕ) (rest : Rest) : Type 0 where
+  pub is : IsTrue (is_name (shown front rest))
+  pub begins : front ≡ front_of (shown front rest)
+  pub fits : Fits rest
+
+-- what is hashed: the front, or the whole of a longer name
+unfoldable pub fed : List ℕ → List (List ℕ)
+fed k = (if nat_le (length k) 16 then front_of k else k) ∷ []
+
+pub fed_alike : (k j : List ℕ) → IsTrue (name_eq k j) → fed k ≡ fed j
+fed_alike k j same = ap fed ((bytes_decides k j).0 same)
