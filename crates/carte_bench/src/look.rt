@@ -34,7 +34,7 @@ impl<J> Look for Bench<'_, J> {
         match self.book.lookup(name) {
             Looked::Input(value) => Seen::Value(value),
             Looked::Rule(_) => match self.slots.get(name) {
-                Some(Slot::Done(made)) => Seen::Value(made.value()),
+                Some(Slot::Done(made)) => Seen::Made(made.hashed()),
                 _ => Seen::NotDone,
             },
             Looked::None => Seen::Missing,

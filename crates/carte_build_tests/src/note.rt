@@ -1,7 +1,7 @@
 //! What finished keys bring to a batch, and how they are found.
 
 use carte_book::Book;
-use carte_effect::{Ended, Made, Reuse};
+use carte_effect::{Ended, Hashed, Made, Reuse};
 use carte_note::{Finished, FinishedList, Method, note_finished};
 use carte_record::{Batch, Kept, Way};
 use carte_value::{Kind, Link, Links, Name, Value};
@@ -24,9 +24,9 @@ fn finished(alloc: Global, ran: bool) -> Result<Finished, Fail> {
     let links_made = links(alloc)?;
     Ok(Finished {
         made: if ran {
-            Made::Ran(Ended::new(key, Value::Number(7), links_made))
+            Made::Ran(Ended::new(key, Hashed::of(Value::Number(7)), links_made))
         } else {
-            Made::Reused(Reuse::new(key, Value::Number(7), links_made))
+            Made::Reused(Reuse::new(key, Hashed::of(Value::Number(7)), links_made))
         },
         beneath: links(alloc)?,
     })

@@ -1,7 +1,7 @@
 //! What a batch brings of the finished keys.
 
 use carte_book::Book;
-use carte_effect::{Ended, Made};
+use carte_effect::{Ended, Hashed, Made};
 use carte_mark::begin;
 use carte_note::{Finished, FinishedList};
 use carte_plan::plan;
@@ -16,7 +16,7 @@ fn finished(alloc: Global, some: bool) -> Result<FinishedList, Fail> {
     let mut list = FinishedList::new(alloc);
     if some {
         let key = Name::cell(alloc, "B1")?;
-        let made = Made::Ran(Ended::new(key, Value::Number(7), Links::new(alloc)));
+        let made = Made::Ran(Ended::new(key, Hashed::of(Value::Number(7)), Links::new(alloc)));
         let beneath = Links::new(alloc);
         list.push(Finished { made, beneath })?;
     }

@@ -7,9 +7,10 @@ ghost use Rattle.carte_sound.specs.Marks.{present};
 ghost use Rattle.carte_deep.specs.Holding.{Finds, are_present as all_present, given_by as given, outcome_at};
 
 use carte_book::{Book, Looked};
-use carte_effect::Reuse;
+use carte_effect::{Hashed, Reuse};
+use carte_rebuild::stored;
 use carte_record::{Kept, Store, Trace};
-use carte_value::{Link, Links, Name, NoMemory, Value};
+use carte_value::{Link, Links, Name, NoMemory};
 use std::alloc::Global;
 use std::marker::Model;
 
@@ -17,7 +18,7 @@ use std::marker::Model;
 #[derive(Debug, Drop)]
 pub(crate) struct Earlier {
     pub(crate) key: Name,
-    value: Value,
+    value: Hashed,
     links: Links,
 }
 
@@ -85,10 +86,10 @@ fn told_by(
 ) -> Result<Option<Earlier>, NoMemory>
     ensures { IfOk result (λ earlier. earlier ≡ option_map (outcome_at key.now trace.now) (first_value values.now trace.now.result)) }
 {
-    match values.find(&trace.result) {
+    match stored(alloc, values, &trace.result)? {
         Some(value) => Ok(Some(Earlier {
             key: key.copy(alloc)?,
-            value: value.copy(alloc)?,
+            value,
             links: trace.links.copy(alloc)?,
         })),
         None => Ok(None),

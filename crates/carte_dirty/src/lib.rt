@@ -14,6 +14,7 @@ ghost use Rattle.carte_record.specs.Kept.{kept_view, is_fresh as fresh};
 ghost use Rattle.carte_dirty.specs.Fresh.{fresh_value as value_kept, fresh_checks};
 
 use carte_book::Book;
+use carte_effect::Hashed;
 use carte_note::{Finished, Method, note_finished};
 use carte_rebuild::{Rebuilder, Tries};
 use carte_record::{Batch, Entry, Kept};
@@ -47,6 +48,7 @@ fn kept_checks(alloc: Global, kept: &Kept, key: &Name) -> Result<Vec<Check>, NoM
 {
     let mut checks = Vec::new(alloc);
     if let Some(value) = fresh_value(kept, key) {
+        let value = Hashed::unhashed(value.copy(alloc)?);
         checks.push(Check::start(alloc, key, &Links::new(alloc), value)?)?;
     }
     Ok(checks)

@@ -1,3 +1,4 @@
+pub mod Digests
 pub mod Effects
 pub mod Lists
 pub mod Sights

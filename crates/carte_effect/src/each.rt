@@ -42,7 +42,7 @@ impl<E: Effect> FetchList for Each<E> {
         let mut values = Values::new(alloc);
         for name in names.as_slice() {
             match self.effect.fetch(alloc, name) {
-                Ok(value) => values.push(value)?,
+                Ok(value) => values.push(value.into_value())?,
                 Err(halt) => return Err(halt),
             }
         }

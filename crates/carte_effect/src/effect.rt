@@ -3,7 +3,8 @@ ghost use Rattle.carte_value.specs.declared.value.Value.{Value as SomeValue};
 ghost use Rattle.carte_value.specs.Once.{Answers};
 ghost use Rattle.carte_effect.specs.Effects.{Fetched, Logged, SameStops};
 
-use carte_value::{Name, NoMemory, Value};
+use crate::Hashed;
+use carte_value::{Name, NoMemory};
 use std::alloc::Global;
 
 /// Why a fetch or a drive came to no answer.
@@ -37,7 +38,7 @@ pub trait Effect {
     /// The names and values answered so far, in order, where the effect keeps them.
     ghost log: { Self → Option Answers };
 
-    fn fetch(&mut self, alloc: Global, name: &Name) -> Result<Value, Halt<Self::Stop>>
+    fn fetch(&mut self, alloc: Global, name: &Name) -> Result<Hashed, Halt<Self::Stop>>
         ensures truth { truth self.new ≡ truth self.old }
         ensures stops { SameStops (stops self.old) (stops self.new) }
         ensures fetched { Fetched (truth self.old) (stops self.old) name.now result }

@@ -4,6 +4,8 @@
 //! "Build Systems à la Carte"). Between the two stand an `Effect`, which is asked for one name after the other, and a `FetchList`, which is asked
 //! for many at once; a `Look`, of which a `Snapshot` makes an effect; and a `Job`, which is driven over an effect and comes to a `Made`.
 //!
+//! A value that a job made goes about with its digest, so that this is taken once, however many look at the value (`Hashed`).
+//!
 //! The form chosen: an effect means a truth (what each name has), the stops that are its own for a name, and a log where it keeps one. A
 //! job has a meaning too, in ghost members: what a drive over a truth gives by which further answers, and when a job fits a key. The law of a job,
 //! `fits_on`, speaks of these alone, so a scheduler's proof knows neither machines nor checks.
@@ -18,6 +20,7 @@
 
 mod each;
 mod effect;
+mod hashed;
 mod job;
 mod list;
 mod look;
@@ -28,6 +31,7 @@ mod tracked;
 
 pub use each::Each;
 pub use effect::{Effect, Halt};
+pub use hashed::Hashed;
 pub use job::Job;
 pub use list::{Answers, FetchList};
 pub use look::{Look, Seen, Snapshot, Stuck};

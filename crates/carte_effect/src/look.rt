@@ -1,13 +1,15 @@
 ghost use Rattle.std.specs.Prelude.{◌≡◌, ℕ, List, None};
 ghost use Rattle.carte_effect.specs.Sights.{Sight, Sees, value_seen, IsStuck};
 
-use crate::{Effect, Halt};
+use crate::{Effect, Halt, Hashed};
 use carte_value::{Name, Value};
 use std::alloc::Global;
 
 /// What a look sees of a name.
 pub enum Seen<'a> {
     Value(&'a Value),
+    /// A value that a job made.
+    Made(&'a Hashed),
     /// It will have a value once its task has ended.
     NotDone,
     /// It has no task and no value.
@@ -52,9 +54,10 @@ impl<'a, L: Look> Effect for Snapshot<'a, L> {
 
     ghost log = { λ s. None };
 
-    fn fetch(&mut self, alloc: Global, name: &Name) -> Result<Value, Halt<Stuck>> {
+    fn fetch(&mut self, alloc: Global, name: &Name) -> Result<Hashed, Halt<Stuck>> {
         match self.look.look(name) {
-            Seen::Value(value) => Ok(value.copy(alloc)?),
+            Seen::Value(value) => Ok(Hashed::unhashed(value.copy(alloc)?)),
+            Seen::Made(value) => Ok(value.copy(alloc)?),
             Seen::NotDone => Err(Halt::Stop(Stuck::NotDone(name.copy(alloc)?))),
             Seen::Missing => Err(Halt::Stop(Stuck::Missing(name.copy(alloc)?))),
         }

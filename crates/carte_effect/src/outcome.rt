@@ -1,5 +1,6 @@
 ghost use Rattle.std.specs.Prelude.{◌≡◌, IfOk};
 
+use crate::Hashed;
 use carte_value::{Links, Name, NoMemory, Value};
 use std::alloc::Global;
 use std::marker::Model;
@@ -8,7 +9,7 @@ use std::marker::Model;
 #[derive(Debug, Drop)]
 struct Record {
     key: Name,
-    value: Value,
+    value: Hashed,
     links: Links,
 }
 
@@ -48,7 +49,7 @@ impl Model for Ended {
 
 impl Ended {
     /// For those who write tasks and jobs. That a task ran is promised by the drive that hands it out, and not by this.
-    pub fn new(key: Name, value: Value, links: Links) -> Ended
+    pub fn new(key: Name, value: Hashed, links: Links) -> Ended
         ensures key { result.key ≡ key }
         ensures value { result.value ≡ value }
         ensures links { result.links ≡ links }
@@ -67,7 +68,7 @@ impl Ended {
     pub fn value(&self) -> &Value
         ensures { result.now ≡ self.now.value }
     {
-        &self.record.value
+        self.record.value.value()
     }
 
     pub fn links(&self) -> &Links
@@ -93,7 +94,7 @@ impl Model for Reuse {
 
 impl Reuse {
     /// For those who write checks and jobs. That the earlier end holds is promised by the drive that hands it out, and not by this.
-    pub fn new(key: Name, value: Value, links: Links) -> Reuse
+    pub fn new(key: Name, value: Hashed, links: Links) -> Reuse
         ensures key { result.key ≡ key }
         ensures value { result.value ≡ value }
         ensures links { result.links ≡ links }
@@ -123,6 +124,13 @@ impl Made {
     }
 
     pub fn value(&self) -> &Value
+        ensures { result.now ≡ (outcome_of self.now).value }
+    {
+        self.record().value.value()
+    }
+
+    /// The value with its digest.
+    pub fn hashed(&self) -> &Hashed
         ensures { result.now ≡ (outcome_of self.now).value }
     {
         &self.record().value

@@ -2,7 +2,7 @@ ghost use Rattle.std.specs.Prelude.{◌≡◌, length, Some, []};
 ghost use Rattle.carte_effect.specs.Effects.{paired, Fetched, Logged, SameStops, AskedOnce};
 ghost use Rattle.carte_effect.specs.Pairs.{Both};
 
-use crate::{Effect, Halt};
+use crate::{Effect, Halt, Hashed};
 use carte_value::{Name, Names, NoMemory, Value, Values};
 use std::alloc::Global;
 
@@ -67,7 +67,7 @@ impl<E: Effect> Effect for Tracked<E> {
 
     ghost log = { λ s. Some (paired s.names s.values) };
 
-    fn fetch(&mut self, alloc: Global, name: &Name) -> Result<Value, Halt<E::Stop>>
+    fn fetch(&mut self, alloc: Global, name: &Name) -> Result<Hashed, Halt<E::Stop>>
         ensures truth { E.truth self.new.effect ≡ E.truth self.old.effect }
         ensures stops { SameStops (E.stops self.old.effect) (E.stops self.new.effect) }
         ensures fetched { Fetched (E.truth self.old.effect) (E.stops self.old.effect) name.now result }
@@ -80,7 +80,7 @@ impl<E: Effect> Effect for Tracked<E> {
             Ok(value) => value,
             Err(halt) => return Err(halt),
         };
-        let copy = value.copy(alloc)?;
+        let copy = value.value().copy(alloc)?;
         list(&mut self.names, &mut self.values, listed, copy)?;
         Ok(value)
     }

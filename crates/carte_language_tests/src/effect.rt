@@ -5,8 +5,8 @@ ghost use Rattle.carte_value.specs.Names.{is_rule_name};
 ghost use Rattle.carte_effect.specs.Sights.{sight_of, not_done, missing};
 
 use carte_effect::{
-    Answers, Each, Effect, Ended, FetchList, Halt, Look, Made, RefsOnly, Reuse, Runs, Seen,
-    Snapshot, Stuck, Tracked,
+    Answers, Each, Effect, Ended, FetchList, Halt, Hashed, Look, Made, RefsOnly, Reuse, Runs,
+    Seen, Snapshot, Stuck, Tracked,
 };
 use carte_value::{Digest, Link, Links, Name, Names, Value};
 use std::alloc::Global;
@@ -110,7 +110,7 @@ fn tracked(rt: HostRuntime) -> Result<(), Fail> {
     let mut tracked = Tracked::of(alloc, Snapshot::of(&look));
     for name in names_of(alloc, "b A1 a b")?.as_slice() {
         match tracked.fetch(alloc, name) {
-            Ok(value) => assert_eq!(rt; value.print(alloc)?.as_str(), "7"),
+            Ok(value) => assert_eq!(rt; value.value().print(alloc)?.as_str(), "7"),
             Err(halt) => assert_eq!(rt; stopped(alloc, halt)?.as_str(), "not done: A1"),
         }
     }
@@ -147,14 +147,15 @@ fn outcomes(rt: HostRuntime) -> Result<(), Fail> {
     let key = Name::rule(alloc, "t")?;
     for reused in [false, true] {
         let made = if reused {
-            Made::Reused(Reuse::new(key.copy(alloc)?, Value::Number(4), links_of(alloc)?))
+            Made::Reused(Reuse::new(key.copy(alloc)?, Hashed::of(Value::Number(4)), links_of(alloc)?))
         } else {
-            Made::Ran(Ended::new(key.copy(alloc)?, Value::Number(4), links_of(alloc)?))
+            Made::Ran(Ended::new(key.copy(alloc)?, Hashed::of(Value::Number(4)), links_of(alloc)?))
         };
         let made = made.copy(alloc)?;
         assert_eq!(rt; matches!(made, Made::Reused(_)), reused);
         assert_eq!(rt; (made.key().text(), made.links().len()), ("t", 1));
         assert_eq!(rt; made.value().print(alloc)?.as_str(), "4");
+        assert_eq!(rt; made.hashed().digest(), Value::Number(4).digest());
     }
     Ok(())
 }

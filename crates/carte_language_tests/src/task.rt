@@ -6,7 +6,7 @@ mod shown;
 use crate::task::rows::{CELLS, CHOICES, FUNCTIONS, LONG, OPERATORS, SHEET, VALUES};
 use crate::task::shown::{Shown, text_of};
 use crate::values::value_of;
-use carte_effect::{Each, Halt, Job, Made, RefsOnly, Runs, Snapshot, Stuck};
+use carte_effect::{Each, Halt, Hashed, Job, Made, RefsOnly, Runs, Snapshot, Stuck};
 use carte_formula::read;
 use carte_task::{Check, Machine, StaticTask, Task, Verdict};
 use carte_value::{Kind, Link, Links, Name, Value};
@@ -251,7 +251,8 @@ fn check_of(alloc: Global, lines: &str) -> Result<Check, Fail> {
             digest: value_of(alloc, value)?.digest(),
         })?;
     }
-    Ok(Check::start(alloc, &Name::rule(alloc, "t")?, &links, &Value::Number(7))?)
+    let value = Hashed::unhashed(Value::Number(7));
+    Ok(Check::start(alloc, &Name::rule(alloc, "t")?, &links, value)?)
 }
 
 fn verdict_over(alloc: Global, check: &mut Check, lines: &str) -> Result<String, Fail> {

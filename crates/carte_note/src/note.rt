@@ -32,7 +32,7 @@ pub fn note_finished(
     ensures stale { OnOk result (batch.new.stale ≡ batch.old.stale) }
     ensures chain { OnOk result (batch.new.chain ≡ batch.old.chain) }
 {
-    let digest = finished.made.value().digest();
+    let digest = finished.made.hashed().digest();
     note_run(alloc, method, kept, finished, digest, batch)?;
     note_entry(alloc, method, kept, book, finished, digest, batch)
 }

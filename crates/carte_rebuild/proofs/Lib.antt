@@ -15,3 +15,4 @@ pub mod Finishing
 pub mod Often
 mod Collecting
 mod Driven
+mod OwnDigest

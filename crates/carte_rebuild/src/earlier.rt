@@ -2,6 +2,7 @@ ghost use Rattle.std.specs.Prelude.{◌≡◌, ◌++◌, option_copied, IfOk, On
 ghost use Rattle.carte_record.specs.Lookups.{first_value};
 ghost use Rattle.carte_rebuild.specs.Earlier.{is_wanted as wants, check_at, checks_if, checks_in};
 
+use crate::stored;
 use carte_record::{Store, Trace, Traces};
 use carte_task::Check;
 use carte_value::{Digest, Name, NoMemory};
@@ -69,8 +70,8 @@ fn add_check(
 ) -> Result<(), NoMemory>
     ensures { OnOk result (checks.new.items ≡ checks.old.items ++ check_at (first_value values.now trace.now.result) key.now trace.now) }
 {
-    if let Some(value) = values.find(&trace.result) {
-        checks.push(Check::start(alloc, key, &trace.links, value)?)?;
+    match stored(alloc, values, &trace.result)? {
+        Some(value) => Ok(checks.push(Check::start(alloc, key, &trace.links, value)?)?),
+        None => Ok(()),
     }
-    Ok(())
 }

@@ -30,6 +30,7 @@ mod laws;
 mod made;
 mod rebuilder;
 mod recipe;
+mod store;
 mod tries;
 mod work;
 
@@ -37,5 +38,6 @@ pub use earlier::checks_of;
 pub use laws::driven_right;
 pub use made::finish;
 pub use rebuilder::Rebuilder;
+pub use store::stored;
 pub use tries::Tries;
 pub use work::{PlanFault, Work, WorkEnd};

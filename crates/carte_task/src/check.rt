@@ -2,7 +2,7 @@ ghost use Rattle.std.specs.Prelude.{◌≡◌, ◌≤◌, length, IfOk, OnOk, On
 ghost use Rattle.carte_effect.specs.Effects.{SameStops};
 ghost use Rattle.carte_task.specs.Compared.{Compared};
 
-use crate::{Effect, Halt, Reuse};
+use crate::{Effect, Halt, Hashed, Reuse};
 use carte_value::{Digest, Link, Links, Name, NoMemory, Value};
 use std::alloc::Global;
 use std::marker::Model;
@@ -21,7 +21,7 @@ pub enum Verdict {
 #[derive(Debug, Drop)]
 pub struct Check {
     key: Name,
-    value: Value,
+    value: Hashed,
     links: Links,
     at: usize,
 }
@@ -57,12 +57,11 @@ impl Check {
     ghost use Rattle.carte_task.specs.Checks.{Checked, Judges, Gives, KeepsEarlier, Stands};
 
     /// A check of an earlier end, with nothing compared so far.
-    pub fn start(alloc: Global, key: &Name, links: &Links, value: &Value) -> Result<Check, NoMemory>
-        ensures { IfOk result (λ c. c ≡ record { earlier = record { key = key.now; value = value.now; links = links.now }; at = 0 }) }
+    pub fn start(alloc: Global, key: &Name, links: &Links, value: Hashed) -> Result<Check, NoMemory>
+        ensures { IfOk result (λ c. c ≡ record { earlier = record { key = key.now; value = value; links = links.now }; at = 0 }) }
     {
         let key = key.copy(alloc)?;
         let links = links.copy(alloc)?;
-        let value = value.copy(alloc)?;
         Ok(Check {
             key,
             value,
@@ -117,7 +116,7 @@ impl Check {
         ensures kept { OnErr result (self.new ≡ self.old) }
     {
         let key = self.key.copy(alloc)?;
-        let value = mem::replace(&mut self.value, Value::Empty);
+        let value = mem::replace(&mut self.value, Hashed::unhashed(Value::Empty));
         let links = mem::replace(&mut self.links, Links::new(alloc));
         Ok(Reuse::new(key, value, links))
     }

@@ -37,8 +37,8 @@ mod static_task;
 mod task;
 
 pub use carte_effect::{
-    Answers, Each, Effect, Ended, FetchList, Halt, Job, Look, Made, Never, RefsOnly, Reuse, Runs,
-    Seen, Snapshot, Stuck, Tracked,
+    Answers, Each, Effect, Ended, FetchList, Halt, Hashed, Job, Look, Made, Never, RefsOnly, Reuse,
+    Runs, Seen, Snapshot, Stuck, Tracked,
 };
 pub use check::{Check, Verdict};
 pub use machine::Machine;

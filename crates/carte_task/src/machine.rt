@@ -3,7 +3,7 @@ ghost use Rattle.carte_effect.specs.Effects.{SameStops};
 ghost use Rattle.carte_effect.specs.Ledger.{with_start, with_end};
 
 use crate::progress::Progress;
-use crate::{Effect, Ended, Halt, Runs, Task};
+use crate::{Effect, Ended, Halt, Hashed, Runs, Task};
 use carte_value::{Name, NoMemory};
 use std::alloc::Global;
 
@@ -99,6 +99,6 @@ impl Machine {
         let key = self.task.key.copy(alloc)?;
         runs.end(alloc, &self.task.key)?;
         self.ended = true;
-        Ok(Ended::new(key, value, links))
+        Ok(Ended::new(key, Hashed::of(value), links))
     }
 }

@@ -8,7 +8,7 @@ ghost use Rattle.carte_effect.specs.Effects.{SameStops, paired};
 ghost use Rattle.carte_task.specs.Answered.{Answered};
 
 use crate::code::{Instr, Next};
-use crate::{Effect, Halt, execute};
+use crate::{Effect, Halt, Hashed, execute};
 use carte_value::{Kind, Link, Links, Name, Names, NoMemory, Value, Values};
 use indexmap::IndexMap;
 use std::alloc::Global;
@@ -21,13 +21,13 @@ pub(crate) struct Progress {
     pub(crate) names: Names,
     pub(crate) looked: usize,
     pub(crate) next: Next,
-    pub(crate) answers: IndexMap<Name, Value>,
+    pub(crate) answers: IndexMap<Name, Hashed>,
 }
 
 // The value of a name: a second look-up takes the first answer.
 fn answer<E: Effect>(
     alloc: Global,
-    answers: &mut IndexMap<Name, Value>,
+    answers: &mut IndexMap<Name, Hashed>,
     name: &Name,
     effect: &mut E,
 ) -> Result<Value, Halt<E::Stop>>
@@ -36,7 +36,7 @@ fn answer<E: Effect>(
     ensures answered { Answered (E.truth effect.old) (E.stops effect.old) (E.log effect.old) (E.log effect.new) answers.old.entries answers.new.entries name.now result }
 {
     if let Some(value) = answers.get(name) {
-        return Ok(value.copy(alloc)?);
+        return Ok(value.value().copy(alloc)?);
     }
     let own = name.copy(alloc)?;
     if let Err(_refused) = answers.reserve(1) {
@@ -46,7 +46,7 @@ fn answer<E: Effect>(
         Ok(value) => value,
         Err(halt) => return Err(halt),
     };
-    let copy = value.copy(alloc);
+    let copy = value.value().copy(alloc);
     match answers.insert(own, value) {
         Ok(_old) => match copy {
             Ok(value) => Ok(value),
@@ -82,7 +82,7 @@ impl Progress {
     }
 
     // At the start of its code, with these answers.
-    fn knowing(alloc: Global, answers: IndexMap<Name, Value>) -> Progress
+    fn knowing(alloc: Global, answers: IndexMap<Name, Hashed>) -> Progress
         ensures answers { answers_in result ≡ answers.entries }
         ensures rest { (kind : SomeKind) (code : List Instr) → rest_in kind code result ≡ once answers.entries (exec kind 0 code []) }
     {
@@ -229,7 +229,7 @@ fn fill(
     alloc: Global,
     names: &Names,
     values: Values,
-    answers: &mut IndexMap<Name, Value>,
+    answers: &mut IndexMap<Name, Hashed>,
 ) -> Result<(), NoMemory>
     requires names { NoneTwice names.now }
     requires answers { answers.old.entries ≡ [] }
@@ -250,12 +250,12 @@ fn put(
     alloc: Global,
     name: &Name,
     value: Value,
-    answers: &mut IndexMap<Name, Value>,
+    answers: &mut IndexMap<Name, Hashed>,
 ) -> Result<(), NoMemory>
     ensures { OnOk result (answers.new.entries ≡ insert_entry name_eq answers.old.entries name.now value) }
 {
     let name = name.copy(alloc)?;
-    match answers.insert(name, value) {
+    match answers.insert(name, Hashed::unhashed(value)) {
         Ok(_) => Ok(()),
         Err(_) => Err(NoMemory),
     }

@@ -7,9 +7,9 @@ ghost use Rattle.carte_effect.specs.Effects.{SameStops};
 ghost use Rattle.carte_task.specs.Statics.{StaticRan, Reads, EndsOver, IsOver, IsStaticTaskOf, static_refs, static_key, with_run};
 
 use crate::progress::Progress;
-use crate::{Answers, Effect, Ended, FetchList, Halt, Runs, StaticTask};
+use crate::{Answers, Effect, Ended, FetchList, Halt, Hashed, Runs, StaticTask};
 use carte_tree::static_needs;
-use carte_value::{Name, Names, NoMemory, Value, Values};
+use carte_value::{Name, Names, NoMemory, Values};
 use std::alloc::Global;
 
 impl StaticTask {
@@ -67,7 +67,7 @@ impl StaticTask {
         let links = progress.links(alloc)?;
         let key = self.key.copy(alloc)?;
         count(alloc, &self.key, runs)?;
-        Ok(Ended::new(key, value, links))
+        Ok(Ended::new(key, Hashed::of(value), links))
     }
 
     // What a machine makes of these values, without asking.
@@ -107,7 +107,7 @@ impl Effect for Nothing {
 
     ghost log = { λ s. None };
 
-    fn fetch(&mut self, _alloc: Global, _name: &Name) -> Result<Value, Halt<()>> {
+    fn fetch(&mut self, _alloc: Global, _name: &Name) -> Result<Hashed, Halt<()>> {
         Err(Halt::Stop(()))
     }
 }

@@ -13,7 +13,7 @@ loop-name-init g c = (refl, ((λ k s h. h), (λ k s h. h)), rw c.new-values.ensu
 
 pub loop-name-preserved : goal.loop-name-preserved
 loop-name-preserved g c =
-    let put = c.in_ok-push-in-Ok.ensures {u = tt} in
+    let put = c.in_ok-push-in-Ok.ensures {u = tt} ∙ ap (λ v. c.loop-name.values ++ v ∷ []) c.into_value.ensures in
     let asked = asked_more _ _ _ _ c.as_slice-name-items.result.now c.loop-name.name-index c.loop-name.values c.name-item.result c.in-Ok.value c.loop-name-test.true c.name-item.is c.loop-name.invariant.2 c.loop-name.invariant.3 (c.in-Ok.ensures {u = tt}).logged in (
       (c.in-Ok.ensures {u = tt}).truth ∙ c.loop-name.invariant.0,
       ((λ k s h. (c.in-Ok.ensures {u = tt}).stops.0 k s (c.loop-name.invariant.1.0 k s h)), (λ k s h. c.loop-name.invariant.1.1 k s ((c.in-Ok.ensures {u = tt}).stops.1 k s h))),
