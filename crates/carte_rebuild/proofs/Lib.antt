@@ -1,4 +1,5 @@
 pub mod Behind
+pub mod Crossing
 mod Begun
 pub mod Trials
 pub mod Parting
