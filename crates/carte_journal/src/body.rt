@@ -121,6 +121,13 @@ impl Bodies {
         self.items.as_slice()
     }
 
+    /// All of them, so that each can be let go before the next one is read.
+    pub fn into_vec(self) -> Vec<Body>
+        ensures { result.items ≡ self }
+    {
+        self.items
+    }
+
     /// Adds one, for which there has to be room: at most 2^32 - 1 are held.
     pub fn push(&mut self, body: Body) -> Result<(), NoMemory>
         requires { length self.old + 1 < 2 ^ 32 }

@@ -1,6 +1,6 @@
 -- Laws of what bodies make, one after another.
 use Rattle.std.proofs.Common.{◌≡◌, ℕ, ◌+◌, ◌<◌, List, [], ◌∷◌, ◌++◌, length, take, drop, get_or, sym, ◌∙◌, ap, subst, inl, inr}
-use Rattle.std.proofs.lemmas.List.{drop_more, take_more, take-append-drop}
+use Rattle.std.proofs.lemmas.List.{drop_more, take-append-drop}
 use Rattle.carte_journal.specs.Frames.{Bad, BodyAt, Ends, Reading}
 use Rattle.carte_record.specs.Bodies.{IsBody}
 use Rattle.carte_record.specs.BodyLaws.{one_body}
@@ -9,11 +9,7 @@ use Rattle.carte_record.specs.Kept.{SomeKept, nothing_kept}
 use Rattle.carte_record.specs.declared.batch.Batch.{Batch}
 use Rattle.carte_state.specs.Folding.{BadAtOne, IsBadBody, IsFolded, KeepsOne, KeepsOrBad}
 
--- the bodies up to a place and one more, and all of them cut there
-pub body_further : (bodies : List BodyAt) (i : ℕ) (body : BodyAt) → i < length bodies → body ≡ get_or bodies i body
-    → take (i + 1) bodies ≡ take i bodies ++ body ∷ []
-body_further bodies i body within is = take_more bodies i body within ∙ ap (λ x. take i bodies ++ x ∷ []) (sym is)
-
+-- the bodies, cut at a place
 pub body_cut : (bodies : List BodyAt) (i : ℕ) (body : BodyAt) → i < length bodies → body ≡ get_or bodies i body
     → bodies ≡ take i bodies ++ body ∷ drop (i + 1) bodies
 body_cut bodies i body within is =

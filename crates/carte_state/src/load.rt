@@ -8,7 +8,7 @@ ghost use Rattle.carte_state.specs.States.{IsLoaded};
 
 use crate::{LoadFault, State};
 use carte_io::Disk;
-use carte_journal::{Body, Journal};
+use carte_journal::{Bodies, Body, Journal};
 use carte_record::{Batch, Kept};
 use std::alloc::Global;
 
@@ -28,19 +28,20 @@ impl State {
         ensures same { D.tells → D.story disk.new ≡ D.story disk.old }
     {
         let (journal, bodies) = Journal::load(alloc, disk, limit)?;
-        let kept = folded(alloc, bodies.as_slice())?;
+        let kept = folded(alloc, bodies)?;
         Ok(State::of(journal, kept))
     }
 }
 
-// What the bodies make of nothing.
-fn folded(alloc: Global, bodies: &[Body]) -> Result<Kept, LoadFault>
-    ensures folded { IfOk result (λ kept. IsFolded nothing_kept bodies.now (kept_view kept)) }
-    ensures bad { (offset : ℕ) → result ≡ Err (LoadFault.BadState offset) → IsBadBody bodies.now offset }
+// What the bodies make of nothing. Each is let go before what it makes grows.
+fn folded(alloc: Global, bodies: Bodies) -> Result<Kept, LoadFault>
+    ensures folded { IfOk result (λ kept. IsFolded nothing_kept bodies (kept_view kept)) }
+    ensures bad { (offset : ℕ) → result ≡ Err (LoadFault.BadState offset) → IsBadBody bodies offset }
     ensures disk { result ≢ Err LoadFault.DiskFault }
 {
     let mut kept = Kept::empty(alloc);
-    for body in bodies {
+    let items = bodies.into_vec();
+    for body in items {
         let batch = batch_of(alloc, body)?;
         kept.absorb(batch)?;
     }
@@ -48,9 +49,9 @@ fn folded(alloc: Global, bodies: &[Body]) -> Result<Kept, LoadFault>
 }
 
 // The batch whose bytes a body is.
-fn batch_of(alloc: Global, body: &Body) -> Result<Batch, LoadFault>
-    ensures batch { IfOk result (λ batch. IsBody batch body.now.1) }
-    ensures bad { (offset : ℕ) → result ≡ Err (LoadFault.BadState offset) → IsBadBody (body.now ∷ []) offset }
+fn batch_of(alloc: Global, body: Body) -> Result<Batch, LoadFault>
+    ensures batch { IfOk result (λ batch. IsBody batch body.1) }
+    ensures bad { (offset : ℕ) → result ≡ Err (LoadFault.BadState offset) → IsBadBody (body ∷ []) offset }
     ensures disk { result ≢ Err LoadFault.DiskFault }
 {
     let decoded = Batch::decode(alloc, body.bytes())?;

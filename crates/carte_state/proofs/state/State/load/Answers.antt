@@ -1,16 +1,13 @@
-use Rattle.std.proofs.Common.{◌≡◌, subst, sym}
-use Rattle.carte_record.specs.Kept.{kept_view, nothing_kept}
-use Rattle.carte_state.specs.Folding.{IsFolded}
+use Rattle.std.proofs.Common.{subst, sym}
 use Rattle.carte_state.specs.States.{IsLoaded}
 use Rattle.carte_state.proofs.state.State.load.Goals as goal
 
 pub returns-clause-read : goal.returns-clause-read
 returns-clause-read g c told =
-    let same : c.as_slice.result.now ≡ c.in_ok-journal.bodies = cc (c.as_slice.ensures) in
     subst (λ s. IsLoaded s (g.D.Disk.story c.args.disk.now).now.reads) (sym c.of.ensures) (record {
       bodies = c.in_ok-journal.bodies;
       read = c.in_ok-journal.ensures.read told;
-      folded = subst (λ bodies. IsFolded nothing_kept bodies (kept_view c.in_ok-kept.kept)) same c.in_ok-kept.ensures.folded;
+      folded = c.in_ok-kept.ensures.folded;
     })
 
 pub returns-clause-cause : goal.returns-clause-cause
