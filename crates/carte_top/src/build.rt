@@ -20,6 +20,7 @@ use carte_report::{Status, reply};
 use carte_shell::plan;
 use carte_words::Words;
 use std::alloc::Global;
+use std::mem::forget;
 
 /// Builds the targets of the words.
 pub(crate) fn build<B: Source, D: Disk, O: Sink>(
@@ -54,7 +55,12 @@ fn build_over<D: Disk, O: Sink>(
         result }
 {
     match load_state(alloc, state) {
-        Ok(mut engine) => build_with(alloc, asked, book, &mut engine, state, out),
+        Ok(mut engine) => {
+            let status = build_with(alloc, asked, book, &mut engine, state, out);
+            // The process ends behind this: giving back what is kept, name by name, would only take time.
+            forget(engine);
+            status
+        }
         Err(status) => status,
     }
 }
