@@ -1,8 +1,10 @@
 -- The depth that the stack counts is that of its frames.
-use Rattle.std.proofs.Common.{List, [], ◌∷◌, length, ◌≡◌, ◌≤◌, refl, arith}
+use Rattle.std.proofs.Common.{List, [], ◌∷◌, length, ◌≡◌, ◌≤◌, ◌+◌, refl, ap, arith}
 use Rattle.carte_formula.specs.Frames.{depth_in}
-use Rattle.carte_formula.specs.Parser.{frames_of}
-use Rattle.carte_formula.specs.Reading.{depth_of}
+use Rattle.carte_formula.specs.Parser.{frames_of, range_of, range_depth}
+use Rattle.carte_formula.specs.Reading.{depth_of, depth}
+use Rattle.carte_formula.specs.declared.parser.states.Range.{Range}
+use Rattle.carte_formula.specs.declared.parser.states.Range.TheVariants as ranges
 use Rattle.carte_formula.specs.declared.parser.frames.Frame.{Frame}
 use Rattle.carte_formula.specs.declared.parser.frames.Frame.TheVariants as code
 
@@ -12,6 +14,12 @@ depth_same (code.Sign b ∷ S) = let h = depth_same S in omega arith
 depth_same (code.Chain c ∷ S) = let h = depth_same S in omega arith
 depth_same (code.Group ∷ S) = let h = depth_same S in omega arith
 depth_same (code.Call f xs ∷ S) = let h = depth_same S in omega arith
+
+pub range_same : (r : Range) (S : List Frame) → depth (range_of r S) ≡ range_depth r (depth_in S)
+range_same ranges.Nothing S = depth_same S
+range_same (ranges.Corner k f xs) S = ap (λ n. n + 1) (depth_same S)
+range_same (ranges.Half k f xs) S = ap (λ n. n + 1) (depth_same S)
+range_same (ranges.Whole a f xs) S = ap (λ n. n + 1) (depth_same S)
 
 pub depth_at_most : (S : List Frame) → depth_in S ≤ length S
 depth_at_most [] = omega arith

@@ -16,6 +16,7 @@ pub mod Texts
 pub mod Round
 pub mod Depths
 pub mod Signs
+pub mod Joints
 pub mod Running
 pub mod Unpaired
 pub mod Taking

@@ -6,7 +6,7 @@ use Rattle.std.proofs.lemmas.List.{drop_all, take_more, length-take-le, length-d
 use Rattle.std.proofs.lemmas.List.Folds.{list_all-append}
 use Rattle.carte_value.specs.Names.{is_digit, is_lower, is_upper, is_letter, is_name_byte}
 use Rattle.carte_formula.specs.Lexer.{Class, numeral, small, capitals, letters, less, greater, inside, closing, run, grown_run, going_on, lexed}
-use Rattle.carte_formula.specs.Runs.{RunOk, RunsTo, Running}
+use Rattle.carte_formula.specs.Runs.{RunOk, RunsTo, Running, Keeps}
 use Rattle.carte_formula.proofs.Bytes.{and_right, and_both, within}
 use Rattle.carte_formula.proofs.Lexing.{run_step, run_ends, is_going, Stopped}
 
@@ -124,3 +124,8 @@ runs_ended c d bytes from at r low g =
     let cut : drop at bytes ≡ slice_index bytes at ∷ drop (at + 1) bytes = (rw add-one (drop-cons bytes at 0 low)) in
     let g' : grown_run d (length (slice_range bytes from at)) (slice_index bytes at) ≡ None = rw n g in
     stops c d bytes from at r (rw cut (ap is_going g'))
+
+-- a run that keeps its class goes on
+pub keeps_on : (c e : Class) (bytes : List ℕ) (from at : ℕ) → Keeps c → Running c bytes from c at → at < length bytes → grown_run c (at - from) (slice_index bytes at) ≡ Some e → Running c bytes from c (at + 1)
+keeps_on c e bytes from at keeps r low g =
+    subst (λ d. Running c bytes from d (at + 1)) (sym (keeps e (at - from) (slice_index bytes at) g)) (runs_on c c e bytes from at r low g)

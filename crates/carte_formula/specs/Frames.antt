@@ -1,5 +1,12 @@
--- The code's stack: how deep a place is, and its signs.
-use Rattle.std.specs.Prelude.{ℕ, Bool, List, [], ◌∷◌, ◌+◌, Option, Some, None, ◌≡◌}
+-- The code's stack: how deep a place is, its signs, and what its newest frame is.
+use Rattle.std.specs.Prelude.{ℕ, Bool, true, false, List, [], ◌∷◌, length, ◌+◌, ◌==◌, nat_lt, Option, Some, None, ◌≡◌, if◌then◌else◌, Vec}
+use Rattle.std.specs.Global.{Global}
+use Rattle.carte_tree.specs.Tree.{rank, takes_ranges}
+use Rattle.carte_tree.specs.declared.expr.Arg.{Arg as CodeArg}
+use Rattle.carte_formula.specs.Tokens.{Level, Func}
+use Rattle.carte_formula.specs.declared.parser.frames.Joint.{Joint}
+use Rattle.carte_formula.specs.declared.parser.frames.OpenChain.{OpenChain}
+use Rattle.carte_formula.specs.declared.parser.frames.Joint.TheVariants as joints
 use Rattle.carte_formula.specs.declared.parser.frames.Frame.{Frame}
 use Rattle.carte_formula.specs.declared.parser.frames.Frame.TheVariants as code
 
@@ -21,3 +28,52 @@ NoSign _ = Unit {0}
 abbrev pub PopsSign : List Frame → List Frame → Option Bool → Type 0
 PopsSign old new (Some b) = old ≡ code.Sign b ∷ new
 PopsSign old new None = (new ≡ old) × NoSign old
+
+-- the newest frame is taken away where it is a call
+abbrev pub PopsCall : List Frame → List Frame → Option (Func × Vec CodeArg Global) → Type 0
+PopsCall old new (Some p) = old ≡ code.Call p.0 p.1 ∷ new
+PopsCall old new None = new ≡ old
+
+-- where it is a chain
+abbrev pub PopsChain : List Frame → List Frame → Option OpenChain → Type 0
+PopsChain old new (Some c) = old ≡ code.Chain c ∷ new
+PopsChain old new None = new ≡ old
+
+abbrev pub is_chained_at : List Frame → Bool
+is_chained_at (code.Chain c ∷ S) = true
+is_chained_at _ = false
+
+abbrev pub is_called_at : List Frame → Bool
+is_called_at (code.Call f xs ∷ S) = true
+is_called_at _ = false
+
+abbrev pub is_signed_at : List Frame → Bool
+is_signed_at (code.Sign b ∷ S) = true
+is_signed_at _ = false
+
+-- a call's function and how many arguments it has with one more
+abbrev pub called_by : Frame → Option (Func × ℕ)
+called_by (code.Call f xs) = Some (f, length xs.items + 1)
+called_by _ = None
+
+abbrev pub called_at : List Frame → Option (Func × ℕ)
+called_at [] = None
+called_at (f ∷ S) = called_by f
+
+-- the newest frame is a call among whose arguments a range may stand
+abbrev pub may_range : List Frame → Bool
+may_range (code.Call f xs ∷ S) = takes_ranges f
+may_range _ = false
+
+abbrev pub chain_joint : Level → Level → Joint
+chain_joint c l = if nat_lt (rank c) (rank l) then joints.Ends else if rank c == rank l then joints.GoesOn else joints.Begins
+
+-- what an operator of a level does with a frame
+abbrev pub joint_at : Level → Frame → Joint
+joint_at l (code.Sign b) = joints.Ends
+joint_at l (code.Chain c) = chain_joint c.level l
+joint_at l _ = joints.Begins
+
+abbrev pub joint_of : Level → List Frame → Joint
+joint_of l [] = joints.Begins
+joint_of l (f ∷ S) = joint_at l f

@@ -1,9 +1,9 @@
 -- The machine's states as the code holds them.
-use Rattle.std.specs.Prelude.{ℕ, Bool, true, false, nat_lt, List, map, Option, Some, None, Result, Ok, Err, ◌≡◌}
+use Rattle.std.specs.Prelude.{ℕ, Bool, true, false, nat_lt, List, [], ◌∷◌, ◌+◌, ◌++◌, map, Option, Some, None, Result, Ok, Err, ◌≡◌}
 use Rattle.carte_value.specs.declared.NoMemory.{NoMemory}
-use Rattle.carte_tree.specs.Tree.{Tree}
+use Rattle.carte_tree.specs.Tree.{Tree, Arg}
 use Rattle.carte_tree.specs.Code.{tree_of, terms_of, args_trees}
-use Rattle.carte_formula.specs.Machine.{Frame, sign, chain_at, group, args, State, wants, had, named, corner, half, ranged}
+use Rattle.carte_formula.specs.Machine.{Frame, sign, chain_at, group, args, State, wants, had, named, corner, half, ranged, next_args}
 use Rattle.carte_formula.specs.Reading.{FormulaFault, BadSyntax, TooDeep, NoMemory as OutOfMemory, depth}
 use Rattle.carte_tree.specs.declared.expr.Expr.{Expr}
 use Rattle.carte_formula.specs.declared.parser.frames.OpenChain.{OpenChain}
@@ -11,6 +11,8 @@ use Rattle.carte_formula.specs.declared.parser.frames.Frame.{Frame as CodeFrame}
 use Rattle.carte_formula.specs.declared.parser.frames.Frame.TheVariants as code
 use Rattle.carte_formula.specs.declared.parser.states.State.{State as CodeState}
 use Rattle.carte_formula.specs.declared.parser.states.State.TheVariants as states
+use Rattle.carte_formula.specs.declared.parser.states.Range.{Range}
+use Rattle.carte_formula.specs.declared.parser.states.Range.TheVariants as ranges
 use Rattle.carte_formula.specs.declared.parser.states.Parser.{Parser}
 
 abbrev pub open_frame : OpenChain → Frame
@@ -25,16 +27,35 @@ frame_of (code.Call f xs) = args f (args_trees xs.items)
 abbrev pub frames_of : List CodeFrame → List Frame
 frames_of = map frame_of
 
-abbrev pub state_of : CodeState → List CodeFrame → State
-state_of states.Wants S = wants (frames_of S)
-state_of (states.Had e) S = had (tree_of e) (frames_of S)
-state_of (states.Named f) S = named f (frames_of S)
-state_of (states.Corner k f xs) S = corner k f (args_trees xs.items) (frames_of S)
-state_of (states.Half k f xs) S = half k f (args_trees xs.items) (frames_of S)
-state_of (states.Ranged a f xs) S = ranged a f (args_trees xs.items) (frames_of S)
+-- a state with no range is never reached
+abbrev pub range_of : Range → List CodeFrame → State
+range_of ranges.Nothing S = wants (frames_of S)
+range_of (ranges.Corner k f xs) S = corner k f (args_trees xs.items) (frames_of S)
+range_of (ranges.Half k f xs) S = half k f (args_trees xs.items) (frames_of S)
+range_of (ranges.Whole a f xs) S = ranged a f (args_trees xs.items) (frames_of S)
+
+abbrev pub range_depth : Range → ℕ → ℕ
+range_depth ranges.Nothing n = n
+range_depth _ n = n + 1
+
+abbrev pub state_of : CodeState → Expr → Range → List CodeFrame → State
+state_of states.Wants e r S = wants (frames_of S)
+state_of states.Had e r S = had (tree_of e) (frames_of S)
+state_of (states.Named f) e r S = named f (frames_of S)
+state_of states.InRange e r S = range_of r S
 
 abbrev pub reached : Parser → State
-reached p = state_of p.state p.stack.frames.items
+reached p = state_of p.state p.operand p.range p.stack.frames.items
+
+-- the newest frame, a call, has an argument more
+abbrev pub with_arg : Arg → List Frame → List Frame
+with_arg a (args f xs ∷ S) = args f (xs ++ a ∷ []) ∷ S
+with_arg a S = S
+
+-- and another may follow
+abbrev pub args_next : Arg → List Frame → Option State
+args_next a (args f xs ∷ S) = next_args f (xs ++ a ∷ []) S
+args_next a _ = None
 
 -- whether a call led to a state, and to which
 abbrev pub OptionGoesTo : Bool → Parser → Option State → Type 0

@@ -1,9 +1,9 @@
 -- Runs of bytes, and where they end.
-use Rattle.std.specs.Prelude.{ℕ, List, ◌≡◌, ◌≤◌, ◌<◌, ◌+◌, ◌-◌, true, length, drop, slice_index, slice_range}
+use Rattle.std.specs.Prelude.{ℕ, List, ◌≡◌, ◌≤◌, ◌<◌, ◌+◌, ◌-◌, true, length, drop, slice_index, slice_range, Some}
 use Rattle.std.specs.List.{list_all}
 use Rattle.carte_value.specs.Names.{is_digit}
 use Rattle.carte_value.specs.declared.kind.Kind.{Kind}
-use Rattle.carte_formula.specs.Lexer.{Class, numeral, inside, closing, idle, run, token_of, emit, lexed}
+use Rattle.carte_formula.specs.Lexer.{Class, numeral, inside, closing, idle, run, grown_run, token_of, emit, lexed}
 
 -- what is known of the bytes of a run by its class
 abbrev pub RunOk : Class → List ℕ → Type 0
@@ -11,6 +11,10 @@ RunOk numeral bs = list_all is_digit bs ≡ true
 RunOk inside bs = slice_index bs 0 ≡ 34
 RunOk closing bs = (slice_index bs 0 ≡ 34) × (2 ≤ length bs) × (slice_index bs (length bs - 1) ≡ 34)
 RunOk _ bs = slice_index bs (length bs - 1) < 128
+
+-- a run that goes on keeps its class
+abbrev pub Keeps : Class → Type 0
+Keeps c = (d : Class) (n b : ℕ) → grown_run c n b ≡ Some d → c ≡ d
 
 -- a run of the class that begins at a place ends behind some bytes, and with the class d
 pub record RunsTo (c : Class) (bytes : List ℕ) (from : ℕ) (d : Class) (end : ℕ) : Type 0 where

@@ -57,6 +57,7 @@ fn meet_run(
 }
 
 /// The fault of a text with this one: that of the first bad token from a place on, where there is one.
+#[cold]
 pub fn first_fault(
     alloc: Global,
     kind: Kind,

@@ -3,7 +3,7 @@ ghost use Rattle.carte_tree.specs.Code.{tree_of};
 ghost use Rattle.carte_formula.specs.Lexer.{idle, lexed};
 ghost use Rattle.carte_formula.specs.Machine.{next_state};
 ghost use Rattle.carte_formula.specs.Reading.{depth};
-ghost use Rattle.carte_formula.specs.Parser.{reached, StepsTo, ReadsTo};
+ghost use Rattle.carte_formula.specs.Parser.{reached, range_depth, StepsTo, ReadsTo};
 ghost use Rattle.carte_formula.specs.Whole.{with_tokens, with_width};
 ghost use Rattle.carte_formula.specs.Resumed.{resumed};
 
@@ -16,14 +16,13 @@ mod steps;
 
 use crate::lexer::{first_fault, meet};
 use crate::parser::frames::Stack;
-use crate::parser::states::{Parser, State};
+use crate::parser::states::{Parser, Range, State};
 use crate::parser::steps::{finish, step};
 use crate::tokens::Placed;
 use crate::width::Ranges;
 use crate::{Expr, FormulaFault};
 use carte_value::Kind;
 use std::alloc::Global;
-use std::mem;
 
 /// How many groups, calls and unary signs may stand round a place.
 const MOST_LEVELS: usize = 64;
@@ -34,6 +33,8 @@ pub fn formula_of(alloc: Global, kind: Kind, text: &str) -> Result<Expr, Formula
 {
     let mut parser = Parser {
         state: State::Wants,
+        operand: Expr::Number(0),
+        range: Range::Nothing,
         stack: Stack::new(alloc),
     };
     let mut ranges = Ranges::new();
@@ -61,8 +62,7 @@ fn whole(
 ) -> Result<Expr, FormulaFault>
     ensures { ReadsTo result (resumed (reached parser.old) ranges.now size (Ok [])) }
 {
-    let state = mem::replace(&mut parser.state, State::Wants);
-    match finish(alloc, state, &mut parser.stack)? {
+    match finish(alloc, parser)? {
         Some(formula) => not_wide(formula, ranges.too_wide()),
         None => Err(FormulaFault::BadSyntax(size)),
     }
@@ -77,6 +77,7 @@ fn not_wide(formula: Expr, too_wide: Option<usize>) -> Result<Expr, FormulaFault
     }
 }
 
+#[inline(always)]
 fn take(alloc: Global, placed: Placed, parser: &mut Parser) -> Result<(), FormulaFault>
     ensures { StepsTo result parser.new (next_state (reached parser.old) placed.token) placed.place }
 {
@@ -90,12 +91,23 @@ fn take(alloc: Global, placed: Placed, parser: &mut Parser) -> Result<(), Formul
 }
 
 /// Whether too many brackets, calls and signs stand round what comes next.
-#[tactic(auto, using(crate::proofs::Depths::depth_same))]
+#[tactic(auto, using(crate::proofs::Depths::depth_same, crate::proofs::Depths::range_same))]
+#[inline(always)]
 fn is_too_deep(parser: &Parser) -> bool
     ensures { result ≡ nat_lt 64 (depth (reached parser.now)) }
 {
-    match &parser.state {
-        State::Wants | State::Had(_) | State::Named(_) => parser.stack.depth() > MOST_LEVELS,
-        _ => parser.stack.depth() >= MOST_LEVELS,
+    match parser.state {
+        State::InRange => is_range_too_deep(&parser.range, parser.stack.depth()),
+        _ => parser.stack.depth() > MOST_LEVELS,
+    }
+}
+
+/// The same where a range is begun, whose call isn't on the stack.
+fn is_range_too_deep(range: &Range, depth: usize) -> bool
+    ensures { result ≡ nat_lt 64 (range_depth range.now depth) }
+{
+    match range {
+        Range::Nothing => depth > MOST_LEVELS,
+        _ => depth >= MOST_LEVELS,
     }
 }

@@ -10,6 +10,7 @@ use carte_value::NoMemory;
 use std::alloc::Global;
 
 /// The operand under a sign: a plus leaves no trace.
+#[inline(always)]
 pub fn signed(alloc: Global, minus: bool, operand: Expr) -> Result<Expr, NoMemory>
     ensures { IfOk result (λ e. tree_of e ≡ signed minus (tree_of operand)) }
 {
@@ -21,6 +22,7 @@ pub fn signed(alloc: Global, minus: bool, operand: Expr) -> Result<Expr, NoMemor
 }
 
 /// The operators and operands of a chain, with one more.
+#[inline(always)]
 pub fn grow(mut steps: Vec<(Op, Expr)>, op: Op, operand: Expr) -> Result<Vec<(Op, Expr)>, NoMemory>
     ensures { IfOk result (λ v. terms_of v.items ≡ grown (terms_of steps.items) op (tree_of operand)) }
 {
@@ -36,6 +38,7 @@ pub fn whole_chain(alloc: Global, begun: OpenChain, operand: Expr) -> Result<Exp
     chain_of(alloc, chain_with(begun.level, begun.first, items))
 }
 
+#[inline(always)]
 fn chain_with(level: Level, first: Expr, items: Vec<(Op, Expr)>) -> Chain
     ensures { chain_tree result ≡ chain level (tree_of first) (steps_of (terms_of items.items)) }
 {
@@ -47,6 +50,7 @@ fn chain_with(level: Level, first: Expr, items: Vec<(Op, Expr)>) -> Chain
 }
 
 /// The arguments so far, with one more.
+#[inline(always)]
 pub fn with_arg(mut args: Vec<Arg>, arg: Arg) -> Result<Vec<Arg>, NoMemory>
     ensures { IfOk result (λ v. v.items ≡ args.items ++ arg ∷ []) }
 {
@@ -55,18 +59,21 @@ pub fn with_arg(mut args: Vec<Arg>, arg: Arg) -> Result<Vec<Arg>, NoMemory>
 }
 
 /// A call with all its arguments, where the third one of `IF` may be left out and is 0.
+#[inline(always)]
 pub fn call_of(func: Func, args: Vec<Arg>) -> Result<Expr, NoMemory>
     ensures { IfOk result (λ e. tree_of e ≡ called_tree func (args_trees args.items)) }
 {
     Ok(call_with(func, filled(func, args)?))
 }
 
+#[inline(always)]
 fn call_with(func: Func, items: Vec<Arg>) -> Expr
     ensures { tree_of result ≡ call func (args_of (args_trees items.items)) }
 {
     Expr::Call(func, Args { items })
 }
 
+#[inline(always)]
 fn filled(func: Func, args: Vec<Arg>) -> Result<Vec<Arg>, NoMemory>
     ensures { IfOk result (λ v. args_trees v.items ≡ filled func (args_trees args.items)) }
 {
@@ -77,6 +84,7 @@ fn filled(func: Func, args: Vec<Arg>) -> Result<Vec<Arg>, NoMemory>
     }
 }
 
+#[inline(always)]
 fn wants_third(func: Func, count: usize) -> bool
     ensures { result ≡ (is_if func && count == 2) }
 {

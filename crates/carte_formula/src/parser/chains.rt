@@ -1,14 +1,16 @@
-ghost use Rattle.std.specs.Prelude.{◌≤◌, ◌≡◌, ◌++◌, ◌∷◌, [], OnOk};
-ghost use Rattle.carte_tree.specs.Tree.{rank, level_of, called_tree};
+ghost use Rattle.std.specs.Prelude.{◌≡◌, ◌++◌, ◌∷◌, [], OnOk};
+ghost use Rattle.carte_tree.specs.Tree.{level_of, called_tree};
+ghost use Rattle.carte_formula.specs.Frames.{joint_at, called_at};
 ghost use Rattle.carte_formula.specs.Machine.{after, chain_at, joined, close, split, ended, end_args, next_args};
+ghost use Rattle.carte_formula.specs.declared.parser.frames.Joint.TheVariants as joints;
 ghost use Rattle.carte_tree.specs.Code.{tree_of, arg_tree, args_trees};
-ghost use Rattle.carte_formula.specs.Parser.{frame_of, open_frame, frames_of, GoesTo, EndsTo};
+ghost use Rattle.carte_formula.specs.Parser.{args_next, frame_of, frames_of, GoesTo, EndsTo};
 
-use crate::parser::building::{call_of, grow, signed, whole_chain, with_arg};
-use crate::parser::frames::{Frame, OpenChain, Stack};
+use crate::parser::building::{call_of, signed, whole_chain, with_arg};
+use crate::parser::frames::{Frame, Joint, OpenChain, Stack};
 use crate::parser::operand::{after, put};
-use crate::parser::states::Parser;
-use crate::{Arg, Expr, Func, Level, Op};
+use crate::parser::states::{Parser, State};
+use crate::{Arg, Expr, Func, Op};
 use carte_value::NoMemory;
 use std::alloc::Global;
 
@@ -17,15 +19,21 @@ const FEW_STEPS: usize = 1;
 
 /// An operator follows an operand: the chains that bind tighter are whole.
 #[cycle(join)]
+#[tactic(auto, using(crate::proofs::Joints::begun_at))]
 pub fn join(alloc: Global, op: Op, operand: Expr, stack: &mut Stack) -> Result<(), NoMemory>
     ensures { OnOk result (frames_of stack.new.frames.items ≡ joined op (tree_of operand) (frames_of stack.old.frames.items)) }
 {
-    match stack.pop() {
-        Some(frame) => join_behind(alloc, op, operand, frame, stack),
-        None => begin_chain(alloc, op, operand, stack),
+    match stack.joint(op.level()) {
+        Joint::Begins => begin_chain(alloc, op, operand, stack),
+        Joint::GoesOn => stack.lengthen(op, operand),
+        Joint::Ends => match stack.pop() {
+            Some(frame) => join_behind(alloc, op, operand, frame, stack),
+            None => unreachable!(),
+        },
     }
 }
 
+/// An operator behind an operand that ends what is newest.
 #[cycle(join)]
 fn join_behind(
     alloc: Global,
@@ -34,23 +42,17 @@ fn join_behind(
     frame: Frame,
     stack: &mut Stack,
 ) -> Result<(), NoMemory>
+    requires { joint_at (level_of op) frame ≡ joints.Ends }
     ensures { OnOk result (frames_of stack.new.frames.items ≡ joined op (tree_of operand) (frame_of frame ∷ frames_of stack.old.frames.items)) }
 {
     match frame {
         Frame::Sign(minus) => join(alloc, op, signed(alloc, minus, operand)?, stack),
-        Frame::Chain(begun) => {
-            if begun.level.rank() >= op.level().rank() {
-                return join_chain(alloc, op, operand, begun, stack);
-            }
-            join(alloc, op, whole_chain(alloc, begun, operand)?, stack)
-        }
-        frame => {
-            stack.push(frame)?;
-            begin_chain(alloc, op, operand, stack)
-        }
+        Frame::Chain(begun) => join(alloc, op, whole_chain(alloc, begun, operand)?, stack),
+        _ => unreachable!(),
     }
 }
 
+#[inline(always)]
 fn begin_chain(alloc: Global, op: Op, operand: Expr, stack: &mut Stack) -> Result<(), NoMemory>
     ensures { OnOk result (frames_of stack.new.frames.items ≡ chain_at (level_of op) (tree_of operand) [] op ∷ frames_of stack.old.frames.items) }
 {
@@ -63,33 +65,19 @@ fn begin_chain(alloc: Global, op: Op, operand: Expr, stack: &mut Stack) -> Resul
     }))
 }
 
-/// An operator behind a chain that binds no tighter.
-fn join_chain(
-    alloc: Global,
-    op: Op,
-    operand: Expr,
-    begun: OpenChain,
-    stack: &mut Stack,
-) -> Result<(), NoMemory>
-    requires { rank (level_of op) ≤ rank begun.level }
-    ensures { OnOk result (frames_of stack.new.frames.items ≡ joined op (tree_of operand) (open_frame begun ∷ frames_of stack.old.frames.items)) }
+/// A closing bracket behind an operand.
+pub fn close(alloc: Global, operand: Expr, parser: &mut Parser) -> Result<bool, NoMemory>
+    ensures { GoesTo result parser.new (close (tree_of operand) (frames_of parser.old.stack.frames.items)) }
 {
-    if begun.level.rank() == op.level().rank() {
-        let steps = grow(begun.steps, begun.last, operand)?;
-        return stack.push(Frame::Chain(OpenChain {
-            level: begun.level,
-            first: begun.first,
-            steps,
-            last: op,
-        }));
+    match parser.stack.pop_call() {
+        Some((func, done)) => end_args(alloc, func, done, Arg::One(operand), parser),
+        None => close_inner(alloc, operand, parser),
     }
-    stack.push(Frame::Chain(begun))?;
-    begin_chain(alloc, op, operand, stack)
 }
 
-/// A closing bracket behind an operand.
+/// A closing bracket behind an operand that may end signs or chains.
 #[cycle(close)]
-pub fn close(alloc: Global, operand: Expr, parser: &mut Parser) -> Result<bool, NoMemory>
+fn close_inner(alloc: Global, operand: Expr, parser: &mut Parser) -> Result<bool, NoMemory>
     ensures { GoesTo result parser.new (close (tree_of operand) (frames_of parser.old.stack.frames.items)) }
 {
     match parser.stack.pop() {
@@ -108,8 +96,8 @@ fn close_behind(
     ensures { GoesTo result parser.new (close (tree_of operand) (frame_of frame ∷ frames_of parser.old.stack.frames.items)) }
 {
     match frame {
-        Frame::Sign(minus) => close(alloc, signed(alloc, minus, operand)?, parser),
-        Frame::Chain(begun) => close(alloc, whole_chain(alloc, begun, operand)?, parser),
+        Frame::Sign(minus) => close_inner(alloc, signed(alloc, minus, operand)?, parser),
+        Frame::Chain(begun) => close_inner(alloc, whole_chain(alloc, begun, operand)?, parser),
         Frame::Group => {
             after(alloc, operand, parser)?;
             Ok(true)
@@ -122,7 +110,7 @@ fn close_behind(
 pub fn end_args(
     alloc: Global,
     func: Func,
-    done: Vec<Arg>,
+    mut done: Vec<Arg>,
     arg: Arg,
     parser: &mut Parser,
 ) -> Result<bool, NoMemory>
@@ -131,9 +119,11 @@ pub fn end_args(
     if !func.is_enough(done.len() + 1) {
         return Ok(false);
     }
-    end_call(alloc, func, with_arg(done, arg)?, parser)
+    done.push(arg)?;
+    end_call(alloc, func, done, parser)
 }
 
+#[inline(always)]
 fn end_call(
     alloc: Global,
     func: Func,
@@ -147,8 +137,33 @@ fn end_call(
 }
 
 /// A comma behind an operand.
-#[cycle(split)]
+#[tactic(auto, using(crate::proofs::Joints::split_next))]
 pub fn split(alloc: Global, operand: Expr, parser: &mut Parser) -> Result<bool, NoMemory>
+    ensures { GoesTo result parser.new (split (tree_of operand) (frames_of parser.old.stack.frames.items)) }
+{
+    match parser.stack.called() {
+        Some((func, count)) => next_arg(func, count, Arg::One(operand), parser),
+        None => split_inner(alloc, operand, parser),
+    }
+}
+
+/// A comma behind an argument of the call that is newest, which has so many with it.
+#[inline(always)]
+fn next_arg(func: Func, count: usize, arg: Arg, parser: &mut Parser) -> Result<bool, NoMemory>
+    requires { called_at parser.old.stack.frames.items ≡ Some (func, count) }
+    ensures { GoesTo result parser.new (args_next (arg_tree arg) (frames_of parser.old.stack.frames.items)) }
+{
+    if !func.has_room(count) {
+        return Ok(false);
+    }
+    parser.stack.add_arg(arg)?;
+    parser.state = State::Wants;
+    Ok(true)
+}
+
+/// A comma behind an operand that ends signs or chains.
+#[cycle(split)]
+fn split_inner(alloc: Global, operand: Expr, parser: &mut Parser) -> Result<bool, NoMemory>
     ensures { GoesTo result parser.new (split (tree_of operand) (frames_of parser.old.stack.frames.items)) }
 {
     match parser.stack.pop() {
@@ -167,8 +182,8 @@ fn split_behind(
     ensures { GoesTo result parser.new (split (tree_of operand) (frame_of frame ∷ frames_of parser.old.stack.frames.items)) }
 {
     match frame {
-        Frame::Sign(minus) => split(alloc, signed(alloc, minus, operand)?, parser),
-        Frame::Chain(begun) => split(alloc, whole_chain(alloc, begun, operand)?, parser),
+        Frame::Sign(minus) => split_inner(alloc, signed(alloc, minus, operand)?, parser),
+        Frame::Chain(begun) => split_inner(alloc, whole_chain(alloc, begun, operand)?, parser),
         Frame::Group => Ok(false),
         Frame::Call(func, done) => next_args(func, done, Arg::One(operand), parser),
     }
@@ -192,6 +207,17 @@ pub fn next_args(
 /// The text ends behind an operand.
 #[cycle(end)]
 pub fn end(alloc: Global, operand: Expr, stack: &mut Stack) -> Result<Option<Expr>, NoMemory>
+    ensures { EndsTo result (ended (tree_of operand) (frames_of stack.old.frames.items)) }
+{
+    match stack.pop_chain() {
+        Some(begun) => end(alloc, whole_chain(alloc, begun, operand)?, stack),
+        None => end_inner(alloc, operand, stack),
+    }
+}
+
+/// The text ends behind an operand that may end signs.
+#[cycle(end)]
+fn end_inner(alloc: Global, operand: Expr, stack: &mut Stack) -> Result<Option<Expr>, NoMemory>
     ensures { EndsTo result (ended (tree_of operand) (frames_of stack.old.frames.items)) }
 {
     match stack.pop() {

@@ -1,66 +1,75 @@
-ghost use Rattle.std.specs.Prelude.{◌≡◌, ◌∷◌, OnOk};
-ghost use Rattle.carte_formula.specs.Machine.{after, cell_at, begin, sign_at, wants, args};
-ghost use Rattle.carte_tree.specs.Code.{tree_of, args_trees};
+ghost use Rattle.std.specs.Prelude.{◌≡◌, ◌∷◌, true, OnOk};
+ghost use Rattle.carte_formula.specs.Machine.{after, cell_at, begin, sign_at, wants};
+ghost use Rattle.carte_formula.specs.Frames.{may_range};
+ghost use Rattle.carte_tree.specs.Code.{tree_of};
 ghost use Rattle.carte_formula.specs.Parser.{frame_of, frames_of, reached, GoesTo};
 
 use crate::cell::Cell;
 use crate::parser::building::signed;
 use crate::parser::frames::Frame;
-use crate::parser::states::{Parser, State};
+use crate::parser::states::{Parser, Range, State};
 use crate::tokens::Token;
-use crate::{Arg, Expr, Func, Op};
+use crate::{Expr, Op};
 use carte_value::NoMemory;
 use std::alloc::Global;
 
 /// An operand is whole, and so are the signs before it.
 #[tactic(auto, using(crate::proofs::Signs::had_after))]
+#[inline(always)]
 pub fn after(alloc: Global, operand: Expr, parser: &mut Parser) -> Result<(), NoMemory>
     ensures { OnOk result (reached parser.new ≡ after (tree_of operand) (frames_of parser.old.stack.frames.items)) }
 {
+    if parser.stack.is_signed() {
+        return after_signs(alloc, operand, parser);
+    }
+    parser.operand = operand;
+    parser.state = State::Had;
+    Ok(())
+}
+
+/// The same, sign by sign.
+#[tactic(auto, using(crate::proofs::Signs::unsigned_after))]
+fn after_signs(alloc: Global, operand: Expr, parser: &mut Parser) -> Result<(), NoMemory>
+    ensures { OnOk result (reached parser.new ≡ after (tree_of operand) (frames_of parser.old.stack.frames.items)) }
+{
     match parser.stack.pop_sign() {
-        Some(minus) => after(alloc, signed(alloc, minus, operand)?, parser),
+        Some(minus) => after_signs(alloc, signed(alloc, minus, operand)?, parser),
         None => {
-            parser.state = State::Had(operand);
+            parser.operand = operand;
+            parser.state = State::Had;
             Ok(())
         }
     }
 }
 
 /// A cell is an operand, but for the first token of an argument that may be a range.
+#[tactic(auto, using(crate::proofs::Signs::no_corner))]
 fn cell_at(alloc: Global, cell: Cell, parser: &mut Parser) -> Result<(), NoMemory>
     ensures { OnOk result (reached parser.new ≡ cell_at cell (frames_of parser.old.stack.frames.items)) }
 {
-    match parser.stack.pop() {
-        Some(frame) => cell_behind(alloc, cell, frame, parser),
-        None => after(alloc, Expr::Ref(cell.into_name()), parser),
-    }
-}
-
-fn cell_behind(alloc: Global, cell: Cell, frame: Frame, parser: &mut Parser) -> Result<(), NoMemory>
-    ensures { OnOk result (reached parser.new ≡ cell_at cell (frame_of frame ∷ frames_of parser.old.stack.frames.items)) }
-{
-    match frame {
-        Frame::Call(func, done) => argument_at(cell, func, done, parser),
-        frame => {
-            parser.stack.push(frame)?;
-            after(alloc, Expr::Ref(cell.into_name()), parser)
-        }
-    }
-}
-
-fn argument_at(cell: Cell, func: Func, done: Vec<Arg>, parser: &mut Parser) -> Result<(), NoMemory>
-    ensures { OnOk result (reached parser.new ≡ cell_at cell (args func (args_trees done.items) ∷ frames_of parser.old.stack.frames.items)) }
-{
-    if func.takes_ranges() {
-        parser.state = State::Corner(cell, func, done);
+    if parser.stack.takes_ranges() {
+        corner_at(cell, parser);
         return Ok(());
     }
-    parser.stack.push(Frame::Call(func, done))?;
-    parser.state = State::Had(Expr::Ref(cell.into_name()));
-    Ok(())
+    after(alloc, Expr::Ref(cell.into_name()), parser)
+}
+
+/// A cell begins an argument that may be a range.
+fn corner_at(cell: Cell, parser: &mut Parser)
+    requires { may_range parser.old.stack.frames.items ≡ true }
+    ensures { reached parser.new ≡ cell_at cell (frames_of parser.old.stack.frames.items) }
+{
+    match parser.stack.pop() {
+        Some(Frame::Call(func, done)) => {
+            parser.state = State::InRange;
+            parser.range = Range::Corner(cell, func, done);
+        }
+        _ => unreachable!(),
+    }
 }
 
 /// A sign before an operand.
+#[inline(always)]
 fn sign_at(op: Op, parser: &mut Parser) -> Result<bool, NoMemory>
     ensures { GoesTo result parser.new (sign_at op (frames_of parser.old.stack.frames.items)) }
 {
@@ -72,6 +81,7 @@ fn sign_at(op: Op, parser: &mut Parser) -> Result<bool, NoMemory>
 }
 
 /// A frame is begun, and an operand comes.
+#[inline(always)]
 pub fn put(frame: Frame, parser: &mut Parser) -> Result<bool, NoMemory>
     ensures { GoesTo result parser.new (Some (wants (frame_of frame ∷ frames_of parser.old.stack.frames.items))) }
 {

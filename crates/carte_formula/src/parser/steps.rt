@@ -1,12 +1,13 @@
+ghost use Rattle.std.specs.Prelude.{◌≡◌};
 ghost use Rattle.carte_formula.specs.Machine.{go_on, at_name, at_corner, at_half, at_range, next_state, end_of};
 ghost use Rattle.carte_tree.specs.Code.{tree_of, args_trees};
-ghost use Rattle.carte_formula.specs.Parser.{frames_of, state_of, reached, GoesTo, OptionGoesTo, EndsTo};
+ghost use Rattle.carte_formula.specs.Parser.{frames_of, range_of, reached, GoesTo, OptionGoesTo, EndsTo};
 
 use crate::cell::Cell;
 use crate::parser::chains::{close, end, end_args, join, next_args, split};
-use crate::parser::frames::{Frame, Stack};
+use crate::parser::frames::Frame;
 use crate::parser::operand::{begin, put};
-use crate::parser::states::{Parser, State};
+use crate::parser::states::{Parser, Range, State};
 use crate::tokens::Token;
 use crate::{Arg, Expr, Func};
 use carte_value::{Area, NoMemory};
@@ -17,36 +18,56 @@ use std::mem;
 const FEW_ARGS: usize = 2;
 
 /// Takes a token, and tells whether a formula may go on with it.
+#[inline(always)]
 pub fn step(alloc: Global, token: Token, parser: &mut Parser) -> Result<bool, NoMemory>
     ensures { GoesTo result parser.new (next_state (reached parser.old) token) }
 {
-    match mem::replace(&mut parser.state, State::Wants) {
+    match parser.state {
         State::Wants => begin(alloc, token, parser),
-        State::Had(operand) => go_on(alloc, token, operand, parser),
+        State::Had => go_on(alloc, token, parser),
         State::Named(func) => at_name(alloc, token, func, parser),
-        State::Corner(cell, func, done) => at_corner(alloc, token, cell, func, done, parser),
-        State::Half(cell, func, done) => Ok(at_half(token, cell, func, done, parser)),
-        State::Ranged(area, func, done) => at_range(alloc, token, area, func, done, parser),
+        State::InRange => in_range(alloc, token, parser),
+    }
+}
+
+/// A token behind a cell or a range in an argument.
+fn in_range(alloc: Global, token: Token, parser: &mut Parser) -> Result<bool, NoMemory>
+    ensures { GoesTo result parser.new (next_state (range_of parser.old.range parser.old.stack.frames.items) token) }
+{
+    match mem::replace(&mut parser.range, Range::Nothing) {
+        Range::Nothing => begin(alloc, token, parser),
+        Range::Corner(cell, func, done) => at_corner(alloc, token, cell, func, done, parser),
+        Range::Half(cell, func, done) => Ok(at_half(token, cell, func, done, parser)),
+        Range::Whole(area, func, done) => at_range(alloc, token, area, func, done, parser),
     }
 }
 
 /// A token behind an operand.
-fn go_on(alloc: Global, token: Token, operand: Expr, parser: &mut Parser) -> Result<bool, NoMemory>
-    ensures { GoesTo result parser.new (go_on token (tree_of operand) (frames_of parser.old.stack.frames.items)) }
+fn go_on(alloc: Global, token: Token, parser: &mut Parser) -> Result<bool, NoMemory>
+    ensures { GoesTo result parser.new (go_on token (tree_of parser.old.operand) (frames_of parser.old.stack.frames.items)) }
 {
     match token {
         Token::Op(op) => {
-            join(alloc, op, operand, &mut parser.stack)?;
+            join(alloc, op, taken(&mut parser.operand), &mut parser.stack)?;
             parser.state = State::Wants;
             Ok(true)
         }
-        Token::Close => close(alloc, operand, parser),
-        Token::Comma => split(alloc, operand, parser),
+        Token::Close => close(alloc, taken(&mut parser.operand), parser),
+        Token::Comma => split(alloc, taken(&mut parser.operand), parser),
         _ => Ok(false),
     }
 }
 
+/// Takes an operand from its place.
+#[inline(always)]
+fn taken(operand: &mut Expr) -> Expr
+    ensures { result ≡ operand.old }
+{
+    mem::replace(operand, Expr::Number(0))
+}
+
 /// A token behind a function's name.
+#[inline(always)]
 fn at_name(alloc: Global, token: Token, func: Func, parser: &mut Parser) -> Result<bool, NoMemory>
     ensures { GoesTo result parser.new (at_name token func (frames_of parser.old.stack.frames.items)) }
 {
@@ -72,12 +93,14 @@ fn at_corner(
 {
     match token {
         Token::Colon => {
-            parser.state = State::Half(cell, func, done);
+            parser.state = State::InRange;
+            parser.range = Range::Half(cell, func, done);
             Ok(true)
         }
         token => {
             parser.stack.push(Frame::Call(func, done))?;
-            go_on(alloc, token, Expr::Ref(cell.into_name()), parser)
+            parser.operand = Expr::Ref(cell.into_name());
+            go_on(alloc, token, parser)
         }
     }
 }
@@ -88,7 +111,8 @@ fn at_half(token: Token, cell: Cell, func: Func, done: Vec<Arg>, parser: &mut Pa
 {
     match token {
         Token::Cell(other) => {
-            parser.state = State::Ranged(cell.to(&other), func, done);
+            parser.state = State::InRange;
+            parser.range = Range::Whole(cell.to(&other), func, done);
             true
         }
         _ => false,
@@ -114,11 +138,11 @@ fn at_range(
 }
 
 /// The formula, where the text may end here.
-pub fn finish(alloc: Global, state: State, stack: &mut Stack) -> Result<Option<Expr>, NoMemory>
-    ensures { EndsTo result (end_of (state_of state stack.old.frames.items)) }
+pub fn finish(alloc: Global, parser: &mut Parser) -> Result<Option<Expr>, NoMemory>
+    ensures { EndsTo result (end_of (reached parser.old)) }
 {
-    match state {
-        State::Had(operand) => end(alloc, operand, stack),
+    match parser.state {
+        State::Had => end(alloc, taken(&mut parser.operand), &mut parser.stack),
         _ => Ok(None),
     }
 }

@@ -1,6 +1,6 @@
 use Rattle.std.proofs.Common.{◌∙◌, sym, ◌<◌, arith}
 use Rattle.carte_formula.proofs.Running.{starts, runs_on, runs_out, runs_ended}
-use Rattle.carte_formula.proofs.lexer.runs.run_end.Goals as goal
+use Rattle.carte_formula.proofs.lexer.runs.changed_end.Goals as goal
 
 pub loop-at-init : goal.loop-at-init
 loop-at-init c = starts c.args.class c.args.bytes.now c.args.from c.requires.place c.requires.known
