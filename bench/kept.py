@@ -38,6 +38,9 @@ def built(folder):
     (top / "crates" / crate / "proofs").mkdir()
     for name in ["Lib.antt", "Unmarked.antt"]:
         shutil.copyfile(BENCH / f"kept/{name}.txt", top / "crates" / crate / "proofs" / name)
+    for name in ["worked", "batch_of"]:
+        (top / "crates" / crate / "proofs" / name).mkdir()
+        shutil.copyfile(BENCH / f"kept/{name}.antt.txt", top / "crates" / crate / "proofs" / name / "Answers.antt")
     shutil.copyfile(BENCH / "kept/main.rt.txt", top / "crates" / crate / "src/main.rt")
     subprocess.run(["rt", "run", "--", "none"], cwd=top / "crates" / crate, check=True, stdout=subprocess.DEVNULL)
     return str(top / "crates" / crate / "out" / crate)
