@@ -5,8 +5,8 @@ ghost use Rattle.carte_value.specs.Names.{is_rule_name};
 ghost use Rattle.carte_effect.specs.Sights.{sight_of, not_done, missing};
 
 use carte_effect::{
-    Answers, Each, Effect, Ended, FetchList, Halt, Hashed, Look, Made, RefsOnly, Reuse, Runs,
-    Seen, Snapshot, Stuck, Tracked,
+    Answers, Each, Effect, Ended, FetchList, Halt, Hashed, Look, Made, RefsOnly, Reuse, Runs, Seen,
+    Snapshot, Stuck, Tracked,
 };
 use carte_value::{Digest, Link, Links, Name, Names, Value};
 use std::alloc::Global;
@@ -147,9 +147,17 @@ fn outcomes(rt: HostRuntime) -> Result<(), Fail> {
     let key = Name::rule(alloc, "t")?;
     for reused in [false, true] {
         let made = if reused {
-            Made::Reused(Reuse::new(key.copy(alloc)?, Hashed::of(Value::Number(4)), links_of(alloc)?))
+            Made::Reused(Reuse::new(
+                key.copy(alloc)?,
+                Hashed::of(Value::Number(4)),
+                links_of(alloc)?,
+            ))
         } else {
-            Made::Ran(Ended::new(key.copy(alloc)?, Hashed::of(Value::Number(4)), links_of(alloc)?))
+            Made::Ran(Ended::new(
+                key.copy(alloc)?,
+                Hashed::of(Value::Number(4)),
+                links_of(alloc)?,
+            ))
         };
         let made = made.copy(alloc)?;
         assert_eq!(rt; matches!(made, Made::Reused(_)), reused);
