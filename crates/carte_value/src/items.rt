@@ -43,6 +43,14 @@ impl<T> Items<T> {
         }
     }
 
+    /// The empty list with room for so many items, so that these take no more memory than they need.
+    pub fn with_room(alloc: Global, count: usize) -> Result<Items<T>, NoMemory>
+        ensures { IfOk result (λ items. items ≡ []) }
+    {
+        let items = Vec::with_capacity(alloc, count)?;
+        Ok(Items { items })
+    }
+
     /// How many items there are.
     pub fn len(&self) -> usize
         ensures number { result ≡ length self.now }
@@ -109,7 +117,7 @@ impl<T: Same + Drop> Items<T> {
     pub fn copy(&self, alloc: Global) -> Result<Items<T>, NoMemory>
         ensures { IfOk result (λ copy. copy ≡ self.now) }
     {
-        let mut items = Items::new(alloc);
+        let mut items = Items::with_room(alloc, self.items.len())?;
         for item in self.items.iter() {
             items.push(item.same(alloc)?)?;
         }

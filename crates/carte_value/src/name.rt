@@ -1,4 +1,4 @@
-ghost use Rattle.std.specs.Prelude.{◌≡◌, ℕ, Some, refl, IsTrue, IfOk};
+ghost use Rattle.std.specs.Prelude.{◌≡◌, ◌≤◌, length, ℕ, Some, refl, IsTrue, IfOk};
 ghost use Rattle.std.proofs.Common.{rules};
 ghost use Rattle.std.specs.Ordering.{nat_cmp};
 ghost use Rattle.std.specs.Cmp.{on_equiv, on_total, on_po, on_per, partial_equiv_from_equiv};
@@ -81,6 +81,22 @@ impl Name {
         Ok(Name::held(alloc, text)?)
     }
 
+    /// The same of bytes, of which a short name is made without trying them as UTF-8.
+    pub fn exact_bytes(alloc: Global, text: &[u8]) -> Result<Name, NameFault>
+        ensures { IsNameRead is_name text.now text.now result }
+    {
+        if !is_name(text) {
+            return Err(NameFault::BadName(name_prefix(text)));
+        }
+        if text.len() <= 16 {
+            return Ok(Name::short(text));
+        }
+        match str::from_utf8(text) {
+            Ok(text) => Ok(Name::held(alloc, text)?),
+            Err(_) => unreachable!(),
+        }
+    }
+
     /// Reads a name of this kind of book.
     pub fn of(alloc: Global, kind: Kind, text: &str) -> Result<Name, NameFault>
         ensures { IsNameRead (is_text_of kind) text.now (name_of kind text.now) result }
@@ -104,13 +120,22 @@ impl Name {
         requires { IsTrue (is_name text.now) }
         ensures { IfOk result (λ k. k ≡ text.now) }
     {
+        if text.len() <= 16 {
+            return Ok(Name::short(text.as_bytes()));
+        }
         let front = front_of(text.as_bytes());
-        let rest = if text.len() <= 16 {
-            Rest::Short(text.len() as u8)
-        } else {
-            Rest::Long(ArcStr::from_str(alloc, text)?)
-        };
+        let rest = Rest::Long(ArcStr::from_str(alloc, text)?);
         Ok(Name { front, rest })
+    }
+
+    fn short(text: &[u8]) -> Name
+        requires name { IsTrue (is_name text.now) }
+        requires few { length text.now ≤ 16 }
+        ensures { result ≡ text.now }
+    {
+        let front = front_of(text);
+        let rest = Rest::Short(text.len() as u8);
+        Name { front, rest }
     }
 
     /// The column and the row of a cell, counted from 1.
@@ -170,6 +195,13 @@ impl Name {
             Rest::Short(length) => &self.front[..*length as usize],
             Rest::Long(text) => text.as_bytes(),
         }
+    }
+
+    /// The bytes of a name are a name, which `bytes` doesn't say. Nothing is done.
+    pub fn text_is_name(&self)
+        ensures { IsTrue (is_name self.now) }
+    {
+        let _rest = &self.rest;
     }
 
     /// The same name. A long one shares its text, so it takes nothing from the allocator.
