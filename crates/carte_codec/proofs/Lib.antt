@@ -1,4 +1,3 @@
 pub mod Chunks
 pub mod Lists
-pub mod Names
 pub mod Wholes

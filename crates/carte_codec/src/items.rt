@@ -11,8 +11,8 @@ use std::alloc::Global;
 impl<T: Drop> ListOf<T> for Items<T> {
     ghost items = { λ items. items };
 
-    fn empty(alloc: Global) -> Items<T> {
-        Items::new(alloc)
+    fn empty(alloc: Global, room: usize) -> Result<Items<T>, NoMemory> {
+        Items::with_room(alloc, room)
     }
 
     fn put(&mut self, item: T) -> Result<(), NoMemory> {

@@ -15,7 +15,8 @@
 //!
 //! A list may have a table beside its items, so reading goes by `ListOf`: an empty list, one item more, the items.
 //! Reading takes memory as items come and never by the count that the bytes state, so that four bytes can't ask for
-//! gigabytes. All of it is linear in the bytes.
+//! gigabytes; a count of a few is all that is believed beforehand, since most lists are that short, and a list that grows
+//! by itself takes more than it needs. All of it is linear in the bytes.
 #![tactic(auto)]
 
 mod count;

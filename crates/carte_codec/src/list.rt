@@ -1,4 +1,4 @@
-ghost use Rattle.std.specs.Prelude.{◌≡◌, ◌<◌, ◌^◌, ◌++◌, ◌∷◌, [], List, length, OnOk};
+ghost use Rattle.std.specs.Prelude.{◌≡◌, ◌<◌, ◌^◌, ◌++◌, ◌∷◌, [], List, length, IfOk, OnOk};
 ghost use Rattle.std.specs.List.{flat_map};
 ghost use Rattle.carte_codec.specs.Each.{EachFits};
 ghost use Rattle.carte_codec.specs.Parts.{spelled_list, FitsList, FitsMany};
@@ -9,13 +9,16 @@ use crate::{Spelled, Unread};
 use carte_value::NoMemory;
 use std::alloc::Global;
 
+/// The most items that a list gets room for before any is read.
+const FEW: usize = 16;
+
 /// A list that grows at its end, whatever it has beside its items.
 pub trait ListOf<T>: Sized {
     ghost items: { Self → List T };
 
-    /// The empty list, whose items will come from `alloc`.
-    fn empty(alloc: Global) -> Self
-        ensures { items result ≡ [] };
+    /// The empty list, whose items will come from `alloc`. It may have room for so many at once.
+    fn empty(alloc: Global, room: usize) -> Result<Self, NoMemory>
+        ensures { IfOk result (λ list. items list ≡ []) };
 
     /// Puts an item behind the others.
     fn put(&mut self, item: T) -> Result<(), NoMemory>
@@ -50,7 +53,8 @@ fn write_items<T: Spelled>(items: &[T], out: &mut Vec<u8>) -> Result<(), NoMemor
     Ok(())
 }
 
-/// The list that the bytes begin with, and the bytes behind it. It takes memory as items come, whatever the count says.
+/// The list that the bytes begin with, and the bytes behind it. A short one has no more room than it needs; a longer one
+/// takes memory as items come, whatever the count says.
 pub fn read_list<T: Spelled + Drop, L: ListOf<T> + Drop>(
     alloc: Global,
     bytes: &[u8],
@@ -69,7 +73,7 @@ fn read_items<T: Spelled + Drop, L: ListOf<T> + Drop>(
 ) -> Result<(L, &[u8]), Unread>
     ensures { IsRead (λ list. flat_map T.spelling (L.items list)) (λ list. FitsMany T.fits count (L.items list)) (λ x. (x.0, x.1.now)) bytes.now result }
 {
-    let mut list = L::empty(alloc);
+    let mut list = L::empty(alloc, count.min(FEW))?;
     let mut rest = bytes;
     for _at in 0..count {
         match T::read(alloc, rest) {

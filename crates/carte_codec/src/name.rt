@@ -14,9 +14,10 @@ impl Spelled for Name {
     ghost may = { λ _. Unit {0} };
 
     fn write(&self, out: &mut Vec<u8>) -> Result<(), NoMemory> {
-        let text = self.text();
+        self.text_is_name();
+        let text = self.bytes();
         out.push(text.len() as u8)?;
-        out.extend_from_slice(text.as_bytes())?;
+        out.extend_from_slice(text)?;
         Ok(())
     }
 
@@ -42,10 +43,7 @@ impl Spelled for Name {
 fn read_name(alloc: Global, text: &[u8]) -> Result<Name, Unread>
     ensures { IsNameOf text.now result }
 {
-    let Ok(text) = str::from_utf8(text) else {
-        return Err(Unread::NotThere);
-    };
-    match Name::exact(alloc, text) {
+    match Name::exact_bytes(alloc, text) {
         Ok(name) => Ok(name),
         Err(NameFault::BadName(_)) => Err(Unread::NotThere),
         Err(NameFault::NoMemory) => Err(Unread::NoMemory),
