@@ -15,8 +15,8 @@ use std::alloc::Global;
 impl ListOf<Value> for Store {
     ghost items = { λ items. items };
 
-    fn empty(alloc: Global) -> Store {
-        Store::new(alloc)
+    fn empty(alloc: Global, _room: usize) -> Result<Store, NoMemory> {
+        Ok(Store::new(alloc))
     }
 
     fn put(&mut self, item: Value) -> Result<(), NoMemory> {
@@ -50,8 +50,8 @@ impl Spelled for Store {
 impl ListOf<Link> for Seen {
     ghost items = { λ items. items };
 
-    fn empty(alloc: Global) -> Seen {
-        Seen::new(alloc)
+    fn empty(alloc: Global, _room: usize) -> Result<Seen, NoMemory> {
+        Ok(Seen::new(alloc))
     }
 
     fn put(&mut self, item: Link) -> Result<(), NoMemory> {
@@ -85,8 +85,8 @@ impl Spelled for Seen {
 impl ListOf<Entry> for Entries {
     ghost items = { λ items. items };
 
-    fn empty(alloc: Global) -> Entries {
-        Entries::new(alloc)
+    fn empty(alloc: Global, _room: usize) -> Result<Entries, NoMemory> {
+        Ok(Entries::new(alloc))
     }
 
     fn put(&mut self, item: Entry) -> Result<(), NoMemory> {
@@ -120,8 +120,8 @@ impl Spelled for Entries {
 impl ListOf<Trace> for Traces {
     ghost items = { λ items. items };
 
-    fn empty(alloc: Global) -> Traces {
-        Traces::new(alloc)
+    fn empty(alloc: Global, _room: usize) -> Result<Traces, NoMemory> {
+        Ok(Traces::new(alloc))
     }
 
     fn put(&mut self, item: Trace) -> Result<(), NoMemory> {
