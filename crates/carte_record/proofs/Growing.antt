@@ -1,5 +1,5 @@
 -- What is kept, after a batch is taken in, and where it isn't.
-use Rattle.std.proofs.Common.{◌≡◌, ℕ, true, List, [], ◌∷◌, ◌++◌, Option, Some, None, refl, ap, ◌∙◌, take, length, cond}
+use Rattle.std.proofs.Common.{◌≡◌, ℕ, true, List, [], ◌∷◌, ◌++◌, Option, Some, None, refl, ap, sym, ◌∙◌, take, length, cond, inl, inr}
 use Rattle.std.proofs.Math.Seq.{take-append_seam}
 use Rattle.std.specs.Prelude.{find, option_map, unwrap_or, is_some}
 use Rattle.std.specs.Option.{option_or}
@@ -12,13 +12,13 @@ use Rattle.carte_record.specs.declared.way.Way.TheVariants.{Verifying, Construct
 use Rattle.carte_record.specs.declared.kept.Kept.{Kept}
 use Rattle.carte_record.specs.declared.batch.Batch.{Batch}
 use Rattle.carte_record.specs.declared.lengths.Lengths.{Lengths}
-use Rattle.carte_record.specs.Lookups.{first_link, link_in, first_entry, entry_in, first_value, digest_in, find_last, is_link_of}
-use Rattle.carte_record.specs.Steps.{Begins, replaced_by}
+use Rattle.carte_record.specs.Lookups.{first_link, link_in, first_entry, entry_in, first_value, digest_in, find_last, is_link_of, is_entry_of}
+use Rattle.carte_record.specs.Steps.{Begins, replaced_by, IsReady}
 use Rattle.carte_record.specs.Kept.{SomeKept, kept_view, kept_traces, newest, traces_in, staled}
 use Rattle.carte_record.specs.Folds.{is_among, batch_traces, carried}
-use Rattle.carte_record.specs.Growth.{Grows, AreLengthsOf, HasTraces, HasRoomIn, Settles}
-use Rattle.carte_record.proofs.Found.{map_or}
-use Rattle.carte_record.proofs.Steps.{taken_in, begins_self}
+use Rattle.carte_record.specs.Growth.{Grows, AreLengthsOf, HasTraces, IsReadyIn, TakesEntries, Settles}
+use Rattle.carte_record.proofs.Found.{map_or, or_none}
+use Rattle.carte_record.proofs.Steps.{brought, moved, room_made, begins_self}
 
 -- what is alike is equal
 pub kept_same : (K L : SomeKept) → K.rules ≡ L.rules → ((k : List ℕ) → K.seen k ≡ L.seen k) → ((k : List ℕ) → K.entries k ≡ L.entries k) → ((w : Way) (k : List ℕ) → K.traces w k ≡ L.traces w k)
@@ -40,15 +40,23 @@ marked_and_replaced f None (Some y) p there only = ap (option_map f) (only refl)
 marked_and_replaced f (Some x) None p there only = let some = there refl in cc
 marked_and_replaced f (Some x) (Some y) p there only = refl
 
-pub carried_by : (B : Batch) (old mid new : Kept) → Grows old mid → HasTraces B.verifying B.constructive B.deep old mid → HasRoomIn B.values B.seen B.entries old mid → Settles B.seen B.stale B.entries B.chain mid new
+entries_taken : (ks : List (List ℕ)) (es old mid new : List Entry) → IsReady is_entry_of es old mid → TakesEntries ks es mid new → (k : List ℕ) → first_entry new k ≡ option_or (entry_in es k) (option_map (staled (is_among ks k)) (first_entry old k))
+entries_taken ks es old mid new ready (inl (none, is)) k =
+    let whole = moved (λ e. e.key) es old mid ready none k in
+    ap (λ xs. first_entry xs k) is ∙ whole.0 ∙ sym (ap (λ o. option_or (entry_in es k) (option_map (staled (is_among ks k)) o)) whole.1 ∙ or_none (entry_in es k))
+entries_taken ks es old mid new ready (inr (some, puts)) k =
+    let room = room_made (λ e. e.key) es old mid ready some in
+    puts k ∙ marked_and_replaced (staled (is_among ks k)) (entry_in es k) (first_entry mid k) (first_entry old k) (room.there k) (room.only k)
+
+pub carried_by : (B : Batch) (old mid new : Kept) → Grows old mid → HasTraces B.verifying B.constructive B.deep old mid → IsReadyIn B.values B.seen B.entries old mid → Settles B.seen B.stale B.entries B.chain mid new
     → kept_view new ≡ carried B (kept_view old)
 carried_by B old mid new grows more room settles = kept_same (kept_view new) (carried B (kept_view old)) (settles.rules ∙ grows.rules) seen entries traces (settles.chain ∙ ap (unwrap_or B.chain) grows.chain) stored
   where
     seen : (k : List ℕ) → first_link new.seen k ≡ option_or (link_in B.seen k) (first_link old.seen k)
-    seen k = ap digest_in (taken_in (λ l. l.name) B.seen old.seen mid.seen new.seen room.seen settles.seen k) ∙ map_or (λ l. l.digest) (find_last (is_link_of k) B.seen) (find (is_link_of k) old.seen)
+    seen k = ap digest_in (brought (λ l. l.name) B.seen old.seen mid.seen new.seen room.seen settles.seen k) ∙ map_or (λ l. l.digest) (find_last (is_link_of k) B.seen) (find (is_link_of k) old.seen)
 
     entries : (k : List ℕ) → first_entry new.entries k ≡ option_or (entry_in B.entries k) (option_map (staled (is_among B.stale k)) (first_entry old.entries k))
-    entries k = settles.entries k ∙ marked_and_replaced (staled (is_among B.stale k)) (entry_in B.entries k) (first_entry mid.entries k) (first_entry old.entries k) (room.entries.there k) (room.entries.only k)
+    entries = entries_taken B.stale B.entries old.entries mid.entries new.entries room.entries settles.entries
 
     traces : (w : Way) (k : List ℕ) → traces_in k (kept_traces w new) [] ≡ traces_in k (batch_traces w B) (traces_in k (kept_traces w old) [])
     traces Verifying k = ap (λ ts. traces_in k ts []) (settles.verifying ∙ more.verifying) ∙ traces_on k old.verifying B.verifying []

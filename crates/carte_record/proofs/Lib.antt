@@ -4,6 +4,7 @@ pub mod Fronts
 pub mod AllPlaces
 pub mod Found
 pub mod Steps
+pub mod Onces
 pub mod Changed
 pub mod Bodies
 pub mod Marks

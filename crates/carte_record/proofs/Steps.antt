@@ -1,11 +1,11 @@
 -- How a list takes in a later one, item by item.
-use Rattle.std.proofs.Common.{◌≡◌, ℕ, Bool, true, false, List, [], ◌∷◌, ◌++◌, Option, Some, None, refl, ap, sym, ◌∙◌, subst, inl, inr, append_assoc, append-nil}
+use Rattle.std.proofs.Common.{◌≡◌, ℕ, ◌<◌, length, arith, cond, Bool, true, false, List, [], ◌∷◌, ◌++◌, Option, Some, None, refl, ap, sym, ◌∙◌, subst, inl, inr, append_assoc, append-nil}
 use Rattle.std.specs.Prelude.{find, option_map, is_some, if◌then◌else◌}
 use Rattle.std.specs.Option.{option_or}
 use Rattle.carte_value.specs.Names.{name_eq}
 use Rattle.carte_record.specs.Lookups.{find_last}
 use Rattle.carte_record.specs.Changes.{change_first}
-use Rattle.carte_record.specs.Steps.{Begins, replaced_by, Replaces, HasRoomFor, HasRoom}
+use Rattle.carte_record.specs.Steps.{Begins, replaced_by, Replaces, HasRoomFor, HasRoom, IsReady, TakesIn}
 use Rattle.carte_record.proofs.Names.{name_eq_is, name_eq_self}
 use Rattle.carte_record.proofs.Changed.{find_changed, find_other}
 use Rattle.carte_record.proofs.Found.{find_end, last_end, or_none}
@@ -18,6 +18,17 @@ begins_end xs ys y (zs, is) = (zs ++ y ∷ [], ap (λ w. w ++ y ∷ []) is ∙ a
 
 pub begins_on : {A : Type 0} (xs ys zs : List A) → Begins xs ys → Begins ys zs → Begins xs zs
 begins_on xs ys zs (us, is) (vs, are) = (us ++ vs, are ∙ (ap (λ w. w ++ vs) is ∙ append_assoc xs us vs))
+
+-- where none is the last, none passes
+none_of_last : {A : Type 0} (p : A → Bool) (xs : List A) → find_last p xs ≡ None → find p xs ≡ None
+none_of_last p [] none = refl
+none_of_last {A = A} p (x ∷ xs) none = on (p x) (find_last p xs) (none_of_last p xs) none
+  where
+    on : (b : Bool) (o : Option A) → (o ≡ None → find p xs ≡ None) → option_or o (if b then Some x else None) ≡ None → cond b (Some x) (find p xs) ≡ None
+    on true None before none = cc
+    on true (Some y) before none = cc
+    on false None before none = before refl
+    on false (Some y) before none = cc
 
 module _ {A : Type 0} (key : A → List ℕ) where
   abbrev pub of_key : List ℕ → A → Bool
@@ -98,3 +109,27 @@ module _ {A : Type 0} (key : A → List ℕ) where
       on None (Some y) there only = only refl
       on (Some x) None there only = let some = there refl in cc
       on (Some x) (Some y) there only = refl
+
+  -- where the list has nothing and is ready, each key of the later one is there once, and had nothing
+  pub moved : (later old mid : List A) → IsReady of_key later old mid → mid ≡ [] → (k : List ℕ) → (find (of_key k) later ≡ find_last (of_key k) later) × (find (of_key k) old ≡ None)
+  moved later old mid (inl (can, stays)) none k = (can.once k, ap (find (of_key k)) can.empty)
+  moved later old mid (inr room) none k = on (find_last (of_key k) later) refl
+    where
+      on : (l : Option A) → find_last (of_key k) later ≡ l → (find (of_key k) later ≡ find_last (of_key k) later) × (find (of_key k) old ≡ None)
+      on None last = (none_of_last (of_key k) later last ∙ sym last, sym (room.only k last) ∙ ap (find (of_key k)) none)
+      on (Some x) last =
+          let some : is_some (find (of_key k) mid) ≡ true = room.there k (ap is_some last) in
+          let lacks : is_some (find (of_key k) mid) ≡ false = ap (λ xs. is_some (find (of_key k) xs)) none in
+          let no : ⊥ = cc in absurd no
+
+  -- a list with items that is ready has room
+  pub room_made : (later old mid : List A) → IsReady of_key later old mid → 0 < length mid → HasRoom of_key later old mid
+  room_made later old mid (inl (can, stays)) some = absurd (omega (arith, ap length (stays ∙ can.empty)))
+  room_made later old mid (inr room) some = room
+
+  -- in either way each key of the later list has its last item there, and each other key what it had
+  pub brought : (later old mid new : List A) → IsReady of_key later old mid → TakesIn of_key later mid new → (k : List ℕ) → find (of_key k) new ≡ option_or (find_last (of_key k) later) (find (of_key k) old)
+  brought later old mid new ready (inl (none, is)) k =
+      let whole = moved later old mid ready none k in
+      ap (find (of_key k)) is ∙ whole.0 ∙ sym (ap (option_or (find_last (of_key k) later)) whole.1 ∙ or_none (find_last (of_key k) later))
+  brought later old mid new ready (inr (some, puts)) k = taken_in later old mid new (room_made later old mid ready some) puts k

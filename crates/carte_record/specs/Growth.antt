@@ -1,5 +1,5 @@
 -- How what is kept takes in a batch: its lists grow behind what they had, which can fail, and then their items are replaced.
-use Rattle.std.specs.Prelude.{ℕ, List, length, ◌++◌, ◌≡◌, Option, option_map, unwrap_or}
+use Rattle.std.specs.Prelude.{ℕ, ◌<◌, List, [], length, ◌++◌, ◌≡◌, ◌⊎◌, Option, option_map, unwrap_or}
 use Rattle.std.specs.Option.{option_or}
 use Rattle.carte_value.specs.declared.digest.Digest.{Digest}
 use Rattle.carte_value.specs.declared.link.Link.{Link}
@@ -9,7 +9,7 @@ use Rattle.carte_record.specs.declared.trace.Trace.{Trace}
 use Rattle.carte_record.specs.declared.kept.Kept.{Kept}
 use Rattle.carte_record.specs.declared.lengths.Lengths.{Lengths}
 use Rattle.carte_record.specs.Lookups.{first_value, first_entry, entry_in, is_link_of, is_entry_of}
-use Rattle.carte_record.specs.Steps.{Begins, replaced_by, Replaces, HasRoom}
+use Rattle.carte_record.specs.Steps.{Begins, replaced_by, IsReady, TakesIn}
 use Rattle.carte_record.specs.Kept.{staled}
 use Rattle.carte_record.specs.Folds.{is_among}
 
@@ -39,17 +39,21 @@ pub record HasTraces (vs cs ds : List Trace) (old new : Kept) : Type 0 where
   pub constructive : new.constructive ≡ old.constructive ++ cs
   pub deep : new.deep ≡ old.deep ++ ds
 
--- with values whose digests it lacked, and room for links and entries
-pub record HasRoomIn (vs : List Value) (ls : List Link) (es : List Entry) (old new : Kept) : Type 0 where
+-- with values whose digests it lacked, and ready for links and entries
+pub record IsReadyIn (vs : List Value) (ls : List Link) (es : List Entry) (old new : Kept) : Type 0 where
   pub values : (d : Digest) → first_value new.values d ≡ option_or (first_value old.values d) (first_value vs d)
-  pub seen : HasRoom is_link_of ls old.seen new.seen
-  pub entries : HasRoom is_entry_of es old.entries new.entries
+  pub seen : IsReady is_link_of ls old.seen new.seen
+  pub entries : IsReady is_entry_of es old.entries new.entries
 
--- marked and replaced, with another chain where there is one
+-- marked and replaced, or where there was no entry the later ones
+abbrev pub TakesEntries : List (List ℕ) → List Entry → List Entry → List Entry → Type 0
+TakesEntries ks es old new = ((old ≡ []) × (new ≡ es)) ⊎ ((0 < length old) × ((k : List ℕ) → first_entry new k ≡ replaced_by (option_map (staled (is_among ks k)) (first_entry old k)) (entry_in es k)))
+
+-- with links and entries taken in, and another chain where there is one
 pub record Settles (ls : List Link) (ks : List (List ℕ)) (es : List Entry) (c : Option (List (List ℕ))) (old new : Kept) : Type 0 where
   pub rules : new.rules ≡ old.rules
-  pub seen : Replaces is_link_of ls old.seen new.seen
-  pub entries : (k : List ℕ) → first_entry new.entries k ≡ replaced_by (option_map (staled (is_among ks k)) (first_entry old.entries k)) (entry_in es k)
+  pub seen : TakesIn is_link_of ls old.seen new.seen
+  pub entries : TakesEntries ks es old.entries new.entries
   pub verifying : new.verifying ≡ old.verifying
   pub constructive : new.constructive ≡ old.constructive
   pub deep : new.deep ≡ old.deep

@@ -2,7 +2,7 @@ ghost use Rattle.std.specs.Prelude.{◌≡◌, OnOk, OnErr, length};
 ghost use Rattle.carte_record.specs.Kept.{kept_view};
 ghost use Rattle.carte_record.specs.declared.kept.Kept.{Kept as SomeLists};
 ghost use Rattle.carte_record.specs.Folds.{apply, carried};
-ghost use Rattle.carte_record.specs.Growth.{Grows, HasTraces, HasRoomIn, Settles, AreLengthsOf};
+ghost use Rattle.carte_record.specs.Growth.{Grows, HasTraces, IsReadyIn, Settles, AreLengthsOf};
 
 use crate::lengths::Lengths;
 use crate::{Batch, Entries, Kept, Seen, Start, Store, Traces};
@@ -75,7 +75,7 @@ impl Kept {
         }
     }
 
-    // All that can fail: the lists get what they lack, behind what they have.
+    // All that can fail: the lists get what they lack, behind what they have, or stay empty for those of the batch.
     fn grow(
         &mut self,
         values: Store,
@@ -87,12 +87,12 @@ impl Kept {
     ) -> Result<(), NoMemory>
         ensures front { Grows self.old self.new }
         ensures traces { OnOk result (HasTraces verifying constructive deep self.old self.new) }
-        ensures rest { OnOk result (HasRoomIn values seen.now entries.now self.old self.new) }
+        ensures rest { OnOk result (IsReadyIn values seen.now entries.now self.old self.new) }
     {
         self.grow_traces(verifying, constructive, deep)?;
         self.values.take_in(values)?;
-        self.seen.make_room(seen)?;
-        self.entries.make_room(entries)
+        self.seen.make_ready(seen)?;
+        self.entries.make_ready(entries)
     }
 
     fn grow_traces(
@@ -125,9 +125,8 @@ impl Kept {
     fn settle(&mut self, seen: Seen, stale: &Names, entries: Entries, chain: Option<Names>)
         ensures { Settles seen stale.now entries chain self.old self.new }
     {
-        self.seen.replace_all(seen);
-        self.entries.mark_all(stale);
-        self.entries.replace_all(entries);
+        self.seen.take_in(seen);
+        self.entries.take_in(stale, entries);
         if let Some(chain) = chain {
             self.chain = chain;
         }

@@ -1,14 +1,15 @@
-ghost use Rattle.std.specs.Prelude.{◌≡◌, ◌<◌, ◌^◌, ◌∷◌, ◌++◌, [], List, length, slice_get, option_copied, ◌==◌, is_ok, take, IfOk, OnOk, OnErr, ℕ, Bool, true, option_map, if◌then◌else◌};
+ghost use Rattle.std.specs.Prelude.{◌≡◌, ◌<◌, ◌^◌, ◌∷◌, ◌++◌, [], List, length, slice_get, option_copied, ◌==◌, is_ok, take, IfOk, OnOk, OnErr, IsTrue, ℕ, Bool, true, option_map, if◌then◌else◌};
 ghost use Rattle.carte_record.specs.Lookups.{first_entry, is_entry_of};
 ghost use Rattle.carte_record.specs.Kept.{staled};
 ghost use Rattle.carte_record.specs.Places.{first_place};
 ghost use Rattle.carte_record.specs.Changes.{change_first, front};
 ghost use Rattle.carte_record.specs.Folds.{is_among};
-ghost use Rattle.carte_record.specs.Steps.{Begins, Replaces, HasRoomFor, HasRoom};
+ghost use Rattle.carte_record.specs.Steps.{Begins, Replaces, HasRoomFor, HasRoom, CanBecome, IsReady};
+ghost use Rattle.carte_record.specs.Growth.{TakesEntries};
 ghost use Rattle.carte_record.specs.declared.entry.Entry.{Entry as SomeEntry};
 
 use crate::Entry;
-use crate::table::{Table, first, forget, place, push, set};
+use crate::table::{Table, each_once, first, forget, place, push, set};
 use carte_value::{Name, Names, NoMemory, Same};
 use std::alloc::Global;
 use std::marker::Model;
@@ -108,8 +109,40 @@ impl Entries {
         }
     }
 
+    /// Makes ready to take a later list in, which then can't fail. Where there is no room, some entries more may stand there.
+    pub(crate) fn make_ready(&mut self, later: &Entries) -> Result<(), NoMemory>
+        ensures ok { OnOk result (IsReady is_entry_of later.now self.old self.new) }
+        ensures front { Begins self.old self.new }
+    {
+        if self.can_become(later) {
+            return Ok(());
+        }
+        self.make_room(later)
+    }
+
+    /// Marks entries stale, and takes in a later list that it is ready for: where it has nothing, it is then that list.
+    pub(crate) fn take_in(&mut self, stale: &Names, later: Entries)
+        ensures { TakesEntries stale.now later self.old self.new }
+    {
+        if self.is_empty() {
+            *self = later;
+            return;
+        }
+        self.mark_all(stale);
+        self.replace_all(later);
+    }
+
+    fn can_become(&self, later: &Entries) -> bool
+        ensures { IsTrue result → CanBecome is_entry_of later.now self.now }
+    {
+        if !self.is_empty() {
+            return false;
+        }
+        each_once(later.entries.as_slice(), &later.places)
+    }
+
     /// Puts each entry of a later list in the place of the first one of its key, where there is one.
-    pub(crate) fn replace_all(&mut self, later: Entries)
+    fn replace_all(&mut self, later: Entries)
         ensures { Replaces is_entry_of later self.old self.new }
     {
         for entry in later.entries {
@@ -118,7 +151,7 @@ impl Entries {
     }
 
     /// Puts an entry behind the others for each key of a later list that has none. Where there is no room, some may stand there.
-    pub(crate) fn make_room(&mut self, later: &Entries) -> Result<(), NoMemory>
+    fn make_room(&mut self, later: &Entries) -> Result<(), NoMemory>
         ensures ok { OnOk result (HasRoom is_entry_of later.now self.old self.new) }
         ensures front { Begins self.old self.new }
     {

@@ -10,6 +10,8 @@
 //! entry for each key that has none. This can fail, and is undone by cutting the lists. Then entries are marked and
 //! replaced in place, which can't fail. Both cost what the batch has in it. Turned down: to ask for room first, since
 //! the room of a list can't be named where it is seen as a list; and a copy of all that is kept, which no batch pays for.
+//! A list with nothing in it becomes the batch's own list, unless a key comes twice in that one: so what a state file
+//! begins with is never held twice.
 //!
 //! Keys are copied into the tables. A batch may name a key twice; the later one counts.
 #![tactic(auto)]

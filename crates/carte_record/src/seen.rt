@@ -1,9 +1,9 @@
-ghost use Rattle.std.specs.Prelude.{◌≡◌, ◌<◌, ◌^◌, ◌∷◌, ◌++◌, [], List, length, slice_get, option_copied, ◌==◌, is_ok, take, IfOk, OnOk, OnErr, if◌then◌else◌};
+ghost use Rattle.std.specs.Prelude.{◌≡◌, ◌<◌, ◌^◌, ◌∷◌, ◌++◌, [], List, length, slice_get, option_copied, ◌==◌, is_ok, take, IfOk, OnOk, OnErr, IsTrue, if◌then◌else◌};
 ghost use Rattle.carte_record.specs.Lookups.{first_link, is_link_of};
 ghost use Rattle.carte_record.specs.Changes.{change_first, front};
-ghost use Rattle.carte_record.specs.Steps.{Begins, Replaces, HasRoomFor, HasRoom};
+ghost use Rattle.carte_record.specs.Steps.{Begins, Replaces, HasRoomFor, HasRoom, CanBecome, IsReady, TakesIn};
 
-use crate::table::{Table, first, forget, place, push, set};
+use crate::table::{Table, each_once, first, forget, place, push, set};
 use carte_value::{Digest, Link, Name, NoMemory, Same};
 use std::alloc::Global;
 use std::marker::Model;
@@ -95,8 +95,39 @@ impl Seen {
         set(&mut self.links, at, link);
     }
 
+    /// Makes ready to take a later list in, which then can't fail. Where there is no room, some links more may stand there.
+    pub(crate) fn make_ready(&mut self, later: &Seen) -> Result<(), NoMemory>
+        ensures ok { OnOk result (IsReady is_link_of later.now self.old self.new) }
+        ensures front { Begins self.old self.new }
+    {
+        if self.can_become(later) {
+            return Ok(());
+        }
+        self.make_room(later)
+    }
+
+    /// Takes in a later list that it is ready for: where it has nothing, it is then that list.
+    pub(crate) fn take_in(&mut self, later: Seen)
+        ensures { TakesIn is_link_of later self.old self.new }
+    {
+        if self.is_empty() {
+            *self = later;
+            return;
+        }
+        self.replace_all(later);
+    }
+
+    fn can_become(&self, later: &Seen) -> bool
+        ensures { IsTrue result → CanBecome is_link_of later.now self.now }
+    {
+        if !self.is_empty() {
+            return false;
+        }
+        each_once(later.links.as_slice(), &later.places)
+    }
+
     /// Puts each link of a later list in the place of the first one of its name, where there is one.
-    pub(crate) fn replace_all(&mut self, later: Seen)
+    fn replace_all(&mut self, later: Seen)
         ensures { Replaces is_link_of later self.old self.new }
     {
         for link in later.links {
@@ -105,7 +136,7 @@ impl Seen {
     }
 
     /// Puts a link behind the others for each name of a later list that has none. Where there is no room, some may stand there.
-    pub(crate) fn make_room(&mut self, later: &Seen) -> Result<(), NoMemory>
+    fn make_room(&mut self, later: &Seen) -> Result<(), NoMemory>
         ensures ok { OnOk result (HasRoom is_link_of later.now self.old self.new) }
         ensures front { Begins self.old self.new }
     {

@@ -1,6 +1,7 @@
 //! Tables from keys to places in a list.
-ghost use Rattle.std.specs.Prelude.{◌≡◌, ◌<◌, ◌^◌, ◌++◌, ◌∷◌, [], Bool, None, Some, IsTrue, ◌↔◌, length, find, slice_get, option_copied, is_ok, OnOk, OnErr, if◌then◌else◌};
+ghost use Rattle.std.specs.Prelude.{◌≡◌, ◌<◌, ◌^◌, ◌++◌, ◌∷◌, [], Bool, None, Some, IsTrue, ◌↔◌, length, map, find, slice_get, option_copied, is_ok, OnOk, OnErr, if◌then◌else◌};
 ghost use Rattle.std.specs.HashMap.{get};
+ghost use Rattle.std.specs.List.{IsDistinct};
 ghost use Rattle.carte_record.specs.Places.{first_place, IsFirstPlaces, AddsPlace, ForgetsPlace};
 ghost use Rattle.carte_record.specs.Changes.{change_first};
 
@@ -42,6 +43,13 @@ pub(crate) fn place<K: Eq + Hash>(table: &Table<K, u32>, key: &K) -> Option<usiz
         Some(at) => Some(*at as usize),
         None => None,
     }
+}
+
+/// Whether no key comes twice in a list with this table, which has then as many keys as there are items.
+pub(crate) fn each_once<K: Eq + Hash, T>(items: &[T], table: &Table<K, u32>) -> bool
+    ensures { IsTrue result → (is_of : K → T → Bool) (key : T → K) → ((k : K) (x : T) → is_of k x ≡ K.eq k (key x)) → IsFirstPlaces is_of items.now (get K.eq table.now) → IsDistinct K.eq (map key items.now) }
+{
+    items.len() == table.len()
 }
 
 /// Puts an item in the place of the first one of its key, where there is one.
