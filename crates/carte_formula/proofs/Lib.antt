@@ -22,6 +22,7 @@ pub mod Unpaired
 pub mod Taking
 pub mod Ranging
 pub mod Resuming
+pub mod Wanting
 pub mod Formulas
 pub mod ReadWhole
 pub mod Longest

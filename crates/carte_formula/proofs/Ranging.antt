@@ -2,7 +2,8 @@
 use Rattle.std.proofs.Common.{ℕ, true, false, Bool, List, [], ◌∷◌, ◌++◌, ◌≡◌, ◌≤◌, ◌+◌, Option, Some, None, if◌then◌else◌, nat_lt, refl, sym, ◌∙◌, ap, arith}
 use Rattle.std.proofs.lemmas.Bool.{le-ltb, ltb-false}
 use Rattle.carte_value.specs.Areas.{area_of, size_of}
-use Rattle.carte_formula.specs.Tokens.{Token, cell, colon}
+use Rattle.carte_formula.specs.Tokens.{Token, cell, colon, Sign, sign_token}
+use Rattle.carte_formula.specs.declared.tokens.Sign.TheVariants as signs
 use Rattle.carte_formula.specs.Reading.{Placed, tokens_of}
 use Rattle.carte_formula.specs.Whole.{range_size, size_at, wide_from}
 use Rattle.carte_formula.specs.Ranges.{begun_tokens, first_of, wide_behind, wide_after, wide_counted}
@@ -48,6 +49,24 @@ ends_other (half place j behind) t h k = h
 pub other_taken : (w : Ranges) (p : Placed) (ps : List Placed) → w.cells ≤ 65536 → ((k : List ℕ) → p.token ≡ cell k → ⊥) → (p.token ≡ colon → ⊥) → wide_after w (p ∷ ps) ≡ wide_behind w ps
 other_taken w p ps low h k =
     ap (λ o. first_of w.too_wide o) (ended w.cells w.begun p ps low (ends_other w.begun p.token h k) ∙ skipped w.cells p ps low (no_cell p.token (tokens_of ps) h))
+
+sign_no_cell : (s : Sign) (k : List ℕ) → sign_token s ≡ cell k → ⊥
+sign_no_cell (signs.Op o) k h = cc
+sign_no_cell signs.Open k h = cc
+sign_no_cell signs.Close k h = cc
+sign_no_cell signs.Comma k h = cc
+sign_no_cell signs.Colon k h = cc
+
+sign_no_colon : (s : Sign) → (s ≡ signs.Colon → ⊥) → sign_token s ≡ colon → ⊥
+sign_no_colon (signs.Op o) h k = cc
+sign_no_colon signs.Open h k = cc
+sign_no_colon signs.Close h k = cc
+sign_no_colon signs.Comma h k = cc
+sign_no_colon signs.Colon h k = h refl
+
+-- a sign that is no colon
+pub sign_taken : (w : Ranges) (place : ℕ) (s : Sign) (ps : List Placed) → w.cells ≤ 65536 → (s ≡ signs.Colon → ⊥) → wide_after w (record { place = place; token = sign_token s } ∷ ps) ≡ wide_behind w ps
+sign_taken w place s ps low h = other_taken w (record { place = place; token = sign_token s }) ps low (sign_no_cell s) (sign_no_colon s h)
 
 abbrev AtCell : ℕ → List ℕ → Placed
 AtCell place k = record { place = place; token = cell k }

@@ -1,11 +1,17 @@
 -- What a text is read as does not change while its tokens are read.
-use Rattle.std.proofs.Common.{ℕ, List, Result, Ok, Err}
+use Rattle.std.proofs.Common.{ℕ, false, List, ◌∷◌, length, drop, ◌≡◌, ◌<◌, ◌+◌, nat_lt, Option, Some, None, Result, Ok, Err, refl, sym, ◌∙◌, ap, subst, slice_index}
+use Rattle.carte_value.specs.declared.kind.Kind.{Kind}
 use Rattle.carte_tree.specs.Tree.{Tree}
+use Rattle.carte_formula.specs.Tokens.{Token, Sign, sign_token}
 use Rattle.carte_formula.specs.Machine.{State, next_state}
-use Rattle.carte_formula.specs.Reading.{FormulaFault, BadToken, BadSyntax, TooDeep, TooLong, TooWide, NoMemory, Placed}
-use Rattle.carte_formula.specs.Lexer.{before}
-use Rattle.carte_formula.specs.Parser.{StepsTo, ReadsTo}
-use Rattle.carte_formula.specs.Resumed.{resumed, fault_of}
+use Rattle.carte_formula.specs.Ranges.{wide_after}
+use Rattle.carte_formula.specs.Takes.{MeetsTo, RunMeetsTo}
+use Rattle.carte_formula.specs.Reading.{depth, FormulaFault, BadToken, BadSyntax, TooDeep, TooLong, TooWide, NoMemory, Placed}
+use Rattle.carte_formula.specs.Lexer.{start_of, blank, single, wrong, idle, before, lexed}
+use Rattle.carte_formula.specs.Parser.{reached, StepsTo, ReadsTo}
+use Rattle.carte_formula.specs.Resumed.{resumed, fault_of, remaining, Advances}
+use Rattle.carte_formula.specs.declared.parser.Progress.{Progress}
+use Rattle.carte_formula.proofs.Taking.{blank_met, sign_met, wrong_taken}
 use Rattle.carte_formula.specs.declared.width.Ranges.{Ranges}
 use Rattle.carte_formula.specs.declared.parser.states.Parser.{Parser}
 
@@ -27,3 +33,35 @@ resumed_fault s w size p (Ok ps) n NoMemory g h k = only_memory g (resumed s w s
 resumed_fault s w size p (Ok ps) n (BadToken place) g h k = absurd h
 resumed_fault s w size p (Ok ps) n (TooLong place) g h k = absurd h
 resumed_fault s w size p (Ok ps) n (TooWide place) g h k = absurd h
+
+-- a token that is taken
+resumed_step : (s u : State) (w v : Ranges) (size : ℕ) (p : Placed) (r : Result (List Placed) ℕ) → next_state s p.token ≡ Some u → nat_lt 64 (depth u) ≡ false → ((ps : List Placed) → wide_after w (p ∷ ps) ≡ wide_after v ps)
+    → resumed s w size (before p r) ≡ resumed u v size r
+resumed_step s u w v size p (Err place) goes flat wide = refl
+resumed_step s u w v size p (Ok ps) goes flat wide = rw (goes, flat, wide ps) refl
+
+-- where the tokens from a place on are others, so is what is read
+along : (q : Kind) (bytes : List ℕ) (at : ℕ) (p : Progress) (r : Result (List Placed) ℕ) → lexed q idle at (drop at bytes) ≡ r → remaining q bytes at p ≡ resumed (reached p.parser) p.ranges (length bytes) r
+along q bytes at p r h = ap (λ x. resumed (reached p.parser) p.ranges (length bytes) x) h
+
+pub blank_advances : (q : Kind) (bytes : List ℕ) (at : ℕ) (p : Progress) → at < length bytes → start_of q (slice_index bytes at) ≡ blank → Advances q bytes at p (Ok (at + 1)) p
+blank_advances q bytes at p h is =
+    let m : MeetsTo q bytes at (Ok (None, at + 1)) = blank_met q bytes at h is in
+    (m.0, m.1, along q bytes at p _ m.2)
+
+pub wrong_advances : (q : Kind) (bytes : List ℕ) (at : ℕ) (p : Progress) → at < length bytes → start_of q (slice_index bytes at) ≡ wrong → Advances q bytes at p (Err (BadToken at)) p
+wrong_advances q bytes at p h is = along q bytes at p (Err at) (wrong_taken q bytes at h is)
+
+pub token_advances : (q : Kind) (bytes : List ℕ) (at end : ℕ) (t : Token) (p : Progress) (n : Parser) (v : Ranges) → MeetsTo q bytes at (Ok (Some t, end)) → ((ps : List Placed) → wide_after p.ranges (record { place = at; token = t } ∷ ps) ≡ wide_after v ps)
+    → StepsTo (Ok tt) n (next_state (reached p.parser) t) at → Advances q bytes at p (Ok end) (record { parser = n; ranges = v })
+token_advances q bytes at end t p n v m wide s =
+    (m.0, m.1, along q bytes at p _ m.2 ∙ resumed_step (reached p.parser) (reached n) p.ranges v (length bytes) (record { place = at; token = t }) (lexed q idle end (drop end bytes)) s.0 s.1 wide)
+
+pub fault_advances : (q : Kind) (bytes : List ℕ) (at end : ℕ) (t : Token) (p : Progress) (n : Parser) (f g : FormulaFault) → MeetsTo q bytes at (Ok (Some t, end)) → StepsTo (Err f) n (next_state (reached p.parser) t) at
+    → ReadsTo (Err g) (Err (fault_of f (lexed q idle end (drop end bytes)))) → ReadsTo (Err g) (remaining q bytes at p)
+fault_advances q bytes at end t p n f g m s k =
+    subst (λ r. ReadsTo (Err g) r) (sym (along q bytes at p _ m.2)) (resumed_fault (reached p.parser) p.ranges (length bytes) (record { place = at; token = t }) (lexed q idle end (drop end bytes)) n f g s k)
+
+-- a sign
+pub sign_here : (q : Kind) (bytes : List ℕ) (at : ℕ) (s : Sign) → at < length bytes → start_of q (slice_index bytes at) ≡ single (sign_token s) → MeetsTo q bytes at (Ok (Some (sign_token s), at + 1))
+sign_here q bytes at s h is = sign_met q bytes at (sign_token s) h is

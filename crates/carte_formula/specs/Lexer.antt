@@ -6,14 +6,28 @@ use Rattle.std.specs.Str.Parse.{digits_value}
 use Rattle.carte_value.specs.Names.{is_digit, is_lower, is_upper, is_letter, is_name_byte, is_rule_name, is_cell_name}
 use Rattle.carte_value.specs.declared.kind.Kind.{Kind}
 use Rattle.carte_value.specs.declared.kind.Kind.TheVariants.{Rules, Sheet}
-use Rattle.carte_formula.specs.Tokens.{Op, eq, ne, lt, le, gt, ge, join, add, sub, mul, div, Func, Token, digits, quoted, word, cell, func, op, lpar, rpar, comma, colon}
+use Rattle.carte_formula.specs.Tokens.{Op, eq, ne, lt, le, gt, ge, join, add, sub, mul, div, Func, Token, digits, quoted, word, cell, func, op, lpar, rpar, comma, colon, sign_token}
 use Rattle.carte_tree.specs.Printed.{func_name, op_bytes, text_bytes}
 use Rattle.carte_tree.specs.declared.expr.Func.TheVariants as functions
 pub use Rattle.carte_formula.specs.declared.tokens.Class.{Class}
 pub use Rattle.carte_formula.specs.declared.tokens.Class.TheVariants.{Digits as numeral, Word as small, Capitals as capitals, Letters as letters, Less as less, Greater as greater, Inside as inside, Quote as closing}
-pub use Rattle.carte_formula.specs.declared.tokens.Start.{Start}
-pub use Rattle.carte_formula.specs.declared.tokens.Start.TheVariants.{Blank as blank, Sign as single, Run as begins, Wrong as wrong}
+use Rattle.carte_formula.specs.declared.tokens.Start.{Start as CodeStart}
+use Rattle.carte_formula.specs.declared.tokens.Start.TheVariants as code
 use Rattle.carte_formula.specs.Reading.{Placed}
+
+-- what a byte begins where no token is pending
+pub data Start : Type 0 where
+  blank : Start
+  single : Token → Start
+  begins : Class → Start
+  wrong : Start
+
+-- the same, as the code holds it
+abbrev pub start_by : CodeStart → Start
+start_by code.Blank = blank
+start_by (code.Sign s) = single (sign_token s)
+start_by (code.Run c) = begins c
+start_by code.Wrong = wrong
 
 abbrev pub is_blank : ℕ → Bool
 is_blank b = ((b == 32 || b == 9) || b == 10) || b == 13

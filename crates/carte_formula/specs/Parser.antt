@@ -1,9 +1,9 @@
 -- The machine's states as the code holds them.
-use Rattle.std.specs.Prelude.{ℕ, Bool, true, false, nat_lt, List, [], ◌∷◌, ◌+◌, ◌++◌, map, Option, Some, None, Result, Ok, Err, ◌≡◌}
+use Rattle.std.specs.Prelude.{ℕ, Bool, true, false, nat_lt, List, [], ◌∷◌, ◌+◌, ◌++◌, map, Option, Some, None, Result, Ok, Err, ◌≡◌, if◌then◌else◌}
 use Rattle.carte_value.specs.declared.NoMemory.{NoMemory}
 use Rattle.carte_tree.specs.Tree.{Tree, Arg}
 use Rattle.carte_tree.specs.Code.{tree_of, terms_of, args_trees}
-use Rattle.carte_formula.specs.Machine.{Frame, sign, chain_at, group, args, State, wants, had, named, corner, half, ranged, next_args}
+use Rattle.carte_formula.specs.Machine.{Frame, sign, chain_at, group, args, State, wants, had, named, corner, half, ranged, next_args, after}
 use Rattle.carte_formula.specs.Reading.{FormulaFault, BadSyntax, TooDeep, NoMemory as OutOfMemory, depth}
 use Rattle.carte_tree.specs.declared.expr.Expr.{Expr}
 use Rattle.carte_formula.specs.declared.parser.frames.OpenChain.{OpenChain}
@@ -43,6 +43,16 @@ state_of states.Wants e r S = wants (frames_of S)
 state_of states.Had e r S = had (tree_of e) (frames_of S)
 state_of (states.Named f) e r S = named f (frames_of S)
 state_of states.InRange e r S = range_of r S
+
+-- an operand comes
+abbrev pub is_wanting : CodeState → Range → Bool
+is_wanting states.Wants r = true
+is_wanting states.InRange ranges.Nothing = true
+is_wanting _ r = false
+
+-- an operand follows that is one token and no cell
+abbrev pub operand_at : Parser → Tree → Option State
+operand_at p v = if is_wanting p.state p.range then Some (after v (frames_of p.stack.frames.items)) else None
 
 abbrev pub reached : Parser → State
 reached p = state_of p.state p.operand p.range p.stack.frames.items

@@ -1,11 +1,15 @@
 -- What a text is read as, where some of its tokens are read.
-use Rattle.std.specs.Prelude.{ℕ, List, Result, Ok, Err}
+use Rattle.std.specs.Prelude.{ℕ, List, length, drop, ◌≡◌, ◌≤◌, ◌<◌, Result, Ok, Err}
+use Rattle.carte_value.specs.declared.kind.Kind.{Kind}
 use Rattle.carte_tree.specs.Tree.{Tree}
 use Rattle.carte_formula.specs.Machine.{State}
 use Rattle.carte_formula.specs.Reading.{FormulaFault, BadToken, Placed, tokens_read}
 use Rattle.carte_formula.specs.Whole.{with_width}
 use Rattle.carte_formula.specs.Ranges.{wide_after}
+use Rattle.carte_formula.specs.Lexer.{idle, lexed}
+use Rattle.carte_formula.specs.Parser.{reached, ReadsTo}
 use Rattle.carte_formula.specs.declared.width.Ranges.{Ranges}
+use Rattle.carte_formula.specs.declared.parser.Progress.{Progress}
 
 -- behind a state, where the rest has these tokens or a bad one
 abbrev pub resumed : State → Ranges → ℕ → Result (List Placed) ℕ → Result Tree FormulaFault
@@ -16,3 +20,12 @@ resumed s w size (Err place) = Err (BadToken place)
 abbrev pub fault_of : FormulaFault → Result (List Placed) ℕ → FormulaFault
 fault_of f (Ok ps) = f
 fault_of f (Err place) = BadToken place
+
+-- what the bytes from a place on are read as
+abbrev pub remaining : Kind → List ℕ → ℕ → Progress → Result Tree FormulaFault
+remaining q bytes at p = resumed (reached p.parser) p.ranges (length bytes) (lexed q idle at (drop at bytes))
+
+-- the bytes up to an end are taken, and what is read stays the same; or its fault is told
+abbrev pub Advances : Kind → List ℕ → ℕ → Progress → Result ℕ FormulaFault → Progress → Type 0
+Advances q bytes at p (Ok end) n = (at < end) × (end ≤ length bytes) × (remaining q bytes at p ≡ remaining q bytes end n)
+Advances q bytes at p (Err f) n = ReadsTo (Err f) (remaining q bytes at p)

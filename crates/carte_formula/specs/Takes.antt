@@ -16,3 +16,8 @@ MeetsTo q bytes at (Ok n) = (at < n.1) × (n.1 ≤ length bytes) × (lexed q idl
 MeetsTo q bytes at (Err (BadToken place)) = lexed q idle at (drop at bytes) ≡ Err place
 MeetsTo q bytes at (Err NoMemory) = Unit {0}
 MeetsTo q bytes at (Err _) = ⊥
+
+-- the same where a run begins
+abbrev pub RunMeetsTo : Kind → List ℕ → ℕ → Result (Token × ℕ) FormulaFault → Type 0
+RunMeetsTo q bytes at (Ok n) = MeetsTo q bytes at (Ok (Some n.0, n.1))
+RunMeetsTo q bytes at (Err f) = MeetsTo q bytes at (Err f)

@@ -7,3 +7,13 @@ pub use Rattle.carte_tree.specs.declared.expr.Op.TheVariants.{Eq as eq, Ne as ne
 pub use Rattle.carte_tree.specs.declared.expr.Func.{Func}
 pub use Rattle.carte_formula.specs.declared.tokens.Token.{Token}
 pub use Rattle.carte_formula.specs.declared.tokens.Token.TheVariants.{Number as digits, Text as quoted, Word as word, Cell as cell, Func as func, Op as op, Open as lpar, Close as rpar, Comma as comma, Colon as colon}
+pub use Rattle.carte_formula.specs.declared.tokens.Sign.{Sign}
+use Rattle.carte_formula.specs.declared.tokens.Sign.TheVariants as signs
+
+-- a sign as a token
+abbrev pub sign_token : Sign → Token
+sign_token (signs.Op o) = op o
+sign_token signs.Open = lpar
+sign_token signs.Close = rpar
+sign_token signs.Comma = comma
+sign_token signs.Colon = colon

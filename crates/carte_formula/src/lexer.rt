@@ -1,9 +1,9 @@
 ghost use Rattle.std.specs.Prelude.{◌≡◌, ◌<◌, ◌≤◌, length, slice_index, slice_range, drop, Err};
 ghost use Rattle.carte_formula.specs.Parser.{ReadsTo};
 ghost use Rattle.carte_formula.specs.Resumed.{fault_of};
-ghost use Rattle.carte_formula.specs.Lexer.{start_of, idle, lexed};
+ghost use Rattle.carte_formula.specs.Lexer.{start_of, begins, idle, lexed};
 ghost use Rattle.carte_formula.specs.Runs.{RunsTo};
-ghost use Rattle.carte_formula.specs.Takes.{MeetsTo};
+ghost use Rattle.carte_formula.specs.Takes.{MeetsTo, RunMeetsTo};
 
 mod runs;
 mod starts;
@@ -11,14 +11,14 @@ mod token_kinds;
 
 use crate::FormulaFault;
 use crate::lexer::runs::run_end;
-use crate::lexer::starts::start_of;
+pub use crate::lexer::starts::start_of;
 use crate::lexer::token_kinds::token_of;
 use crate::tokens::{Class, Start, Token};
 use carte_value::Kind;
 use std::alloc::Global;
 
 /// The token that begins at a place, or none where a blank stands there; and where the next one may begin.
-pub fn meet(
+fn meet(
     alloc: Global,
     kind: Kind,
     text: &str,
@@ -29,29 +29,34 @@ pub fn meet(
 {
     match start_of(kind, text.as_bytes()[at]) {
         Start::Blank => Ok((None, at + 1)),
-        Start::Sign(token) => Ok((Some(token), at + 1)),
-        Start::Run(class) => meet_run(alloc, kind, text, at, class),
+        Start::Sign(sign) => Ok((Some(sign.token()), at + 1)),
+        Start::Run(class) => {
+            let (token, end) = meet_run(alloc, kind, text, at, class)?;
+            Ok((Some(token), end))
+        }
         Start::Wrong => Err(FormulaFault::BadToken(at)),
     }
 }
 
-fn meet_run(
+/// The token that the run is which begins at a place, and where the next one may begin.
+#[inline(always)]
+pub fn meet_run(
     alloc: Global,
     kind: Kind,
     text: &str,
     at: usize,
     class: Class,
-) -> Result<(Option<Token>, usize), FormulaFault>
+) -> Result<(Token, usize), FormulaFault>
     requires place { at < length text.now }
-    requires start { start_of kind (slice_index text.now at) ≡ Start.Run class }
-    ensures { MeetsTo kind text.now at result }
+    requires start { start_of kind (slice_index text.now at) ≡ begins class }
+    ensures { RunMeetsTo kind text.now at result }
 {
     let (last, end) = run_end(class, text.as_bytes(), at);
     if let Class::Inside = last {
         return Err(FormulaFault::BadToken(at));
     }
     match token_of(alloc, last, &text[at..end])? {
-        Some(token) => Ok((Some(token), end)),
+        Some(token) => Ok((token, end)),
         None => Err(FormulaFault::BadToken(at)),
     }
 }

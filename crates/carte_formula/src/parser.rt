@@ -1,11 +1,12 @@
-ghost use Rattle.std.specs.Prelude.{◌≡◌, nat_lt, [], length, Ok};
+ghost use Rattle.std.specs.Prelude.{◌≡◌, ◌<◌, nat_lt, [], length, slice_index, Ok, Option};
 ghost use Rattle.carte_tree.specs.Code.{tree_of};
-ghost use Rattle.carte_formula.specs.Lexer.{idle, lexed};
-ghost use Rattle.carte_formula.specs.Machine.{next_state};
+ghost use Rattle.carte_formula.specs.Lexer.{start_of, single, begins, idle, lexed};
+ghost use Rattle.carte_formula.specs.Machine.{State as Machine, next_state};
+ghost use Rattle.carte_formula.specs.Tokens.{sign_token};
 ghost use Rattle.carte_formula.specs.Reading.{depth};
-ghost use Rattle.carte_formula.specs.Parser.{reached, range_depth, StepsTo, ReadsTo};
+ghost use Rattle.carte_formula.specs.Parser.{reached, range_depth, OptionGoesTo, StepsTo, ReadsTo};
 ghost use Rattle.carte_formula.specs.Whole.{with_tokens, with_width};
-ghost use Rattle.carte_formula.specs.Resumed.{resumed};
+ghost use Rattle.carte_formula.specs.Resumed.{resumed, Advances};
 
 mod building;
 mod chains;
@@ -14,11 +15,11 @@ mod operand;
 mod states;
 mod steps;
 
-use crate::lexer::{first_fault, meet};
+use crate::lexer::{first_fault, meet_run, start_of};
 use crate::parser::frames::Stack;
 use crate::parser::states::{Parser, Range, State};
-use crate::parser::steps::{finish, step};
-use crate::tokens::Placed;
+use crate::parser::steps::{finish, step, step_sign};
+use crate::tokens::{Class, Placed, Sign, Start};
 use crate::width::Ranges;
 use crate::{Expr, FormulaFault};
 use carte_value::Kind;
@@ -27,30 +28,94 @@ use std::alloc::Global;
 /// How many groups, calls and unary signs may stand round a place.
 const MOST_LEVELS: usize = 64;
 
+/// How far a text is read.
+#[derive(Drop)]
+pub struct Progress {
+    parser: Parser,
+    ranges: Ranges,
+}
+
 /// Reads a text token by token, and beside it how wide its ranges are.
 pub fn formula_of(alloc: Global, kind: Kind, text: &str) -> Result<Expr, FormulaFault>
     ensures { ReadsTo result (with_tokens (lexed kind idle 0 text.now) (length text.now)) }
 {
-    let mut parser = Parser {
-        state: State::Wants,
-        operand: Expr::Number(0),
-        range: Range::Nothing,
-        stack: Stack::new(alloc),
+    let mut progress = Progress {
+        parser: Parser {
+            state: State::Wants,
+            operand: Expr::Number(0),
+            range: Range::Nothing,
+            stack: Stack::new(alloc),
+        },
+        ranges: Ranges::new(),
     };
-    let mut ranges = Ranges::new();
     let mut at = 0;
     while at < text.len() {
-        let (token, end) = meet(alloc, kind, text, at)?;
-        if let Some(token) = token {
-            let placed = Placed { place: at, token };
-            ranges.take(alloc, &placed)?;
-            if let Err(fault) = take(alloc, placed, &mut parser) {
-                return Err(first_fault(alloc, kind, text, end, fault));
-            }
-        }
-        at = end;
+        at = advance(alloc, kind, text, at, &mut progress)?;
     }
-    whole(alloc, &mut parser, &ranges, text.len())
+    whole(alloc, &mut progress.parser, &progress.ranges, text.len())
+}
+
+/// Takes what stands at a place, a blank or a token, and says where the next may stand. What it is is told by its first byte, and
+/// each goes its own way from there, since a token of any kind would be copied from call to call.
+#[inline(always)]
+fn advance(
+    alloc: Global,
+    kind: Kind,
+    text: &str,
+    at: usize,
+    progress: &mut Progress,
+) -> Result<usize, FormulaFault>
+    requires { at < length text.now }
+    ensures { Advances kind text.now at progress.old result progress.new }
+{
+    match start_of(kind, text.as_bytes()[at]) {
+        Start::Blank => Ok(at + 1),
+        Start::Sign(sign) => advance_sign(alloc, kind, text, at, sign, progress),
+        Start::Run(class) => advance_run(alloc, kind, text, at, class, progress),
+        Start::Wrong => Err(FormulaFault::BadToken(at)),
+    }
+}
+
+#[inline(always)]
+fn advance_sign(
+    alloc: Global,
+    kind: Kind,
+    text: &str,
+    at: usize,
+    sign: Sign,
+    progress: &mut Progress,
+) -> Result<usize, FormulaFault>
+    requires place { at < length text.now }
+    requires start { start_of kind (slice_index text.now at) ≡ single (sign_token sign) }
+    ensures { Advances kind text.now at progress.old result progress.new }
+{
+    progress.ranges.take_sign(at, sign);
+    match take_sign(alloc, at, sign, &mut progress.parser) {
+        Ok(()) => Ok(at + 1),
+        Err(fault) => Err(first_fault(alloc, kind, text, at + 1, fault)),
+    }
+}
+
+#[inline(always)]
+fn advance_run(
+    alloc: Global,
+    kind: Kind,
+    text: &str,
+    at: usize,
+    class: Class,
+    progress: &mut Progress,
+) -> Result<usize, FormulaFault>
+    requires place { at < length text.now }
+    requires start { start_of kind (slice_index text.now at) ≡ begins class }
+    ensures { Advances kind text.now at progress.old result progress.new }
+{
+    let (token, end) = meet_run(alloc, kind, text, at, class)?;
+    let placed = Placed { place: at, token };
+    progress.ranges.take(alloc, &placed)?;
+    match take(alloc, placed, &mut progress.parser) {
+        Ok(()) => Ok(end),
+        Err(fault) => Err(first_fault(alloc, kind, text, end, fault)),
+    }
 }
 
 /// The formula where a text of so many bytes ends.
@@ -81,11 +146,33 @@ fn not_wide(formula: Expr, too_wide: Option<usize>) -> Result<Expr, FormulaFault
 fn take(alloc: Global, placed: Placed, parser: &mut Parser) -> Result<(), FormulaFault>
     ensures { StepsTo result parser.new (next_state (reached parser.old) placed.token) placed.place }
 {
-    if !step(alloc, placed.token, parser)? {
-        return Err(FormulaFault::BadSyntax(placed.place));
+    let goes_on = step(alloc, placed.token, parser)?;
+    taken(goes_on, placed.place, parser)
+}
+
+#[inline(always)]
+fn take_sign(
+    alloc: Global,
+    place: usize,
+    sign: Sign,
+    parser: &mut Parser,
+) -> Result<(), FormulaFault>
+    ensures { StepsTo result parser.new (next_state (reached parser.old) (sign_token sign)) place }
+{
+    let goes_on = step_sign(alloc, sign, parser)?;
+    taken(goes_on, place, parser)
+}
+
+/// What comes of a token at a place, with which a formula may go on or not.
+#[inline(always)]
+fn taken(goes_on: bool, place: usize, parser: &Parser) -> Result<(), FormulaFault>
+    ensures { (o : Option Machine) → OptionGoesTo goes_on parser.now o → StepsTo result parser.now o place }
+{
+    if !goes_on {
+        return Err(FormulaFault::BadSyntax(place));
     }
     if is_too_deep(parser) {
-        return Err(FormulaFault::TooDeep(placed.place));
+        return Err(FormulaFault::TooDeep(place));
     }
     Ok(())
 }

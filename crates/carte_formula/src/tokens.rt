@@ -1,3 +1,5 @@
+ghost use Rattle.std.specs.Prelude.{◌≡◌};
+
 use crate::cell::Cell;
 use crate::{Func, Op};
 use carte_value::{Name, Text};
@@ -45,11 +47,37 @@ pub enum Class {
     Quote,
 }
 
+/// A token that is its byte or two, and owns nothing.
+#[derive(Clone, Copy, Debug, PartialEq, Eq)]
+pub enum Sign {
+    Op(Op),
+    Open,
+    Close,
+    Comma,
+    Colon,
+}
+
+impl Sign {
+    ghost use Rattle.carte_formula.specs.Tokens.{sign_token};
+
+    pub fn token(self) -> Token
+        ensures { result ≡ sign_token self }
+    {
+        match self {
+            Sign::Op(op) => Token::Op(op),
+            Sign::Open => Token::Open,
+            Sign::Close => Token::Close,
+            Sign::Comma => Token::Comma,
+            Sign::Colon => Token::Colon,
+        }
+    }
+}
+
 /// What a byte begins where no token is pending.
-#[derive(Debug, Drop)]
+#[derive(Clone, Copy, Debug, PartialEq, Eq)]
 pub enum Start {
     Blank,
-    Sign(Token),
+    Sign(Sign),
     Run(Class),
     Wrong,
 }

@@ -1,10 +1,11 @@
 ghost use Rattle.std.specs.Prelude.{◌≡◌, ◌≤◌, ◌∷◌, [], List, OnOk};
 ghost use Rattle.carte_formula.specs.declared.tokens.Token.TheVariants as tokens;
 ghost use Rattle.carte_formula.specs.Reading.{Placed};
+ghost use Rattle.carte_formula.specs.Tokens.{sign_token};
 ghost use Rattle.carte_formula.specs.Whole.{wide_from};
 
 use crate::cell::Cell;
-use crate::tokens::{Placed, Token};
+use crate::tokens::{Placed, Sign, Token};
 use carte_value::NoMemory;
 use std::alloc::Global;
 use std::mem;
@@ -46,6 +47,7 @@ impl Ranges {
     }
 
     /// A token follows.
+    #[inline(always)]
     pub fn take(&mut self, alloc: Global, placed: &Placed) -> Result<(), NoMemory>
         ensures { OnOk result ((ps : List Placed) → wide_after self.old (placed.now ∷ ps) ≡ wide_after self.new ps) }
     {
@@ -59,6 +61,17 @@ impl Ranges {
                 self.begun = Begun::Nothing;
                 Ok(())
             }
+        }
+    }
+
+    /// A sign follows.
+    #[inline(always)]
+    pub fn take_sign(&mut self, place: usize, sign: Sign)
+        ensures { (ps : List Placed) → wide_after self.old (record { place = place; token = sign_token sign } ∷ ps) ≡ wide_after self.new ps }
+    {
+        match sign {
+            Sign::Colon => self.take_colon(place),
+            _ => self.begun = Begun::Nothing,
         }
     }
 

@@ -5,6 +5,7 @@ use crate::lexer::starts::grown;
 use crate::tokens::Class;
 
 /// Where the run that begins at a place ends, and as what. The runs that names and numbers are have a loop each.
+#[inline(always)]
 pub fn run_end(class: Class, bytes: &[u8], from: usize) -> (Class, usize)
     requires place { from < length bytes.now }
     requires known { RunOk class (slice_range bytes.now from (from + 1)) }

@@ -1,14 +1,15 @@
 ghost use Rattle.std.specs.Prelude.{◌≡◌, ◌==◌, if◌then◌else◌};
 ghost use Rattle.carte_value.specs.Names.{is_digit, is_lower, is_upper, is_letter, is_name_byte};
-ghost use Rattle.carte_formula.specs.Lexer.{is_blank, sign_of, start_of, low_class, high_class, grown_run, going_on, inside, closing};
+ghost use Rattle.carte_formula.specs.Lexer.{is_blank, sign_of, start_by, start_of, low_class, high_class, grown_run, going_on, inside, closing};
 
 use crate::Op;
-use crate::tokens::{Class, Start, Token};
+use crate::tokens::{Class, Sign, Start};
 use carte_value::Kind;
 
 /// What a byte between tokens begins.
+#[inline(always)]
 pub fn start_of(kind: Kind, byte: u8) -> Start
-    ensures { result ≡ start_of kind byte }
+    ensures { start_by result ≡ start_of kind byte }
 {
     if is_digit(byte) {
         return Start::Run(Class::Digits);
@@ -28,6 +29,7 @@ pub fn start_of(kind: Kind, byte: u8) -> Start
     sign_of(byte)
 }
 
+#[inline(always)]
 fn low_class(kind: Kind) -> Class
     ensures { result ≡ low_class kind }
 {
@@ -37,6 +39,7 @@ fn low_class(kind: Kind) -> Class
     }
 }
 
+#[inline(always)]
 fn high_class(kind: Kind) -> Class
     ensures { result ≡ high_class kind }
 {
@@ -46,22 +49,23 @@ fn high_class(kind: Kind) -> Class
     }
 }
 
+#[inline(always)]
 fn sign_of(byte: u8) -> Start
-    ensures { result ≡ sign_of byte }
+    ensures { start_by result ≡ sign_of byte }
 {
     match byte {
-        b'+' => Start::Sign(Token::Op(Op::Add)),
-        b'-' => Start::Sign(Token::Op(Op::Sub)),
-        b'*' => Start::Sign(Token::Op(Op::Mul)),
-        b'/' => Start::Sign(Token::Op(Op::Div)),
-        b'&' => Start::Sign(Token::Op(Op::Join)),
-        b'=' => Start::Sign(Token::Op(Op::Eq)),
+        b'+' => Start::Sign(Sign::Op(Op::Add)),
+        b'-' => Start::Sign(Sign::Op(Op::Sub)),
+        b'*' => Start::Sign(Sign::Op(Op::Mul)),
+        b'/' => Start::Sign(Sign::Op(Op::Div)),
+        b'&' => Start::Sign(Sign::Op(Op::Join)),
+        b'=' => Start::Sign(Sign::Op(Op::Eq)),
         b'<' => Start::Run(Class::Less),
         b'>' => Start::Run(Class::Greater),
-        b'(' => Start::Sign(Token::Open),
-        b')' => Start::Sign(Token::Close),
-        b',' => Start::Sign(Token::Comma),
-        b':' => Start::Sign(Token::Colon),
+        b'(' => Start::Sign(Sign::Open),
+        b')' => Start::Sign(Sign::Close),
+        b',' => Start::Sign(Sign::Comma),
+        b':' => Start::Sign(Sign::Colon),
         _ => Start::Wrong,
     }
 }

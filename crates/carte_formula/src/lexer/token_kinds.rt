@@ -12,6 +12,7 @@ use carte_value::{Name, NameFault, NoMemory, Text};
 use std::alloc::Global;
 
 /// The token that a whole run is.
+#[inline(always)]
 pub fn token_of(alloc: Global, class: Class, run: &str) -> Result<Option<Token>, NoMemory>
     requires some { 0 < length run.now }
     requires known { RunOk class run.now }
@@ -29,6 +30,7 @@ pub fn token_of(alloc: Global, class: Class, run: &str) -> Result<Option<Token>,
     }
 }
 
+#[inline(always)]
 fn number_token(run: &str) -> Option<Token>
     requires some { 0 < length run.now }
     requires digits { list_all is_digit run.now ≡ true }
@@ -40,6 +42,7 @@ fn number_token(run: &str) -> Option<Token>
     }
 }
 
+#[inline(always)]
 fn word_token(alloc: Global, run: &str) -> Result<Option<Token>, NoMemory>
     ensures { IfOk result (λ o. o ≡ token_of small run.now) }
 {
@@ -51,6 +54,7 @@ fn word_token(alloc: Global, run: &str) -> Result<Option<Token>, NoMemory>
 }
 
 /// A cell or a function, in either case.
+#[inline(always)]
 fn sheet_token(alloc: Global, run: &str) -> Result<Option<Token>, NoMemory>
     ensures { IfOk result (λ o. o ≡ token_of letters run.now) }
 {
@@ -68,6 +72,7 @@ fn function_token(alloc: Global, run: &str) -> Result<Option<Token>, NoMemory>
     Ok(func_token(upper.as_str()))
 }
 
+#[inline(always)]
 fn func_token(run: &str) -> Option<Token>
     ensures { result ≡ func_token (func_of run.now) }
 {

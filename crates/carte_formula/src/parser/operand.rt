@@ -1,6 +1,7 @@
 ghost use Rattle.std.specs.Prelude.{◌≡◌, ◌∷◌, true, OnOk};
 ghost use Rattle.carte_formula.specs.Machine.{after, cell_at, begin, sign_at, wants};
 ghost use Rattle.carte_formula.specs.Frames.{may_range};
+ghost use Rattle.carte_formula.specs.Tokens.{sign_token};
 ghost use Rattle.carte_tree.specs.Code.{tree_of};
 ghost use Rattle.carte_formula.specs.Parser.{frame_of, frames_of, reached, GoesTo};
 
@@ -8,7 +9,7 @@ use crate::cell::Cell;
 use crate::parser::building::signed;
 use crate::parser::frames::Frame;
 use crate::parser::states::{Parser, Range, State};
-use crate::tokens::Token;
+use crate::tokens::Sign;
 use crate::{Expr, Op};
 use carte_value::NoMemory;
 use std::alloc::Global;
@@ -44,7 +45,7 @@ fn after_signs(alloc: Global, operand: Expr, parser: &mut Parser) -> Result<(), 
 
 /// A cell is an operand, but for the first token of an argument that may be a range.
 #[tactic(auto, using(crate::proofs::Signs::no_corner))]
-fn cell_at(alloc: Global, cell: Cell, parser: &mut Parser) -> Result<(), NoMemory>
+pub fn cell_at(alloc: Global, cell: Cell, parser: &mut Parser) -> Result<(), NoMemory>
     ensures { OnOk result (reached parser.new ≡ cell_at cell (frames_of parser.old.stack.frames.items)) }
 {
     if parser.stack.takes_ranges() {
@@ -90,19 +91,14 @@ pub fn put(frame: Frame, parser: &mut Parser) -> Result<bool, NoMemory>
     Ok(true)
 }
 
-/// A token where an operand comes.
-pub fn begin(alloc: Global, token: Token, parser: &mut Parser) -> Result<bool, NoMemory>
-    ensures { GoesTo result parser.new (begin token (frames_of parser.old.stack.frames.items)) }
+/// A sign where an operand comes.
+#[inline(always)]
+pub fn begin(sign: Sign, parser: &mut Parser) -> Result<bool, NoMemory>
+    ensures { GoesTo result parser.new (begin (sign_token sign) (frames_of parser.old.stack.frames.items)) }
 {
-    match token {
-        Token::Number(number) => after(alloc, Expr::Number(number), parser)?,
-        Token::Text(text) => after(alloc, Expr::Text(text), parser)?,
-        Token::Word(name) => after(alloc, Expr::Ref(name), parser)?,
-        Token::Cell(cell) => cell_at(alloc, cell, parser)?,
-        Token::Func(func) => parser.state = State::Named(func),
-        Token::Op(op) => return sign_at(op, parser),
-        Token::Open => return put(Frame::Group, parser),
-        _ => return Ok(false),
+    match sign {
+        Sign::Op(op) => sign_at(op, parser),
+        Sign::Open => put(Frame::Group, parser),
+        Sign::Close | Sign::Comma | Sign::Colon => Ok(false),
     }
-    Ok(true)
 }

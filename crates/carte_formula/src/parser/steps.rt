@@ -1,14 +1,17 @@
-ghost use Rattle.std.specs.Prelude.{◌≡◌};
-ghost use Rattle.carte_formula.specs.Machine.{go_on, at_name, at_corner, at_half, at_range, next_state, end_of};
+ghost use Rattle.std.specs.Prelude.{◌≡◌, Some};
+ghost use Rattle.carte_formula.specs.Machine.{cell_at, go_on, at_name, at_corner, at_range, next_state, end_of};
 ghost use Rattle.carte_tree.specs.Code.{tree_of, args_trees};
-ghost use Rattle.carte_formula.specs.Parser.{frames_of, range_of, reached, GoesTo, OptionGoesTo, EndsTo};
+ghost use Rattle.carte_formula.specs.Tokens.{sign_token};
+ghost use Rattle.carte_formula.specs.declared.tokens.Token.TheVariants as tokens;
+ghost use Rattle.carte_formula.specs.declared.parser.states.State.TheVariants as states;
+ghost use Rattle.carte_formula.specs.Parser.{frames_of, range_of, reached, is_wanting, operand_at, GoesTo, OptionGoesTo, EndsTo};
 
 use crate::cell::Cell;
 use crate::parser::chains::{close, end, end_args, join, next_args, split};
 use crate::parser::frames::Frame;
-use crate::parser::operand::{begin, put};
+use crate::parser::operand::{after, begin, cell_at, put};
 use crate::parser::states::{Parser, Range, State};
-use crate::tokens::Token;
+use crate::tokens::{Sign, Token};
 use crate::{Arg, Expr, Func};
 use carte_value::{Area, NoMemory};
 use std::alloc::Global;
@@ -18,43 +21,144 @@ use std::mem;
 const FEW_ARGS: usize = 2;
 
 /// Takes a token, and tells whether a formula may go on with it.
+#[tactic(auto, using(crate::proofs::Wanting::number_next, crate::proofs::Wanting::text_next, crate::proofs::Wanting::word_next))]
 #[inline(always)]
 pub fn step(alloc: Global, token: Token, parser: &mut Parser) -> Result<bool, NoMemory>
     ensures { GoesTo result parser.new (next_state (reached parser.old) token) }
 {
-    match parser.state {
-        State::Wants => begin(alloc, token, parser),
-        State::Had => go_on(alloc, token, parser),
-        State::Named(func) => at_name(alloc, token, func, parser),
-        State::InRange => in_range(alloc, token, parser),
+    match token {
+        Token::Number(number) => take_operand(alloc, Expr::Number(number), parser),
+        Token::Text(text) => take_operand(alloc, Expr::Text(text), parser),
+        Token::Word(name) => take_operand(alloc, Expr::Ref(name), parser),
+        Token::Cell(cell) => take_cell(alloc, cell, parser),
+        Token::Func(func) => Ok(take_func(func, parser)),
+        Token::Op(op) => step_sign(alloc, Sign::Op(op), parser),
+        Token::Open => step_sign(alloc, Sign::Open, parser),
+        Token::Close => step_sign(alloc, Sign::Close, parser),
+        Token::Comma => step_sign(alloc, Sign::Comma, parser),
+        Token::Colon => step_sign(alloc, Sign::Colon, parser),
     }
 }
 
-/// A token behind a cell or a range in an argument.
-fn in_range(alloc: Global, token: Token, parser: &mut Parser) -> Result<bool, NoMemory>
-    ensures { GoesTo result parser.new (next_state (range_of parser.old.range parser.old.stack.frames.items) token) }
+/// Whether an operand comes.
+#[inline(always)]
+fn is_wanting(parser: &Parser) -> bool
+    ensures { result ≡ is_wanting parser.now.state parser.now.range }
+{
+    match parser.state {
+        State::Wants => true,
+        State::InRange => is_nothing(&parser.range),
+        _ => false,
+    }
+}
+
+fn is_nothing(range: &Range) -> bool
+    ensures { result ≡ is_wanting states.InRange range.now }
+{
+    match range {
+        Range::Nothing => true,
+        _ => false,
+    }
+}
+
+/// A number, a text or the name of a rule file.
+#[inline(always)]
+fn take_operand(alloc: Global, operand: Expr, parser: &mut Parser) -> Result<bool, NoMemory>
+    ensures { GoesTo result parser.new (operand_at parser.old (tree_of operand)) }
+{
+    if !is_wanting(parser) {
+        return Ok(false);
+    }
+    after(alloc, operand, parser)?;
+    Ok(true)
+}
+
+/// A function's name.
+#[tactic(auto, using(crate::proofs::Wanting::func_next))]
+#[inline(always)]
+fn take_func(func: Func, parser: &mut Parser) -> bool
+    ensures { OptionGoesTo result parser.new (next_state (reached parser.old) (tokens.Func func)) }
+{
+    if !is_wanting(parser) {
+        return false;
+    }
+    parser.state = State::Named(func);
+    true
+}
+
+/// A cell.
+fn take_cell(alloc: Global, cell: Cell, parser: &mut Parser) -> Result<bool, NoMemory>
+    ensures { GoesTo result parser.new (next_state (reached parser.old) (tokens.Cell cell)) }
+{
+    match parser.state {
+        State::Wants => cell_begins(alloc, cell, parser),
+        State::InRange => cell_in_range(alloc, cell, parser),
+        _ => Ok(false),
+    }
+}
+
+fn cell_begins(alloc: Global, cell: Cell, parser: &mut Parser) -> Result<bool, NoMemory>
+    ensures { GoesTo result parser.new (Some (cell_at cell (frames_of parser.old.stack.frames.items))) }
+{
+    cell_at(alloc, cell, parser)?;
+    Ok(true)
+}
+
+/// A cell behind a cell or a range in an argument.
+fn cell_in_range(alloc: Global, cell: Cell, parser: &mut Parser) -> Result<bool, NoMemory>
+    ensures { GoesTo result parser.new (next_state (range_of parser.old.range parser.old.stack.frames.items) (tokens.Cell cell)) }
 {
     match mem::replace(&mut parser.range, Range::Nothing) {
-        Range::Nothing => begin(alloc, token, parser),
-        Range::Corner(cell, func, done) => at_corner(alloc, token, cell, func, done, parser),
-        Range::Half(cell, func, done) => Ok(at_half(token, cell, func, done, parser)),
-        Range::Whole(area, func, done) => at_range(alloc, token, area, func, done, parser),
+        Range::Nothing => cell_begins(alloc, cell, parser),
+        Range::Corner(_, _, _) => Ok(false),
+        Range::Half(first, func, done) => {
+            parser.state = State::InRange;
+            parser.range = Range::Whole(first.to(&cell), func, done);
+            Ok(true)
+        }
+        Range::Whole(_, _, _) => Ok(false),
     }
 }
 
-/// A token behind an operand.
-fn go_on(alloc: Global, token: Token, parser: &mut Parser) -> Result<bool, NoMemory>
-    ensures { GoesTo result parser.new (go_on token (tree_of parser.old.operand) (frames_of parser.old.stack.frames.items)) }
+/// Takes a sign, and tells whether a formula may go on with it.
+#[inline(always)]
+pub fn step_sign(alloc: Global, sign: Sign, parser: &mut Parser) -> Result<bool, NoMemory>
+    ensures { GoesTo result parser.new (next_state (reached parser.old) (sign_token sign)) }
 {
-    match token {
-        Token::Op(op) => {
+    match parser.state {
+        State::Wants => begin(sign, parser),
+        State::Had => go_on(alloc, sign, parser),
+        State::Named(func) => at_name(alloc, sign, func, parser),
+        State::InRange => in_range(alloc, sign, parser),
+    }
+}
+
+/// A sign behind a cell or a range in an argument.
+fn in_range(alloc: Global, sign: Sign, parser: &mut Parser) -> Result<bool, NoMemory>
+    ensures { GoesTo result parser.new (next_state (range_of parser.old.range parser.old.stack.frames.items) (sign_token sign)) }
+{
+    match mem::replace(&mut parser.range, Range::Nothing) {
+        Range::Nothing => begin(sign, parser),
+        Range::Corner(cell, func, done) => at_corner(alloc, sign, cell, func, done, parser),
+        Range::Half(_, _, _) => Ok(false),
+        Range::Whole(area, func, done) => at_range(alloc, sign, area, func, done, parser),
+    }
+}
+
+/// A sign behind an operand.
+#[inline(always)]
+fn go_on(alloc: Global, sign: Sign, parser: &mut Parser) -> Result<bool, NoMemory>
+    ensures { GoesTo result parser.new (go_on (sign_token sign) (tree_of parser.old.operand) (frames_of parser.old.stack.frames.items)) }
+{
+    match sign {
+        Sign::Op(op) => {
             join(alloc, op, taken(&mut parser.operand), &mut parser.stack)?;
             parser.state = State::Wants;
             Ok(true)
         }
-        Token::Close => close(alloc, taken(&mut parser.operand), parser),
-        Token::Comma => split(alloc, taken(&mut parser.operand), parser),
-        _ => Ok(false),
+        Sign::Close => close(alloc, taken(&mut parser.operand), parser),
+        Sign::Comma => split(alloc, taken(&mut parser.operand), parser),
+        Sign::Open | Sign::Colon => Ok(false),
     }
 }
 
@@ -66,13 +170,13 @@ fn taken(operand: &mut Expr) -> Expr
     mem::replace(operand, Expr::Number(0))
 }
 
-/// A token behind a function's name.
+/// A sign behind a function's name.
 #[inline(always)]
-fn at_name(alloc: Global, token: Token, func: Func, parser: &mut Parser) -> Result<bool, NoMemory>
-    ensures { GoesTo result parser.new (at_name token func (frames_of parser.old.stack.frames.items)) }
+fn at_name(alloc: Global, sign: Sign, func: Func, parser: &mut Parser) -> Result<bool, NoMemory>
+    ensures { GoesTo result parser.new (at_name (sign_token sign) func (frames_of parser.old.stack.frames.items)) }
 {
-    match token {
-        Token::Open => {
+    match sign {
+        Sign::Open => {
             let args = Vec::with_capacity(alloc, FEW_ARGS)?;
             put(Frame::Call(func, args), parser)
         }
@@ -80,59 +184,45 @@ fn at_name(alloc: Global, token: Token, func: Func, parser: &mut Parser) -> Resu
     }
 }
 
-/// A token behind the cell that begins an argument.
+/// A sign behind the cell that begins an argument.
 fn at_corner(
     alloc: Global,
-    token: Token,
+    sign: Sign,
     cell: Cell,
     func: Func,
     done: Vec<Arg>,
     parser: &mut Parser,
 ) -> Result<bool, NoMemory>
-    ensures { GoesTo result parser.new (at_corner token cell func (args_trees done.items) (frames_of parser.old.stack.frames.items)) }
+    ensures { GoesTo result parser.new (at_corner (sign_token sign) cell func (args_trees done.items) (frames_of parser.old.stack.frames.items)) }
 {
-    match token {
-        Token::Colon => {
+    match sign {
+        Sign::Colon => {
             parser.state = State::InRange;
             parser.range = Range::Half(cell, func, done);
             Ok(true)
         }
-        token => {
+        sign => {
             parser.stack.push(Frame::Call(func, done))?;
             parser.operand = Expr::Ref(cell.into_name());
-            go_on(alloc, token, parser)
+            go_on(alloc, sign, parser)
         }
     }
 }
 
-/// A token behind a cell and a colon.
-fn at_half(token: Token, cell: Cell, func: Func, done: Vec<Arg>, parser: &mut Parser) -> bool
-    ensures { OptionGoesTo result parser.new (at_half token cell func (args_trees done.items) (frames_of parser.old.stack.frames.items)) }
-{
-    match token {
-        Token::Cell(other) => {
-            parser.state = State::InRange;
-            parser.range = Range::Whole(cell.to(&other), func, done);
-            true
-        }
-        _ => false,
-    }
-}
-
-/// A token behind a range.
+/// A sign behind a range.
 fn at_range(
     alloc: Global,
-    token: Token,
+    sign: Sign,
     area: Area,
     func: Func,
     done: Vec<Arg>,
     parser: &mut Parser,
 ) -> Result<bool, NoMemory>
-    ensures { GoesTo result parser.new (at_range token area func (args_trees done.items) (frames_of parser.old.stack.frames.items)) }
+    ensures { GoesTo result parser.new (at_range (sign_token sign) area func (args_trees done.items) (frames_of parser.old.stack.frames.items)) }
 {
-    match token {
-        Token::Comma => next_args(func, done, Arg::Cells(area), parser),
-        Token::Close => end_args(alloc, func, done, Arg::Cells(area), parser),
+    match sign {
+        Sign::Comma => next_args(func, done, Arg::Cells(area), parser),
+        Sign::Close => end_args(alloc, func, done, Arg::Cells(area), parser),
         _ => Ok(false),
     }
 }
