@@ -96,8 +96,29 @@ fn advance_sign(
     }
 }
 
+/// The names of a rule file have a way of their own, and so have those of its functions, since a book's formulas have little else.
 #[inline(always)]
 fn advance_run(
+    alloc: Global,
+    kind: Kind,
+    text: &str,
+    at: usize,
+    class: Class,
+    progress: &mut Progress,
+) -> Result<usize, FormulaFault>
+    requires place { at < length text.now }
+    requires start { start_of kind (slice_index text.now at) ≡ begins class }
+    ensures { Advances kind text.now at progress.old result progress.new }
+{
+    match class {
+        Class::Word => advance_token(alloc, kind, text, at, Class::Word, progress),
+        Class::Capitals => advance_token(alloc, kind, text, at, Class::Capitals, progress),
+        _ => advance_token(alloc, kind, text, at, class, progress),
+    }
+}
+
+#[inline(always)]
+fn advance_token(
     alloc: Global,
     kind: Kind,
     text: &str,

@@ -58,7 +58,7 @@ impl Ranges {
                 Ok(())
             }
             _ => {
-                self.begun = Begun::Nothing;
+                self.forget();
                 Ok(())
             }
         }
@@ -71,6 +71,17 @@ impl Ranges {
     {
         match sign {
             Sign::Colon => self.take_colon(place),
+            _ => self.forget(),
+        }
+    }
+
+    /// No range is begun any more. Mostly none was, and then nothing is written.
+    #[inline(always)]
+    fn forget(&mut self)
+        ensures { (ps : List Placed) → wide_behind self.old ps ≡ wide_after self.new ps }
+    {
+        match &self.begun {
+            Begun::Nothing => {}
             _ => self.begun = Begun::Nothing,
         }
     }

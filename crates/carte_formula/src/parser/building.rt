@@ -31,6 +31,7 @@ pub fn grow(mut steps: Vec<(Op, Expr)>, op: Op, operand: Expr) -> Result<Vec<(Op
 }
 
 /// A chain that ends with this operand.
+#[inline(always)]
 pub fn whole_chain(alloc: Global, begun: OpenChain, operand: Expr) -> Result<Expr, NoMemory>
     ensures { IfOk result (λ e. tree_of e ≡ chain begun.level (tree_of begun.first) (steps_of (grown (terms_of begun.steps.items) begun.last (tree_of operand)))) }
 {

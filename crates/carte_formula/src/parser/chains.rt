@@ -20,6 +20,7 @@ const FEW_STEPS: usize = 1;
 /// An operator follows an operand: the chains that bind tighter are whole.
 #[cycle(join)]
 #[tactic(auto, using(crate::proofs::Joints::begun_at))]
+#[inline(always)]
 pub fn join(alloc: Global, op: Op, operand: Expr, stack: &mut Stack) -> Result<(), NoMemory>
     ensures { OnOk result (frames_of stack.new.frames.items ≡ joined op (tree_of operand) (frames_of stack.old.frames.items)) }
 {
@@ -66,6 +67,7 @@ fn begin_chain(alloc: Global, op: Op, operand: Expr, stack: &mut Stack) -> Resul
 }
 
 /// A closing bracket behind an operand.
+#[inline(always)]
 pub fn close(alloc: Global, operand: Expr, parser: &mut Parser) -> Result<bool, NoMemory>
     ensures { GoesTo result parser.new (close (tree_of operand) (frames_of parser.old.stack.frames.items)) }
 {
@@ -107,6 +109,7 @@ fn close_behind(
 }
 
 /// A closing bracket behind the last argument of a call.
+#[inline(always)]
 pub fn end_args(
     alloc: Global,
     func: Func,
@@ -138,6 +141,7 @@ fn end_call(
 
 /// A comma behind an operand.
 #[tactic(auto, using(crate::proofs::Joints::split_next))]
+#[inline(always)]
 pub fn split(alloc: Global, operand: Expr, parser: &mut Parser) -> Result<bool, NoMemory>
     ensures { GoesTo result parser.new (split (tree_of operand) (frames_of parser.old.stack.frames.items)) }
 {

@@ -1,5 +1,5 @@
 use Rattle.carte_formula.proofs.Resuming.{token_advances, fault_advances}
-use Rattle.carte_formula.proofs.parser.advance_run.Goals as goal
+use Rattle.carte_formula.proofs.parser.advance_token.Goals as goal
 
 pub returns-in-Ok : goal.returns-in-Ok
 returns-in-Ok c =
