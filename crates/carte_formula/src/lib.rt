@@ -11,6 +11,9 @@
 //! machine some tokens lead to a formula, so the first token that it refuses is the fault's place. Only then is the rest looked
 //! through for a bad token, which comes before a fault of syntax (specs/Resumed.antt). No fitting text is read twice.
 //!
+//! A token goes to the machine from its first byte on (`parser.rt`): a sign is a value that owns nothing, and a number, a text or a
+//! name is an operand where it is made, since a token of any kind that is handed from call to call is copied by each.
+//!
 //! Turned down:
 //! - Recursive descent: its contracts would have to say for each call what may follow it, and to place a fault it would need to know
 //!   all that is begun, which the stack has.
