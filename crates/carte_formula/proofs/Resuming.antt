@@ -1,11 +1,11 @@
 -- What a text is read as does not change while its tokens are read.
-use Rattle.std.proofs.Common.{ℕ, false, List, ◌∷◌, length, drop, ◌≡◌, ◌<◌, ◌+◌, nat_lt, Option, Some, None, Result, Ok, Err, refl, sym, ◌∙◌, ap, subst, slice_index}
+use Rattle.std.proofs.Common.{ℕ, false, List, ◌∷◌, length, drop, ◌≡◌, ◌<◌, ◌+◌, nat_lt, Some, None, Result, Ok, Err, refl, sym, ◌∙◌, ap, subst, slice_index}
 use Rattle.carte_value.specs.declared.kind.Kind.{Kind}
 use Rattle.carte_tree.specs.Tree.{Tree}
 use Rattle.carte_formula.specs.Tokens.{Token, Sign, sign_token}
 use Rattle.carte_formula.specs.Machine.{State, next_state}
 use Rattle.carte_formula.specs.Ranges.{wide_after}
-use Rattle.carte_formula.specs.Takes.{MeetsTo, RunMeetsTo}
+use Rattle.carte_formula.specs.Takes.{MeetsTo}
 use Rattle.carte_formula.specs.Reading.{depth, FormulaFault, BadToken, BadSyntax, TooDeep, TooLong, TooWide, NoMemory, Placed}
 use Rattle.carte_formula.specs.Lexer.{start_of, blank, single, wrong, idle, before, lexed}
 use Rattle.carte_formula.specs.Parser.{reached, StepsTo, ReadsTo}

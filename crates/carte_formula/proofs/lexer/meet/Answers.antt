@@ -1,6 +1,6 @@
 use Rattle.std.proofs.Common.{sym, ◌∙◌, ap, slice_index}
 use Rattle.carte_formula.specs.Tokens.{sign_token}
-use Rattle.carte_formula.specs.Lexer.{start_by, start_of, single}
+use Rattle.carte_formula.specs.Lexer.{start_by, start_of}
 use Rattle.carte_formula.proofs.Taking.{blank_met, sign_met, wrong_taken}
 use Rattle.carte_formula.proofs.lexer.meet.Goals as goal
 
