@@ -1,6 +1,6 @@
 -- A loop of batches, through the contract of one.
-use Rattle.std.proofs.Common.{◌≡◌, ℕ, ◌+◌, ◌<◌, ◌≤◌, Bool, true, false, if◌then◌else◌, List, [], ◌∷◌, ◌++◌, length, take, drop, get_or, arith, refl, sym, ◌∙◌, ap, subst, append_assoc, append-nil}
-use Rattle.std.proofs.lemmas.List.{drop_more, take_more, take-append-drop}
+use Rattle.std.proofs.Common.{◌≡◌, ℕ, ◌+◌, ◌<◌, ◌≤◌, Bool, true, false, if◌then◌else◌, List, [], ◌∷◌, ◌++◌, length, map, map-id, take, drop, get_or, arith, refl, sym, ◌∙◌, ap, subst, append_assoc, append-nil}
+use Rattle.std.proofs.lemmas.List.{drop_more, take-append-drop}
 use Rattle.carte_codec.specs.Each.{EachFits}
 use Rattle.carte_io.specs.Disk.{CountsUp, Story, moments}
 use Rattle.carte_io.specs.Stations.{Step, StepsThrough, calls_in, last_of}
@@ -114,81 +114,77 @@ none_yet state s on = record {
   steps = steps_none (Keeps state.journal.limit) (kept_in state) s s (throughout_none s s _ refl (kept_leaves state s on));
 }
 
--- the batches up to a place and one more, and all of them cut there
-pub one_further : (Bs : List Batch) (i : ℕ) (B : Batch) → i < length Bs → B ≡ get_or Bs i B → take (i + 1) Bs ≡ take i Bs ++ B ∷ []
-one_further Bs i B within is = take_more Bs i B within ∙ ap (λ x. take i Bs ++ x ∷ []) (sym is)
-
-pub cut_at : (Bs : List Batch) (i : ℕ) (B : Batch) → i < length Bs → B ≡ get_or Bs i B → Bs ≡ take i Bs ++ B ∷ drop (i + 1) Bs
+-- all batches, cut at the one behind those that were done
+cut_at : (Bs : List Batch) (i : ℕ) (B : Batch) → i < length Bs → B ≡ get_or Bs i B → Bs ≡ take i Bs ++ B ∷ drop (i + 1) Bs
 cut_at Bs i B within is =
     sym (take-append-drop i Bs) ∙ ap (λ back. take i Bs ++ back) (drop_more Bs i B within ∙ ap (λ x. x ∷ drop (i + 1) Bs) (sym is))
 
-unmarked_at : (Bs Cs : List Batch) (B : Batch) → AreUnmarked (Bs ++ B ∷ Cs) → EachFits IsUnmarked B.entries
-unmarked_at [] Cs B unmarked = unmarked.0
-unmarked_at (C ∷ Bs) Cs B unmarked = unmarked_at Bs Cs B unmarked.1
+pub cut_behind : (Bs done : List Batch) (B : Batch) → map (λ x. x) done ≡ take (length done) Bs → (length done < length Bs) × (B ≡ get_or Bs (length done) B)
+    → Bs ≡ done ++ B ∷ drop (length done + 1) Bs
+cut_behind Bs done B so turn =
+    cut_at Bs (length done) B turn.0 turn.1 ∙ ap (λ front. front ++ B ∷ drop (length done + 1) Bs) (sym so ∙ map-id done)
 
-pub unmarked_in : (Bs : List Batch) (i : ℕ) (B : Batch) → i < length Bs → B ≡ get_or Bs i B → AreUnmarked Bs → EachFits IsUnmarked B.entries
-unmarked_in Bs i B within is unmarked = unmarked_at (take i Bs) (drop (i + 1) Bs) B (subst AreUnmarked (cut_at Bs i B within is) unmarked)
+unmarked_at : (done rest : List Batch) (B : Batch) → AreUnmarked (done ++ B ∷ rest) → EachFits IsUnmarked B.entries
+unmarked_at [] rest B unmarked = unmarked.0
+unmarked_at (C ∷ done) rest B unmarked = unmarked_at done rest B unmarked.1
 
-module _ (limit : ℕ) (j : Standing) (K : SomeKept) (Bs : List Batch) (i : ℕ) (B : Batch) (within : i < length Bs) (is : B ≡ get_or Bs i B)
-    (now : Stand) (place : now.journal ≡ journal_behind j (take i Bs)) (kept : kept_in now ≡ applied K (take i Bs)) where
+pub unmarked_in : (Bs done rest : List Batch) (B : Batch) → Bs ≡ done ++ B ∷ rest → AreUnmarked Bs → EachFits IsUnmarked B.entries
+unmarked_in Bs done rest B all unmarked = unmarked_at done rest B (subst AreUnmarked all unmarked)
+
+module _ (limit : ℕ) (j : Standing) (K : SomeKept) (done : List Batch) (B : Batch)
+    (now : Stand) (place : now.journal ≡ journal_behind j done) (kept : kept_in now ≡ applied K done) where
   -- the place, what is kept and the calls after one batch more
-  pub place_further : (after : Standing) → after ≡ journal_after now.journal B → after ≡ journal_behind j (take (i + 1) Bs)
-  place_further after so =
-      so ∙ ap (λ k. journal_after k B) place
-      ∙ sym (ap (journal_behind j) (one_further Bs i B within is) ∙ journal_behind-append j (take i Bs) (B ∷ []))
+  pub place_further : (after : Standing) → after ≡ journal_after now.journal B → after ≡ journal_behind j (done ++ B ∷ [])
+  place_further after so = so ∙ ap (λ k. journal_after k B) place ∙ sym (journal_behind-append j done (B ∷ []))
 
-  pub kept_further : (L : SomeKept) → L ≡ apply B (kept_in now) → L ≡ applied K (take (i + 1) Bs)
-  kept_further L so =
-      so ∙ ap (apply B) kept ∙ sym (ap (applied K) (one_further Bs i B within is) ∙ applied-append K (take i Bs) (B ∷ []))
+  pub kept_further : (L : SomeKept) → L ≡ apply B (kept_in now) → L ≡ applied K (done ++ B ∷ [])
+  kept_further L so = so ∙ ap (apply B) kept ∙ sym (applied-append K done (B ∷ []))
 
-  pub made_further : (before mid after : ℕ) → mid ≡ before + calls_of_all j (take i Bs) → after ≡ mid + calls_for now.journal B
-      → after ≡ before + calls_of_all j (take (i + 1) Bs)
-  made_further before mid after made more =
-      omega (arith, made, more, ap (λ k. calls_for k B) place, ap (calls_of_all j) (one_further Bs i B within is), calls_of_all-push j (take i Bs) B)
+  pub made_further : (before mid after : ℕ) → mid ≡ before + calls_of_all j done → after ≡ mid + calls_for now.journal B
+      → after ≡ before + calls_of_all j (done ++ B ∷ [])
+  made_further before mid after made more = omega (arith, made, more, ap (λ k. calls_for k B) place, calls_of_all-push j done B)
 
   -- where it ended early
-  pub ends_in : (before mid after : ℕ) → mid ≡ before + calls_of_all j (take i Bs) → mid ≤ after → after < mid + calls_for now.journal B
-      → EndsIn j Bs before after
-  ends_in before mid after made le fewer = record {
-    done = take i Bs;
+  pub ends_in : (Bs rest : List Batch) → Bs ≡ done ++ B ∷ rest → (before mid after : ℕ) → mid ≡ before + calls_of_all j done → mid ≤ after
+      → after < mid + calls_for now.journal B → EndsIn j Bs before after
+  ends_in Bs rest all before mid after made le fewer = record {
+    done = done;
     next = B;
-    rest = drop (i + 1) Bs;
-    all = cut_at Bs i B within is;
+    rest = rest;
+    all = all;
     made = omega (arith, made, le);
     fewer = omega (arith, made, fewer, ap (λ k. calls_for k B) place);
   }
 
-  module _ (s t u : Story) (so : SoFar limit j K (take i Bs) now s t) (up : CountsUp (moments u))
+  module _ (s t u : Story) (so : SoFar limit j K done now s t) (up : CountsUp (moments u))
       (more : StepsThrough (Keeps limit) (kept_in now) (step_for now.journal (kept_in now) B) t u) where
     -- one batch more, whether it was applied or not
-    step_further : StepsThrough (Keeps limit) K (steps_of j K (take i Bs ++ B ∷ [])) s u
+    step_further : StepsThrough (Keeps limit) K (steps_of j K (done ++ B ∷ [])) s u
     step_further =
-        let k : Standing = journal_behind j (take i Bs) in
-        let L : SomeKept = applied K (take i Bs) in
+        let k : Standing = journal_behind j done in
+        let L : SomeKept = applied K done in
         let at_k : StepsThrough (Keeps limit) (kept_in now) (step_for k (kept_in now) B) t u =
         subst (λ n. StepsThrough (Keeps limit) (kept_in now) (step_for n (kept_in now) B) t u) place more in
         let at_L : StepsThrough (Keeps limit) L (step_for k L B) t u = subst (λ M. StepsThrough (Keeps limit) M (step_for k M B) t u) kept at_k in
-        subst (λ qs. StepsThrough (Keeps limit) K qs s u) (sym (steps_of-push j K (take i Bs) B))
-        (steps_then (Keeps limit) K (steps_of j K (take i Bs)) (step_for k L B) s t u so.steps
-        (omega (arith, so.made, calls_in-steps_of j K (take i Bs))) up (made_step_for k L B)
-        (subst (λ M. StepsThrough (Keeps limit) M (step_for k L B) t u) (sym (last_of-steps_of j K (take i Bs))) at_L))
+        subst (λ qs. StepsThrough (Keeps limit) K qs s u) (sym (steps_of-push j K done B))
+        (steps_then (Keeps limit) K (steps_of j K done) (step_for k L B) s t u so.steps
+        (omega (arith, so.made, calls_in-steps_of j K done)) up (made_step_for k L B)
+        (subst (λ M. StepsThrough (Keeps limit) M (step_for k L B) t u) (sym (last_of-steps_of j K done)) at_L))
 
-    pub one_more : (new : Stand) → IsKeptOn new u → u.now.passed ≡ t.now.passed + calls_for now.journal B → SoFar limit j K (take (i + 1) Bs) new s u
-    one_more new on made =
-        subst (λ done. SoFar limit j K done new s u) (sym (one_further Bs i B within is)) (record {
-          on = on;
-          made = omega (arith, made, so.made, calls_of_all-push j (take i Bs) B, ap (λ k. calls_for k B) place);
-          steps = step_further;
-        })
+    pub one_more : (new : Stand) → IsKeptOn new u → u.now.passed ≡ t.now.passed + calls_for now.journal B → SoFar limit j K (done ++ B ∷ []) new s u
+    one_more new on made = record {
+      on = on;
+      made = omega (arith, made, so.made, calls_of_all-push j done B, ap (λ k. calls_for k B) place);
+      steps = step_further;
+    }
 
     -- before the others
-    pub steps_to : u.now.passed < t.now.passed + calls_for now.journal B → StepsThrough (Keeps limit) K (steps_of j K Bs) s u
-    steps_to fewer =
-        let done : List Batch = take i Bs ++ B ∷ [] in
-        let rest : List Batch = drop (i + 1) Bs in
-        subst (λ Cs. StepsThrough (Keeps limit) K (steps_of j K Cs) s u)
-        (append_assoc (take i Bs) (B ∷ []) rest ∙ sym (cut_at Bs i B within is))
-        (subst (λ qs. StepsThrough (Keeps limit) K qs s u) (sym (steps_of-append j K done rest))
-        (steps_further (Keeps limit) K (steps_of j K done) (steps_of (journal_behind j done) (applied K done) rest) s u step_further up
-        (made_steps_of (journal_behind j done) (applied K done) rest)
-        (omega (arith, fewer, so.made, calls_in-steps_of j K done, calls_of_all-push j (take i Bs) B, ap (λ k. calls_for k B) place))))
+    pub steps_to : (Bs rest : List Batch) → Bs ≡ done ++ B ∷ rest → u.now.passed < t.now.passed + calls_for now.journal B
+        → StepsThrough (Keeps limit) K (steps_of j K Bs) s u
+    steps_to Bs rest all fewer =
+        let more : List Batch = done ++ B ∷ [] in
+        subst (λ Cs. StepsThrough (Keeps limit) K (steps_of j K Cs) s u) (append_assoc done (B ∷ []) rest ∙ sym all)
+        (subst (λ qs. StepsThrough (Keeps limit) K qs s u) (sym (steps_of-append j K more rest))
+        (steps_further (Keeps limit) K (steps_of j K more) (steps_of (journal_behind j more) (applied K more) rest) s u step_further up
+        (made_steps_of (journal_behind j more) (applied K more) rest)
+        (omega (arith, fewer, so.made, calls_in-steps_of j K more, calls_of_all-push j done B, ap (λ k. calls_for k B) place))))

@@ -12,29 +12,29 @@ use carte_io::Disk;
 use carte_record::Batch;
 use std::alloc::Global;
 
-/// Applies batches one after another, up to the first that is refused. Once one is acknowledged every later image keeps
-/// it, also those of the batches behind it.
+/// Applies batches one after another, up to the first that is refused: that one and those behind it are dropped. Once one
+/// is acknowledged every later image keeps it, also those of the batches behind it.
 pub fn apply_all<D: Disk>(
     state: &mut State,
     alloc: Global,
     disk: &mut D,
-    batches: &[Batch],
+    batches: Vec<Batch>,
 ) -> Result<(), ApplyFault>
     requires whole { state.old.journal.broken ≡ false }
-    requires unmarked { AreUnmarked batches.now }
+    requires unmarked { AreUnmarked batches.items }
 
-    ensures kept { OnOk result (kept_in state.new ≡ applied (kept_in state.old) batches.now) }
-    ensures place { OnOk result (state.new.journal ≡ journal_behind state.old.journal batches.now) }
+    ensures kept { OnOk result (kept_in state.new ≡ applied (kept_in state.old) batches.items) }
+    ensures place { OnOk result (state.new.journal ≡ journal_behind state.old.journal batches.items) }
     ensures broken { IsTrue state.new.journal.broken ↔ (result ≡ Err ApplyFault.DiskFault) }
     ensures cause { HasCauseOf ApplyFault.DiskFault (D.faults disk.old) (D.faults disk.new) result }
 
-    ensures calls { D.tells → OnOk result ((D.story disk.new).now.passed ≡ (D.story disk.old).now.passed + calls_of_all state.old.journal batches.now) }
-    ensures ends { D.tells → OnErr result (EndsIn state.old.journal batches.now (D.story disk.old).now.passed (D.story disk.new).now.passed) }
+    ensures calls { D.tells → OnOk result ((D.story disk.new).now.passed ≡ (D.story disk.old).now.passed + calls_of_all state.old.journal batches.items) }
+    ensures ends { D.tells → OnErr result (EndsIn state.old.journal batches.items (D.story disk.old).now.passed (D.story disk.new).now.passed) }
     ensures rest { D.tells → IsKeptOn state.old (D.story disk.old) → OnOk result (IsKeptOn state.new (D.story disk.new)) }
 
     // Whether it ends early or not: at each moment an image keeps all the batches of which the calls had passed.
     ensures steps { D.tells → IsKeptOn state.old (D.story disk.old)
-        → StepsThrough (Keeps state.old.journal.limit) (kept_in state.old) (steps_of state.old.journal (kept_in state.old) batches.now)
+        → StepsThrough (Keeps state.old.journal.limit) (kept_in state.old) (steps_of state.old.journal (kept_in state.old) batches.items)
         (D.story disk.old) (D.story disk.new) }
 {
     for batch in batches {

@@ -4,6 +4,8 @@ ghost use Rattle.carte_io.specs.Causes.{HasCauseOf};
 ghost use Rattle.carte_io.specs.Stations.{StepsThrough};
 ghost use Rattle.carte_record.specs.Bodies.{IsBody, IsUnmarked, spelled_batch};
 ghost use Rattle.carte_record.specs.Empty.{is_empty};
+ghost use Rattle.carte_record.specs.Folds.{apply};
+ghost use Rattle.carte_record.specs.Kept.{kept_view};
 ghost use Rattle.carte_state.specs.Folding.{Keeps};
 ghost use Rattle.carte_state.specs.States.{HasRoom, IsAfter, IsKeptOn, calls_for, kept_in, needs_for, step_for};
 
@@ -12,9 +14,10 @@ use crate::fault::fault_of;
 use carte_io::Disk;
 use carte_journal::{Frame, Journal};
 use carte_record::{Batch, Kept};
-use carte_value::{Digest, Value};
+use carte_value::{Digest, NoMemory, Value};
 use std::alloc::Global;
 use std::marker::Model;
+use std::mem::replace;
 
 /// What a file keeps. It doesn't hold the disk: each call that takes one is meant for the disk that the state was loaded
 /// from, as its own calls left it.
@@ -63,44 +66,81 @@ impl State {
 
     /// Puts a batch into what is kept, on the disk and here. After Ok every later image of the file keeps it; at each
     /// moment before, an image keeps what was kept before it or after it. An empty batch makes no call of the disk, and
-    /// another 4 writing calls, or 6 as the first on a new file.
+    /// another 4 writing calls, or 6 as the first on a new file. The batch goes into what is kept as it is, and where it is
+    /// refused it is dropped.
     pub fn apply<D: Disk>(
         &mut self,
         alloc: Global,
         disk: &mut D,
-        batch: &Batch,
+        mut batch: Batch,
     ) -> Result<(), ApplyFault>
         requires whole { self.old.journal.broken ≡ false }
-        requires unmarked { EachFits IsUnmarked batch.now.entries }
+        requires unmarked { EachFits IsUnmarked batch.entries }
 
-        ensures empty { is_empty batch.now ≡ true → (result ≡ Ok tt) × (self.new ≡ self.old) × (disk.new ≡ disk.old) }
+        ensures empty { is_empty batch ≡ true → (result ≡ Ok tt) × (self.new ≡ self.old) × (disk.new ≡ disk.old) }
 
         // Where there is no room, or no memory, nothing has changed and no call of the disk was made.
         ensures full { (needed limit : ℕ) → result ≡ Err (ApplyFault.Full needed limit)
-            → (needed ≡ needs_for self.old batch.now) × (limit ≡ self.old.journal.limit) × (limit < needed) × (self.new ≡ self.old) × (disk.new ≡ disk.old) }
-        ensures over { is_empty batch.now ≡ false → self.old.journal.limit < needs_for self.old batch.now
-            → (result ≡ Err (ApplyFault.Full (needs_for self.old batch.now) self.old.journal.limit)) ⊎ (result ≡ Err ApplyFault.NoMemory) }
-        ensures room { OnOk result (HasRoom self.old batch.now) }
+            → (needed ≡ needs_for self.old batch) × (limit ≡ self.old.journal.limit) × (limit < needed) × (self.new ≡ self.old) × (disk.new ≡ disk.old) }
+        ensures over { is_empty batch ≡ false → self.old.journal.limit < needs_for self.old batch
+            → (result ≡ Err (ApplyFault.Full (needs_for self.old batch) self.old.journal.limit)) ⊎ (result ≡ Err ApplyFault.NoMemory) }
+        ensures room { OnOk result (HasRoom self.old batch) }
         ensures no_memory { result ≡ Err ApplyFault.NoMemory → (self.new ≡ self.old) × (disk.new ≡ disk.old) }
         ensures broken { IsTrue self.new.journal.broken ↔ (result ≡ Err ApplyFault.DiskFault) }
         ensures cause { HasCauseOf ApplyFault.DiskFault (D.faults disk.old) (D.faults disk.new) result }
 
-        ensures place { OnOk result (IsAfter batch.now self.old self.new) }
+        ensures place { OnOk result (IsAfter batch self.old self.new) }
         ensures limit { self.new.journal.limit ≡ self.old.journal.limit }
-        ensures calls { D.tells → OnOk result ((D.story disk.new).now.passed ≡ (D.story disk.old).now.passed + calls_for self.old.journal batch.now) }
+        ensures calls { D.tells → OnOk result ((D.story disk.new).now.passed ≡ (D.story disk.old).now.passed + calls_for self.old.journal batch) }
         ensures fewer { D.tells → OnErr result (((D.story disk.old).now.passed ≤ (D.story disk.new).now.passed)
-            × ((D.story disk.new).now.passed < (D.story disk.old).now.passed + calls_for self.old.journal batch.now)) }
+            × ((D.story disk.new).now.passed < (D.story disk.old).now.passed + calls_for self.old.journal batch)) }
 
         ensures rest { D.tells → IsKeptOn self.old (D.story disk.old) → OnOk result (IsKeptOn self.new (D.story disk.new)) }
         ensures any_moment { D.tells → IsKeptOn self.old (D.story disk.old)
-            → StepsThrough (Keeps self.old.journal.limit) (kept_in self.old) (step_for self.old.journal (kept_in self.old) batch.now)
+            → StepsThrough (Keeps self.old.journal.limit) (kept_in self.old) (step_for self.old.journal (kept_in self.old) batch)
+            (D.story disk.old) (D.story disk.new) }
+    {
+        self.put(alloc, disk, &mut batch)
+    }
+
+    // The same of a batch in its place, out of which it is taken: so there is one place where it is dropped.
+    fn put<D: Disk>(
+        &mut self,
+        alloc: Global,
+        disk: &mut D,
+        batch: &mut Batch,
+    ) -> Result<(), ApplyFault>
+        requires whole { self.old.journal.broken ≡ false }
+        requires unmarked { EachFits IsUnmarked batch.old.entries }
+
+        ensures empty { is_empty batch.old ≡ true → (result ≡ Ok tt) × (self.new ≡ self.old) × (disk.new ≡ disk.old) }
+
+        // Where there is no room, or no memory, nothing has changed and no call of the disk was made.
+        ensures full { (needed limit : ℕ) → result ≡ Err (ApplyFault.Full needed limit)
+            → (needed ≡ needs_for self.old batch.old) × (limit ≡ self.old.journal.limit) × (limit < needed) × (self.new ≡ self.old) × (disk.new ≡ disk.old) }
+        ensures over { is_empty batch.old ≡ false → self.old.journal.limit < needs_for self.old batch.old
+            → (result ≡ Err (ApplyFault.Full (needs_for self.old batch.old) self.old.journal.limit)) ⊎ (result ≡ Err ApplyFault.NoMemory) }
+        ensures room { OnOk result (HasRoom self.old batch.old) }
+        ensures no_memory { result ≡ Err ApplyFault.NoMemory → (self.new ≡ self.old) × (disk.new ≡ disk.old) }
+        ensures broken { IsTrue self.new.journal.broken ↔ (result ≡ Err ApplyFault.DiskFault) }
+        ensures cause { HasCauseOf ApplyFault.DiskFault (D.faults disk.old) (D.faults disk.new) result }
+
+        ensures place { OnOk result (IsAfter batch.old self.old self.new) }
+        ensures limit { self.new.journal.limit ≡ self.old.journal.limit }
+        ensures calls { D.tells → OnOk result ((D.story disk.new).now.passed ≡ (D.story disk.old).now.passed + calls_for self.old.journal batch.old) }
+        ensures fewer { D.tells → OnErr result (((D.story disk.old).now.passed ≤ (D.story disk.new).now.passed)
+            × ((D.story disk.new).now.passed < (D.story disk.old).now.passed + calls_for self.old.journal batch.old)) }
+
+        ensures rest { D.tells → IsKeptOn self.old (D.story disk.old) → OnOk result (IsKeptOn self.new (D.story disk.new)) }
+        ensures any_moment { D.tells → IsKeptOn self.old (D.story disk.old)
+            → StepsThrough (Keeps self.old.journal.limit) (kept_in self.old) (step_for self.old.journal (kept_in self.old) batch.old)
             (D.story disk.old) (D.story disk.new) }
     {
         if batch.is_empty() {
             return Ok(());
         }
         let frame = self.frame_of(alloc, batch)?;
-        self.kept.apply(batch)?;
+        take_in(&mut self.kept, alloc, batch)?;
         match self.journal.commit(disk, &frame) {
             Ok(()) => Ok(()),
             Err(fault) => Err(fault_of(fault)),
@@ -128,4 +168,12 @@ impl State {
         let frame = Frame::of(alloc, &bytes)?;
         Ok(frame)
     }
+}
+
+// Takes a batch out of its place, and into what is kept.
+fn take_in(kept: &mut Kept, alloc: Global, batch: &mut Batch) -> Result<(), NoMemory>
+    ensures ok { OnOk result (kept_view kept.new ≡ apply batch.old (kept_view kept.old)) }
+    ensures no_memory { OnErr result (kept.new ≡ kept.old) }
+{
+    kept.absorb(replace(batch, Batch::new(alloc)))
 }

@@ -1,10 +1,12 @@
-use Rattle.std.proofs.Common.{◌∙◌, ap, arith, refl, subst}
+use Rattle.std.proofs.Common.{◌∙◌, ◌+◌, ap, arith, drop, length, refl, subst}
+use Rattle.std.proofs.lemmas.Iterator.Adapters.{YieldsList-from_vec}
+use Rattle.std.proofs.lemmas.Iterator.Consumers.{YieldsList-so_far, YieldsList-turn}
 use Rattle.std.proofs.lemmas.Result.{err_from_is_err_and}
 use Rattle.carte_io.specs.Stations.{StepsThrough}
 use Rattle.carte_journal.specs.Journals.{Standing}
 use Rattle.carte_state.specs.Folding.{Keeps}
 use Rattle.carte_state.specs.States.{kept_in, step_for}
-use Rattle.carte_state.proofs.Runs.{ends_in, kept_further, made_further, none_yet, one_more, place_further, steps_to, unmarked_in, whole_after}
+use Rattle.carte_state.proofs.Runs.{cut_behind, ends_in, kept_further, made_further, none_yet, one_more, place_further, steps_to, unmarked_in, whole_after}
 use Rattle.carte_state.proofs.many.apply_all.Goals as goal
 
 pub loop-batch-init : goal.loop-batch-init
@@ -20,48 +22,65 @@ loop-batch-init g c = record {
 
 pub apply-requires-clause-unmarked : goal.apply-requires-clause-unmarked
 apply-requires-clause-unmarked g c =
-    unmarked_in c.args.batches.now c.loop-batch.batch-index c.batch-item.result c.loop-batch-test.true c.batch-item.is c.requires.unmarked
+    let gives = c.into_iter-batch-iterator.ensures.into_iter_gives in
+    let Bs = c.args.batches.items in
+    let done = c.loop-batch.yielded in
+    let road = YieldsList-from_vec {s = c.into_iter-batch-iterator.result} Bs gives.0 (gives.1 ∙ c.args.batches.ok.0) in
+    let turn = YieldsList-turn road done c.loop-batch.batch-iterator c.loop-batch.yielded_by c.next.result c.next.new.self c.in-Some.batch c.in-Some.is c.next.ensures.steps in
+    unmarked_in Bs done (drop (length done + 1) Bs) c.in-Some.batch
+    (cut_behind Bs done c.in-Some.batch (YieldsList-so_far road done c.loop-batch.batch-iterator c.loop-batch.yielded_by) turn) c.requires.unmarked
 
 pub returns-in_err-apply-clause-ends : goal.returns-in_err-apply-clause-ends
 returns-in_err-apply-clause-ends g c told =
+    let gives = c.into_iter-batch-iterator.ensures.into_iter_gives in
+    let Bs = c.args.batches.items in
+    let done = c.loop-batch.yielded in
+    let road = YieldsList-from_vec {s = c.into_iter-batch-iterator.result} Bs gives.0 (gives.1 ∙ c.args.batches.ok.0) in
+    let turn = YieldsList-turn road done c.loop-batch.batch-iterator c.loop-batch.yielded_by c.next.result c.next.new.self c.in-Some.batch c.in-Some.is c.next.ensures.steps in
+    let all = cut_behind Bs done c.in-Some.batch (YieldsList-so_far road done c.loop-batch.batch-iterator c.loop-batch.yielded_by) turn in
     let p = err_from_is_err_and c.from_residual.result c.from_residual.ensures.1 in
     let some = c.in_err-apply.ensures.fewer told in
-    rw p.1 (ends_in c.args.state.now.journal.limit c.args.state.now.journal (kept_in c.args.state.now) c.args.batches.now c.loop-batch.batch-index c.batch-item.result
-    c.loop-batch-test.true c.batch-item.is c.loop-batch.state c.loop-batch.invariant.place c.loop-batch.invariant.kept
-    _ _ _ (c.loop-batch.invariant.made told) some.0 some.1)
+    rw p.1 (ends_in c.args.state.now.journal.limit c.args.state.now.journal (kept_in c.args.state.now) done c.in-Some.batch
+    c.loop-batch.state c.loop-batch.invariant.place c.loop-batch.invariant.kept
+    Bs (drop (length done + 1) Bs) all _ _ _ (c.loop-batch.invariant.made told) some.0 some.1)
 
 pub returns-in_err-apply-clause-steps : goal.returns-in_err-apply-clause-steps
 returns-in_err-apply-clause-steps g c told on =
+    let gives = c.into_iter-batch-iterator.ensures.into_iter_gives in
+    let Bs = c.args.batches.items in
+    let done = c.loop-batch.yielded in
+    let road = YieldsList-from_vec {s = c.into_iter-batch-iterator.result} Bs gives.0 (gives.1 ∙ c.args.batches.ok.0) in
+    let turn = YieldsList-turn road done c.loop-batch.batch-iterator c.loop-batch.yielded_by c.next.result c.next.new.self c.in-Some.batch c.in-Some.is c.next.ensures.steps in
+    let all = cut_behind Bs done c.in-Some.batch (YieldsList-so_far road done c.loop-batch.batch-iterator c.loop-batch.yielded_by) turn in
     let so = c.loop-batch.invariant.so_far told on in
-    steps_to c.args.state.now.journal.limit c.args.state.now.journal (kept_in c.args.state.now) c.args.batches.now c.loop-batch.batch-index c.batch-item.result
-    c.loop-batch-test.true c.batch-item.is c.loop-batch.state c.loop-batch.invariant.place c.loop-batch.invariant.kept
+    steps_to c.args.state.now.journal.limit c.args.state.now.journal (kept_in c.args.state.now) done c.in-Some.batch
+    c.loop-batch.state c.loop-batch.invariant.place c.loop-batch.invariant.kept
     (g.D.Disk.story c.args.disk.now) (g.D.Disk.story c.loop-batch.disk) (g.D.Disk.story c.apply.new.disk) so (g.met.D.Disk.in_order c.apply.new.disk told)
-    (subst (λ l. StepsThrough (Keeps l) (kept_in c.loop-batch.state) (step_for c.loop-batch.state.journal (kept_in c.loop-batch.state) c.batch-item.result)
+    (subst (λ l. StepsThrough (Keeps l) (kept_in c.loop-batch.state) (step_for c.loop-batch.state.journal (kept_in c.loop-batch.state) c.in-Some.batch)
     (g.D.Disk.story c.loop-batch.disk) (g.D.Disk.story c.apply.new.disk)) c.loop-batch.invariant.limit (c.apply.ensures.any_moment told so.on))
-    (c.in_err-apply.ensures.fewer told).1
+    Bs (drop (length done + 1) Bs) all (c.in_err-apply.ensures.fewer told).1
 
 pub loop-batch-preserved : goal.loop-batch-preserved
 loop-batch-preserved g c =
     let l = c.args.state.now.journal.limit in
     let j = c.args.state.now.journal in
     let K = kept_in c.args.state.now in
-    let Bs = c.args.batches.now in
-    let i = c.loop-batch.batch-index in
-    let B = c.batch-item.result in
+    let done = c.loop-batch.yielded in
+    let B = c.in-Some.batch in
     let now = c.loop-batch.state in
     record {
       whole = ap (λ (k : Standing). k.broken) c.in_ok-apply.ensures.place.journal ∙ whole_after now.journal B c.loop-batch.invariant.whole;
-      place = place_further l j K Bs i B c.loop-batch-test.true c.batch-item.is now c.loop-batch.invariant.place c.loop-batch.invariant.kept
+      place = place_further l j K done B now c.loop-batch.invariant.place c.loop-batch.invariant.kept
           c.apply.new.self.journal c.in_ok-apply.ensures.place.journal;
-      kept = kept_further l j K Bs i B c.loop-batch-test.true c.batch-item.is now c.loop-batch.invariant.place c.loop-batch.invariant.kept
+      kept = kept_further l j K done B now c.loop-batch.invariant.place c.loop-batch.invariant.kept
           (kept_in c.apply.new.self) c.in_ok-apply.ensures.place.kept;
       limit = c.apply.ensures.limit ∙ c.loop-batch.invariant.limit;
       same = c.in_ok-apply.ensures.cause.passed (λ never. absurd (cc)) ∙ c.loop-batch.invariant.same;
-      made = λ told. made_further l j K Bs i B c.loop-batch-test.true c.batch-item.is now c.loop-batch.invariant.place c.loop-batch.invariant.kept
+      made = λ told. made_further l j K done B now c.loop-batch.invariant.place c.loop-batch.invariant.kept
           _ _ _ (c.loop-batch.invariant.made told) (c.in_ok-apply.ensures.calls told);
       so_far = λ told on.
           let so = c.loop-batch.invariant.so_far told on in
-          one_more l j K Bs i B c.loop-batch-test.true c.batch-item.is now c.loop-batch.invariant.place c.loop-batch.invariant.kept
+          one_more l j K done B now c.loop-batch.invariant.place c.loop-batch.invariant.kept
           (g.D.Disk.story c.args.disk.now) (g.D.Disk.story c.loop-batch.disk) (g.D.Disk.story c.apply.new.disk) so (g.met.D.Disk.in_order c.apply.new.disk told)
           (subst (λ l. StepsThrough (Keeps l) (kept_in now) (step_for now.journal (kept_in now) B) (g.D.Disk.story c.loop-batch.disk) (g.D.Disk.story c.apply.new.disk))
           c.loop-batch.invariant.limit (c.apply.ensures.any_moment told so.on))
