@@ -49,7 +49,7 @@ impl Engine {
             (LeavesOnly (D.story disk.old) (D.story disk.new) (KeepsStation scheduler (R.how rebuilder.now) (book_view book.now) targets.now self.old)) }
     {
         let Plan { batch, answer } = self.plan(alloc, book, rebuilder, scheduler, targets)?;
-        self.commit(alloc, disk, &batch)?;
+        self.commit(alloc, disk, batch)?;
         answered(answer)
     }
 }

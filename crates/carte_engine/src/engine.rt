@@ -117,34 +117,35 @@ impl Engine {
     }
 
     /// Commits the batch of a plan, as `State::apply` does: in one step, whole or not at all, whatever crash comes.
+    /// Where it is refused the batch is dropped.
     pub fn commit<D: Disk>(
         &mut self,
         alloc: Global,
         disk: &mut D,
-        batch: &Batch,
+        batch: Batch,
     ) -> Result<(), ApplyFault>
         requires whole { self.old.journal.broken ≡ false }
-        requires unmarked { EachFits IsUnmarked batch.now.entries }
+        requires unmarked { EachFits IsUnmarked batch.entries }
 
-        ensures empty { is_empty batch.now ≡ true → (result ≡ Ok tt) × (self.new ≡ self.old) × (disk.new ≡ disk.old) }
+        ensures empty { is_empty batch ≡ true → (result ≡ Ok tt) × (self.new ≡ self.old) × (disk.new ≡ disk.old) }
         ensures full { (needed limit : ℕ) → result ≡ Err (ApplyFault.Full needed limit)
-            → (needed ≡ needs_for self.old batch.now) × (limit ≡ self.old.journal.limit) × (limit < needed) × (self.new ≡ self.old) × (disk.new ≡ disk.old) }
-        ensures over { is_empty batch.now ≡ false → self.old.journal.limit < needs_for self.old batch.now
-            → (result ≡ Err (ApplyFault.Full (needs_for self.old batch.now) self.old.journal.limit)) ⊎ (result ≡ Err ApplyFault.NoMemory) }
-        ensures room { OnOk result (HasRoom self.old batch.now) }
+            → (needed ≡ needs_for self.old batch) × (limit ≡ self.old.journal.limit) × (limit < needed) × (self.new ≡ self.old) × (disk.new ≡ disk.old) }
+        ensures over { is_empty batch ≡ false → self.old.journal.limit < needs_for self.old batch
+            → (result ≡ Err (ApplyFault.Full (needs_for self.old batch) self.old.journal.limit)) ⊎ (result ≡ Err ApplyFault.NoMemory) }
+        ensures room { OnOk result (HasRoom self.old batch) }
         ensures no_memory { result ≡ Err ApplyFault.NoMemory → (self.new ≡ self.old) × (disk.new ≡ disk.old) }
         ensures broken { IsTrue self.new.journal.broken ↔ (result ≡ Err ApplyFault.DiskFault) }
         ensures cause { HasCauseOf ApplyFault.DiskFault (D.faults disk.old) (D.faults disk.new) result }
 
-        ensures place { OnOk result (IsAfter batch.now self.old self.new) }
+        ensures place { OnOk result (IsAfter batch self.old self.new) }
         ensures limit { self.new.journal.limit ≡ self.old.journal.limit }
-        ensures calls { D.tells → OnOk result ((D.story disk.new).now.passed ≡ (D.story disk.old).now.passed + calls_for self.old.journal batch.now) }
+        ensures calls { D.tells → OnOk result ((D.story disk.new).now.passed ≡ (D.story disk.old).now.passed + calls_for self.old.journal batch) }
         ensures fewer { D.tells → OnErr result (((D.story disk.old).now.passed ≤ (D.story disk.new).now.passed)
-            × ((D.story disk.new).now.passed < (D.story disk.old).now.passed + calls_for self.old.journal batch.now)) }
+            × ((D.story disk.new).now.passed < (D.story disk.old).now.passed + calls_for self.old.journal batch)) }
 
         ensures rest { D.tells → IsKeptOn self.old (D.story disk.old) → OnOk result (IsKeptOn self.new (D.story disk.new)) }
         ensures any_moment { D.tells → IsKeptOn self.old (D.story disk.old)
-            → StepsThrough (Keeps self.old.journal.limit) (kept_in self.old) (step_for self.old.journal (kept_in self.old) batch.now)
+            → StepsThrough (Keeps self.old.journal.limit) (kept_in self.old) (step_for self.old.journal (kept_in self.old) batch)
             (D.story disk.old) (D.story disk.new) }
     {
         self.state.apply(alloc, disk, batch)
@@ -172,6 +173,6 @@ impl Engine {
             (D.story disk.old) (D.story disk.new) }
     {
         let batch = clearing(alloc, &self.state);
-        self.commit(alloc, disk, &batch)
+        self.commit(alloc, disk, batch)
     }
 }
