@@ -122,18 +122,18 @@ impl Shell {
             targets,
         )?;
         let text = build_text(alloc, self.choices.list, targets, &answer)?;
-        match self.commit(alloc, disk, &batch) {
+        match self.commit(alloc, disk, batch) {
             Ok(()) => Ok(text),
             Err(end) => Err(end),
         }
     }
 
-    fn commit<D: Disk>(&mut self, alloc: Global, disk: &mut D, batch: &Batch) -> Result<(), StepEnd>
+    fn commit<D: Disk>(&mut self, alloc: Global, disk: &mut D, batch: Batch) -> Result<(), StepEnd>
         requires whole { self.old.engine.journal.broken ≡ false }
-        requires unmarked { EachFits IsUnmarked batch.now.entries }
+        requires unmarked { EachFits IsUnmarked batch.entries }
         ensures carried { MatchResult result
-            (λ _. Puts D.tells (scene D.story D.faults (self.old, disk.old)) (scene D.story D.faults (self.new, disk.new)) batch.now)
-            (λ end. Stops D.tells (scene D.story D.faults (self.old, disk.old)) (scene D.story D.faults (self.new, disk.new)) batch.now end) }
+            (λ _. Puts D.tells (scene D.story D.faults (self.old, disk.old)) (scene D.story D.faults (self.new, disk.new)) batch)
+            (λ end. Stops D.tells (scene D.story D.faults (self.old, disk.old)) (scene D.story D.faults (self.new, disk.new)) batch end) }
         ensures on { OnOk result (self.new.engine.journal.broken ≡ false) }
     {
         match self.engine.commit(alloc, disk, batch) {

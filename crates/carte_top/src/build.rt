@@ -93,8 +93,8 @@ fn build_with<D: Disk, O: Sink>(
     // The commit takes the most memory, and wants no book.
     drop(book);
     match answer {
-        Answer::Built(built) => settle(alloc, asked, &built, &batch, engine, state, out),
-        Answer::Refused(reason) => match commit(alloc, engine, state, &batch) {
+        Answer::Built(built) => settle(alloc, asked, &built, batch, engine, state, out),
+        Answer::Refused(reason) => match commit(alloc, engine, state, batch) {
             Ok(()) => Status::BuildRefused(reason),
             Err(status) => status,
         },
@@ -106,15 +106,15 @@ fn settle<D: Disk, O: Sink>(
     alloc: Global,
     asked: &Words,
     built: &Built,
-    batch: &Batch,
+    batch: Batch,
     engine: &mut Engine,
     state: &mut D,
     out: &mut O,
 ) -> Status
     requires loaded { D.tells → IsLoaded engine.old (D.story state.old).now.reads }
     requires whole { engine.old.journal.broken ≡ false }
-    requires unmarked { EachFits IsUnmarked batch.now.entries }
-    ensures { Settles engine.old.journal.limit (reply_to asked.now built.now) (kept_in engine.old) batch.now
+    requires unmarked { EachFits IsUnmarked batch.entries }
+    ensures { Settles engine.old.journal.limit (reply_to asked.now built.now) (kept_in engine.old) batch
         (over_disk D.tells D.story D.faults state.old state.new)
         (over_sink O.tells O.state out.old out.new)
         result }

@@ -39,12 +39,12 @@ pub(crate) fn commit<D: Disk>(
     alloc: Global,
     engine: &mut Engine,
     state: &mut D,
-    batch: &Batch,
+    batch: Batch,
 ) -> Result<(), Status>
     requires loaded { D.tells → IsLoaded engine.old (D.story state.old).now.reads }
     requires whole { engine.old.journal.broken ≡ false }
-    requires unmarked { EachFits IsUnmarked batch.now.entries }
-    ensures { IsPutOrNot engine.old.journal.limit (over_disk D.tells D.story D.faults state.old state.new) (kept_in engine.old) batch.now result }
+    requires unmarked { EachFits IsUnmarked batch.entries }
+    ensures { IsPutOrNot engine.old.journal.limit (over_disk D.tells D.story D.faults state.old state.new) (kept_in engine.old) batch result }
 {
     match engine.commit(alloc, state, batch) {
         Ok(()) => Ok(()),
