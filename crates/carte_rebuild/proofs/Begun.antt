@@ -11,7 +11,7 @@ use Rattle.carte_rebuild.specs.Trying.{machine_left}
 use Rattle.carte_rebuild.specs.Left.{task_at, task_in, key_in, behind, IsBegun}
 
 -- its task was made now
-pub begun_now : (p q : Tries) (r : Recipe) (m : Machine) → task_in p ≡ inl r → q.stage ≡ Task m → state_of m ≡ started r.key (asks_in r) → IsBegun p q
+pub begun_now : (p q : Tries) (r : Recipe) (m : Machine) → task_in p ≡ inl r → q.stage.value ≡ Task m → state_of m ≡ started r.key (asks_in r) → IsBegun p q
 begun_now p q r m made stage says = record {
   machine = m;
   stage = stage;
@@ -20,7 +20,7 @@ begun_now p q r m made stage says = record {
 }
 
 -- or it was there
-pub begun_before : (p q : Tries) (m : Machine) → p.stage ≡ Task m → q.stage ≡ Task m → IsBegun p q
+pub begun_before : (p q : Tries) (m : Machine) → p.stage.value ≡ Task m → q.stage.value ≡ Task m → IsBegun p q
 begun_before p q m is stage = record {
   machine = m;
   stage = stage;

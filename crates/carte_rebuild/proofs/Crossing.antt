@@ -3,7 +3,7 @@
 use denote.Param.Send.{IsSend, IsSync, recorded_send, recorded_sync, struct_send, struct_sync, enum_send, enum_sync, sendable}
 use denote.Enum.Declared as choice
 use denote.Struct.Declared as fields
-use Rattle.std.proofs.Crossing.{crosses, Arc-send, Arc-sync, Vec-send, Vec-sync}
+use Rattle.std.proofs.Crossing.{crosses, Box-send, Box-sync, Arc-send, Arc-sync, Vec-send, Vec-sync}
 use Rattle.carte_value.proofs.area.Area.TheSendSync as area
 use Rattle.carte_value.proofs.kind.Kind.TheSendSync as kind
 use Rattle.carte_value.proofs.name.Name.TheSendSync as name
@@ -42,10 +42,10 @@ stage_sync : IsSync (Stage.the_field).row
 stage_sync = enum_sync (choice.shape Stage.the_type) ((search (sendable, Vec-sync, check.the_sync), (recipe_sync, tt)), ((machine.the_field_sync, tt), tt))
 
 pub tries_field_send : IsSend (Tries.the_field).row
-tries_field_send = struct_send (fields.shape Tries.the_type) (stage_send, tt)
+tries_field_send = struct_send (fields.shape Tries.the_type) (search (sendable, Box-send, stage_send), tt)
 
 pub tries_field_sync : IsSync (Tries.the_field).row
-tries_field_sync = struct_sync (fields.shape Tries.the_type) (stage_sync, tt)
+tries_field_sync = struct_sync (fields.shape Tries.the_type) (search (sendable, Box-sync, stage_sync), tt)
 
 pub tries_send : IsSend Tries.the_row
 tries_send = recorded_send (Tries.the_field).row _ _ (Tries.the_type).to_one tries_field_send

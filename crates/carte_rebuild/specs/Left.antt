@@ -19,7 +19,7 @@ open_at (Task m) = []
 
 -- the checks whose verdict is open
 abbrev pub open_in : Tries → List Checking
-open_in p = open_at p.stage
+open_in p = open_at p.stage.value
 
 abbrev pub task_at : Stage → Recipe ⊎ Machine
 task_at (Checks cs r) = inl r
@@ -27,7 +27,7 @@ task_at (Task m) = inr m
 
 -- what the task is made of, or the task
 abbrev pub task_in : Tries → Recipe ⊎ Machine
-task_in p = task_at p.stage
+task_in p = task_at p.stage.value
 
 abbrev pub key_in : Recipe ⊎ Machine → List ℕ
 key_in (inl r) = r.key
@@ -54,6 +54,6 @@ left_of p = tries (open_in p) (behind (task_in p))
 -- the task is there, with all that was left of it
 pub record IsBegun (p q : Tries) : Type 0 where
   pub machine : Machine
-  pub stage : q.stage ≡ Task machine
+  pub stage : q.stage.value ≡ Task machine
   pub left : behind (task_in p) ≡ machine_left (state_of machine)
   pub key : name_of p ≡ (state_of machine).key

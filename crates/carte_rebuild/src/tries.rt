@@ -18,7 +18,8 @@ use std::alloc::Global;
 /// is neither made nor started.
 #[derive(Drop)]
 pub struct Tries {
-    stage: Stage,
+    // Behind a pointer, since a job goes from hand to hand in each turn, and a task is large.
+    stage: Box<Stage>,
 }
 
 #[derive(Drop)]
@@ -42,9 +43,8 @@ impl Tries {
         ensures idle { IfOk result (λ p. is_started p ≡ false) }
     {
         let recipe = Recipe::of(alloc, book, key)?;
-        Ok(Tries {
-            stage: Stage::Checks(checks, recipe),
-        })
+        let stage = Box::new(alloc, Stage::Checks(checks, recipe))?;
+        Ok(Tries { stage })
     }
 
     // Tries what is left of the checks.
@@ -59,7 +59,7 @@ impl Tries {
         ensures tried { Tried (E.truth effect.old) (E.stops effect.old) (E.log effect.old) (E.log effect.new) (open_in self.old) (open_in self.new) result }
         ensures found { FoundBy (not (is_started self.old)) result }
     {
-        match &mut self.stage {
+        match &mut *self.stage {
             Stage::Checks(checks, _) => try_all(alloc, checks, effect),
             Stage::Task(_) => Ok(None),
         }
@@ -71,9 +71,9 @@ impl Tries {
         ensures kept { OnErr result (self.new ≡ self.old) }
         ensures runs { runs.new ≡ (if is_ok result && not (is_started self.old) then with_start runs.old (name_of self.old) else runs.old) }
     {
-        match &self.stage {
+        match &*self.stage {
             Stage::Checks(_, recipe) => {
-                self.stage = Stage::Task(recipe.start(alloc, runs)?);
+                *self.stage = Stage::Task(recipe.start(alloc, runs)?);
                 Ok(())
             }
             Stage::Task(_) => Ok(()),
@@ -95,7 +95,7 @@ impl Tries {
         ensures counted { Counted (name_of self.old) (is_started self.old) (is_started self.new) runs.old runs.new result }
     {
         self.begin(alloc, runs)?;
-        match &mut self.stage {
+        match &mut *self.stage {
             Stage::Checks(_, _) => unreachable!(),
             Stage::Task(machine) => Job::drive(machine, alloc, effect, runs),
         }
@@ -118,7 +118,7 @@ impl Job for Tries {
     ghost fits_on = { λ p t part k v needs asks a step q. tries_fits_on left_of p q t part k v needs asks a step };
 
     fn key(&self) -> &Name {
-        match &self.stage {
+        match &*self.stage {
             Stage::Checks(_, recipe) => &recipe.key,
             Stage::Task(machine) => Job::key(machine),
         }
