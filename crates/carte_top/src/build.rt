@@ -90,8 +90,8 @@ fn build_with<D: Disk, O: Sink>(
         Ok(plan) => plan,
         Err(_) => return Status::NoMemory,
     };
-    // The commit takes the most memory, and wants no book.
-    drop(book);
+    // As what is kept, it is left to the end of the process.
+    forget(book);
     match answer {
         Answer::Built(built) => settle(alloc, asked, &built, batch, engine, state, out),
         Answer::Refused(reason) => match commit(alloc, engine, state, batch) {
