@@ -1,117 +1,133 @@
-//! Builds over a state.
+//! Builds over a state, by each rebuilder and in each scheduler's order.
+//!
+//! A build is proved once for any rebuilder; `by` alone names them, since that their jobs cross threads is proved anew at each call.
 
-use carte_engine::{
-    BuildFault, Built, Engine, Scheduler, history_is_right, plan_is_sound, plan_keeps,
-};
+use crate::books::{book_of, names_of};
+use carte_construct::Construct;
+use carte_deep::Deep;
+use carte_dirty::Dirty;
+use carte_engine::{Built, Engine, Scheduler, history_is_right, plan_is_sound, plan_keeps};
 use carte_io::MemDisk;
-use carte_rules::read_rules;
-use carte_value::{Name, Names};
+use carte_rebuild::Rebuilder;
 use carte_verify::Verify;
 use std::alloc::Global;
 use std::test::Fail;
 
-/// The rule `s2`, which needs another one: its value is 1 + 2 + 2.
-const BOOK: &[u8] = b"[inputs]\na = 1\nb = 2\n[rules]\ns1 = 'a + b'\ns2 = 's1 + b'\n";
+/// The chain of docs/REBUILDERS.md.
+const CHAIN: &str = "b: a / 2; c: b + 1";
 
-/// A build of `s2` over the disk, from loading on.
-fn run(
+/// A build of c over the disk, from loading on.
+fn built<R: Rebuilder>(
     alloc: Global,
     disk: &mut MemDisk,
-    limit: u32,
+    rebuilder: &R,
     scheduler: Scheduler,
-) -> Result<Result<Built, BuildFault>, Fail> {
-    let book = read_rules(alloc, BOOK)?;
-    let mut targets = Names::new(alloc);
-    targets.push(Name::rule(alloc, "s2")?)?;
-    let mut engine = Engine::load(alloc, disk, limit as u64)?;
-    Ok(engine.build(alloc, disk, &book, &Verify, scheduler, &targets))
+    a: i64,
+) -> Result<Built, Fail> {
+    let book = book_of(alloc, "a", a, CHAIN)?;
+    let targets = names_of(alloc, "c")?;
+    let mut engine = Engine::load(alloc, disk, 65536)?;
+    Ok(engine.build(alloc, disk, &book, rebuilder, scheduler, &targets)?)
 }
 
-/// Its value, how many rules ran, and how many were reused.
-fn built(
-    alloc: Global,
-    disk: &mut MemDisk,
-    limit: u32,
-    scheduler: Scheduler,
-) -> Result<String, Fail> {
-    let built = run(alloc, disk, limit, scheduler)??;
+/// The target's value, how many rules ran, and how many were reused.
+fn printed(alloc: Global, built: &Built) -> Result<String, Fail> {
     let value = match built.values.get(0) {
         Some(value) => value.print(alloc)?,
         None => String::new(alloc),
     };
-    Ok(format!(in alloc; "{value}, {} ran, {} reused", built.ran.len(), built.reused)?)
+    Ok(format!(in alloc; "{value} {} {}; ", built.ran.len(), built.reused)?)
 }
 
-#[test]
-fn a_second_build_runs_and_writes_nothing(rt: HostRuntime) -> Result<(), Fail> {
-    let alloc = rt.alloc();
-    for scheduler in [Scheduler::Topological, Scheduler::Suspending] {
-        let mut disk = MemDisk::of(alloc, &[], &[])?;
-        let first = built(alloc, &mut disk, 65536, scheduler)?;
-        let passed = disk.passed();
-        let second = built(alloc, &mut disk, 65536, scheduler)?;
-        assert_eq!(rt; first.as_str(), "5, 2 ran, 0 reused");
-        assert_eq!(rt; second.as_str(), "5, 0 ran, 2 reused");
-        assert_eq!(rt; disk.passed(), passed);
-    }
-    Ok(())
+/// How many rules a build would finish.
+fn foreseen<R: Rebuilder>(
+    alloc: Global,
+    disk: &mut MemDisk,
+    rebuilder: &R,
+) -> Result<String, Fail> {
+    let book = book_of(alloc, "a", 2, CHAIN)?;
+    let targets = names_of(alloc, "c")?;
+    let engine = Engine::load(alloc, disk, 65536)?;
+    let work = engine.preview(alloc, &book, rebuilder, &targets)?;
+    Ok(format!(in alloc; "{} foreseen; ", work.finished.len())?)
 }
 
-/// A state has room up to the last byte that its file has then.
-#[test]
-fn one_byte_below_is_full(rt: HostRuntime) -> Result<(), Fail> {
-    let alloc = rt.alloc();
-    let mut ample = MemDisk::of(alloc, &[], &[])?;
-    let _ = built(alloc, &mut ample, 65536, Scheduler::Topological)?;
-    let needed = u32::try_from(ample.bytes().len())?;
-    let mut exact = MemDisk::of(alloc, &[], &[])?;
-    let _ = built(alloc, &mut exact, needed, Scheduler::Topological)?;
-    let mut short = MemDisk::of(alloc, &[], &[])?;
-    let most = needed.saturating_sub(1);
-    let full = match run(alloc, &mut short, most, Scheduler::Topological)? {
-        Err(BuildFault::StateFull { needed, limit }) => (needed, limit),
-        _ => (0, 0),
-    };
-    assert_eq!(rt; full, (needed as u64, most as u64));
-    assert_eq!(rt; short.passed(), 0);
-    Ok(())
-}
-
-/// Cleans what the disk keeps, from loading on.
 fn clean(alloc: Global, disk: &mut MemDisk) -> Result<(), Fail> {
     let mut engine = Engine::load(alloc, disk, 65536)?;
     engine.clean(alloc, disk)?;
     Ok(())
 }
 
-#[test]
-fn a_cleaned_state_is_built_anew(rt: HostRuntime) -> Result<(), Fail> {
-    let alloc = rt.alloc();
+/// A preview, and one build for each value of a. What was kept is cleaned where the value is 0.
+fn in_a_row<R: Rebuilder>(
+    alloc: Global,
+    rebuilder: &R,
+    scheduler: Scheduler,
+) -> Result<String, Fail> {
     let mut disk = MemDisk::of(alloc, &[], &[])?;
-    let _ = built(alloc, &mut disk, 65536, Scheduler::Suspending)?;
-    clean(alloc, &mut disk)?;
-    let passed = disk.passed();
-    clean(alloc, &mut disk)?;
-    assert_eq!(rt; disk.passed(), passed);
-    let shown = built(alloc, &mut disk, 65536, Scheduler::Suspending)?;
-    assert_eq!(rt; shown.as_str(), "5, 2 ran, 0 reused");
+    let mut text = foreseen(alloc, &mut disk, rebuilder)?;
+    for a in [2, 3, 4, 2, 0, 2] {
+        text.push_str(step(alloc, &mut disk, rebuilder, scheduler, a)?.as_str())?;
+    }
+    Ok(text)
+}
+
+fn step<R: Rebuilder>(
+    alloc: Global,
+    disk: &mut MemDisk,
+    rebuilder: &R,
+    scheduler: Scheduler,
+    a: i64,
+) -> Result<String, Fail> {
+    if a == 0 {
+        clean(alloc, disk)?;
+        return Ok(String::from_str(alloc, "cleaned; ")?);
+    }
+    let built = built(alloc, disk, rebuilder, scheduler, a)?;
+    printed(alloc, &built)
+}
+
+/// By one of the four.
+fn by(alloc: Global, at: usize, scheduler: Scheduler) -> Result<String, Fail> {
+    match at {
+        0 => in_a_row(alloc, &Verify, scheduler),
+        1 => in_a_row(alloc, &Construct, scheduler),
+        2 => in_a_row(alloc, &Deep, scheduler),
+        _ => in_a_row(alloc, &Dirty, scheduler),
+    }
+}
+
+// From the table of docs/REBUILDERS.md. By a topological order each rule that didn't run is reused; where rules wait, deep
+// traces and marks pass over what is beneath a held one.
+const TOPOLOGICAL: [&str; 4] = [
+    "2 foreseen; 2 2 0; 2 1 1; 3 2 0; 2 2 0; cleaned; 2 2 0; ",
+    "2 foreseen; 2 2 0; 2 1 1; 3 2 0; 2 0 2; cleaned; 2 2 0; ",
+    "2 foreseen; 2 2 0; 2 2 0; 3 2 0; 2 0 2; cleaned; 2 2 0; ",
+    "2 foreseen; 2 2 0; 2 2 0; 3 2 0; 2 2 0; cleaned; 2 2 0; ",
+];
+
+const SUSPENDING: [&str; 4] = [
+    "2 foreseen; 2 2 0; 2 1 1; 3 2 0; 2 2 0; cleaned; 2 2 0; ",
+    "2 foreseen; 2 2 0; 2 1 1; 3 2 0; 2 0 2; cleaned; 2 2 0; ",
+    "2 foreseen; 2 2 0; 2 2 0; 3 2 0; 2 0 1; cleaned; 2 2 0; ",
+    "2 foreseen; 2 2 0; 2 2 0; 3 2 0; 2 2 0; cleaned; 2 2 0; ",
+];
+
+#[test]
+fn each_rebuilder_builds_in_order(rt: HostRuntime) -> Result<(), Fail> {
+    for (at, want) in TOPOLOGICAL.iter().enumerate() {
+        let text = by(rt.alloc(), at, Scheduler::Topological)?;
+        assert_eq!(rt; text.as_str(), *want, "{at}");
+    }
     Ok(())
 }
 
 #[test]
-fn a_preview_writes_nothing(rt: HostRuntime) -> Result<(), Fail> {
-    let alloc = rt.alloc();
-    let book = read_rules(alloc, BOOK)?;
-    let mut disk = MemDisk::of(alloc, &[], &[])?;
-    let engine = Engine::load(alloc, &mut disk, 65536)?;
-    for (target, finished) in [("s2", 2), ("s1", 1), ("a", 0)] {
-        let mut targets = Names::new(alloc);
-        targets.push(Name::rule(alloc, target)?)?;
-        let work = engine.preview(alloc, &book, &Verify, &targets)?;
-        assert_eq!(rt; work.finished.len(), finished);
-        assert_eq!(rt; work.runs.ended().len(), finished);
+fn each_rebuilder_builds_what_is_asked_for(rt: HostRuntime) -> Result<(), Fail> {
+    for (at, want) in SUSPENDING.iter().enumerate() {
+        let text = by(rt.alloc(), at, Scheduler::Suspending)?;
+        assert_eq!(rt; text.as_str(), *want, "{at}");
     }
-    assert_eq!(rt; disk.passed(), 0);
     Ok(())
 }
 

@@ -1,0 +1,29 @@
+-- The jobs of the rebuilders cross threads.
+use denote.Param.Send.{sendable}
+use Rattle.carte_deep.proofs.Crossing.{deep_send, deep_sync}
+use Rattle.carte_rebuild.proofs.Crossing.{tries_send, tries_sync}
+use Rattle.carte_build_tests.proofs.engine.by.Goals as goal
+
+pub in_a_row-requires-send-R-Job : goal.in_a_row-requires-send-R-Job
+in_a_row-requires-send-R-Job c κs = search (sendable, tries_send, deep_send)
+
+pub in_a_row-requires-sync-R-Job : goal.in_a_row-requires-sync-R-Job
+in_a_row-requires-sync-R-Job c κs = search (sendable, tries_sync, deep_sync)
+
+pub in_a_row-requires-2-send-R-Job : goal.in_a_row-requires-2-send-R-Job
+in_a_row-requires-2-send-R-Job c κs = search (sendable, tries_send, deep_send)
+
+pub in_a_row-requires-2-sync-R-Job : goal.in_a_row-requires-2-sync-R-Job
+in_a_row-requires-2-sync-R-Job c κs = search (sendable, tries_sync, deep_sync)
+
+pub in_a_row-requires-3-send-R-Job : goal.in_a_row-requires-3-send-R-Job
+in_a_row-requires-3-send-R-Job c κs = search (sendable, tries_send, deep_send)
+
+pub in_a_row-requires-3-sync-R-Job : goal.in_a_row-requires-3-sync-R-Job
+in_a_row-requires-3-sync-R-Job c κs = search (sendable, tries_sync, deep_sync)
+
+pub in_a_row-requires-4-send-R-Job : goal.in_a_row-requires-4-send-R-Job
+in_a_row-requires-4-send-R-Job c κs = search (sendable, tries_send, deep_send)
+
+pub in_a_row-requires-4-sync-R-Job : goal.in_a_row-requires-4-sync-R-Job
+in_a_row-requires-4-sync-R-Job c κs = search (sendable, tries_sync, deep_sync)
