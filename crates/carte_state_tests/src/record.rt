@@ -1,29 +1,30 @@
-//! Look-ups in what is kept, and batches as bytes.
+//! Look-ups in what is kept, and a batch as bytes.
 
 mod bytes;
 
 use carte_record::{Seen, Store, Trace, Traces};
-use carte_value::{Link, Links, Name, NoMemory, Value};
+use carte_value::{Digest, Link, Links, Name, NoMemory, Value};
 use std::alloc::Global;
 use std::test::Fail;
 
-fn name(alloc: Global, text: &str) -> Result<Name, Fail> {
-    Ok(Name::rule(alloc, text)?)
+fn number(value: i64) -> Digest {
+    Value::Number(value).digest()
 }
 
-fn trace(alloc: Global, key: &str, number: i64) -> Result<Trace, Fail> {
-    Ok(Trace {
-        key: name(alloc, key)?,
-        links: Links::new(alloc),
-        result: Value::Number(number).digest(),
-    })
+/// The inputs a, b and a again were 1, 2 and 3.
+fn seen(alloc: Global) -> Result<Seen, Fail> {
+    let mut seen = Seen::new(alloc);
+    for (text, value) in [("a", 1), ("b", 2), ("a", 3)] {
+        let name = Name::rule(alloc, text)?;
+        let digest = number(value);
+        seen.push(Link { name, digest })?;
+    }
+    Ok(seen.copy(alloc)?)
 }
 
-fn link(alloc: Global, text: &str, number: i64) -> Result<Link, Fail> {
-    Ok(Link {
-        name: name(alloc, text)?,
-        digest: Value::Number(number).digest(),
-    })
+fn found(alloc: Global, text: &str) -> Result<Option<Digest>, Fail> {
+    let name = Name::rule(alloc, text)?;
+    Ok(seen(alloc)?.find(&name).copied())
 }
 
 /// Puts a value with its digest.
@@ -32,44 +33,53 @@ fn put(store: &mut Store, value: Value) -> Result<(), NoMemory> {
     store.push_with(value, digest)
 }
 
-fn crosses<T: Send + Sync>(item: T) -> T {
-    item
+/// Nothing and 7.
+fn store(alloc: Global) -> Result<Store, NoMemory> {
+    let mut store = Store::new(alloc);
+    store.push(Value::Empty)?;
+    put(&mut store, Value::Number(7))?;
+    store.copy(alloc)
+}
+
+/// Whether it is there, and the digest at the place.
+fn stored(alloc: Global, digest: &Digest, at: usize) -> Result<(bool, Option<Digest>), NoMemory> {
+    let store = store(alloc)?;
+    Ok((store.find(digest).is_some(), store.digest(at).copied()))
 }
 
 #[test]
 fn lists_find_the_first(rt: HostRuntime) -> Result<(), Fail> {
     let alloc = rt.alloc();
-    let mut seen = Seen::new(alloc);
-    seen.push(link(alloc, "a", 1)?)?;
-    seen.push(link(alloc, "b", 2)?)?;
-    seen.push(link(alloc, "a", 3)?)?;
-    let seen = crosses(seen.copy(alloc)?);
-    assert_eq!(&rt; seen.len(), 3);
-    assert_eq!(&rt;
-        seen.find(&name(alloc, "a")?).copied(),
-        Some(Value::Number(1).digest())
-    );
-    assert!(&rt; seen.find(&name(alloc, "c")?).is_none() && seen.get(3).is_none());
-    let mut store = Store::new(alloc);
-    store.push(Value::Empty)?;
-    put(&mut store, Value::Number(7))?;
-    let store = crosses(store.copy(alloc)?);
-    assert!(&rt; store.find(&Value::Empty.digest()).is_some());
-    assert!(&rt; store.find(&Value::Number(8).digest()).is_none());
-    assert_eq!(&rt; store.digest(1).copied(), Some(Value::Number(7).digest()));
+    assert_eq!(&rt; found(alloc, "a")?, Some(number(1)));
+    assert_eq!(&rt; found(alloc, "c")?, None);
+    assert_eq!(&rt; stored(alloc, &number(7), 1)?, (true, Some(number(7))));
+    assert_eq!(&rt; stored(alloc, &number(8), 2)?, (false, None));
     Ok(())
+}
+
+/// Traces of a, b, a and a.
+fn traces(alloc: Global) -> Result<Traces, Fail> {
+    let mut traces = Traces::new(alloc);
+    for key in ["a", "b", "a", "a"] {
+        let key = Name::rule(alloc, key)?;
+        let links = Links::new(alloc);
+        let result = number(1);
+        traces.push(Trace { key, links, result })?;
+    }
+    Ok(traces.copy(alloc)?)
+}
+
+fn has_places(alloc: Global, key: &str, places: &[u32]) -> Result<bool, Fail> {
+    let key = Name::rule(alloc, key)?;
+    let traces = traces(alloc)?;
+    Ok(traces.places(&key) == places)
 }
 
 #[test]
 fn traces_have_their_places(rt: HostRuntime) -> Result<(), Fail> {
     let alloc = rt.alloc();
-    let mut traces = Traces::new(alloc);
-    for key in ["a", "b", "a", "a"] {
-        traces.push(trace(alloc, key, 1)?)?;
-    }
-    let traces = crosses(traces.copy(alloc)?);
-    assert_eq!(&rt; traces.places(&name(alloc, "a")?), [0, 2, 3].as_slice());
-    assert_eq!(&rt; traces.places(&name(alloc, "b")?), [1].as_slice());
-    assert!(&rt; traces.places(&name(alloc, "c")?).is_empty() && traces.get(4).is_none());
+    assert!(&rt; has_places(alloc, "a", &[0, 2, 3])?);
+    assert!(&rt; has_places(alloc, "b", &[1])?);
+    assert!(&rt; has_places(alloc, "c", &[])?);
     Ok(())
 }

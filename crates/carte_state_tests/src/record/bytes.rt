@@ -1,9 +1,8 @@
-//! Which bytes are a batch, and what is read from them.
+//! A batch as bytes.
 
 use carte_record::Batch;
-use carte_value::{NoMemory, Value};
+use carte_value::{Digest, NoMemory, Value};
 use std::alloc::Global;
-use std::process::Abort;
 use std::test::Fail;
 
 // The body that a build of b2 makes, with a1 = 10, a2 = 20, b1 = "a1+a2" and b2 = "b1*2" and nothing kept before:
@@ -22,147 +21,6 @@ const PARTS: [&[u8]; 10] = [
     b"\0",
 ];
 
-// For each byte of that body the bits, the lowest as 1, that may be turned so that the bytes are a batch still, as runs of
-// equal ones. By `tests/batches.py flips`.
-const FLIPS: [(usize, u8); 52] = [
-    (2, 0),
-    (32, 255),
-    (5, 0),
-    (8, 255),
-    (1, 0),
-    (8, 255),
-    (5, 0),
-    (1, 62),
-    (1, 79),
-    (32, 255),
-    (1, 0),
-    (1, 62),
-    (1, 71),
-    (32, 255),
-    (9, 0),
-    (1, 61),
-    (1, 79),
-    (32, 255),
-    (1, 1),
-    (5, 0),
-    (1, 62),
-    (1, 79),
-    (1, 0),
-    (1, 62),
-    (1, 71),
-    (1, 0),
-    (1, 61),
-    (1, 71),
-    (32, 255),
-    (1, 1),
-    (5, 0),
-    (1, 61),
-    (1, 79),
-    (5, 0),
-    (1, 61),
-    (1, 79),
-    (5, 0),
-    (1, 62),
-    (1, 79),
-    (32, 255),
-    (1, 0),
-    (1, 62),
-    (1, 71),
-    (64, 255),
-    (1, 0),
-    (1, 61),
-    (1, 71),
-    (5, 0),
-    (1, 61),
-    (1, 79),
-    (64, 255),
-    (9, 0),
-];
-
-// Bodies of random batches, each with a changed one behind it, and whether it is a batch. By `tests/batches.py table 10`.
-const BODIES: [(&[u8], bool); 20] = [
-    (
-        b"\x01\x02\0\0\0\x01\0\0\0\0\x01\x01a\0\0\0\0\0\0\0\0\0\0\0\0\0\0\0\0\0\0\0\0\0\0\0\0\0\0\0\0\0\0\0\0\0\0\0\0\0\0\0\0\0\0\0\0\0\0\0\x01\x01z\0\0\0\x01\x03a9_\0\0\0\0\0\0\0\0\0\0\0\0\0\0\0\0\0\0\0\0\0\0\0\0\0\0\0\0\0\0\0\0w\xe3%\x80)t\xb8\x83\xd8\x8e\x02M\x12\xc4\xd1R8,{43\x0a]v5o\x0c\xed\xe8\x9e\xc2l\0\0\0\0\x01\0\0\0\x01@z/0/_00/9z/9..9._z909__//0.990_._.99.z0/./z_0/900/./____.__90.z9",
-        true,
-    ),
-    (
-        b"\x01\x02\0\0\0\x01\0\0\0\0\x01\x01a\0\0\0\0\0\0\0\0\0\0\0\0\0\0\0\0\0\0\0\0\0\0\0\0\0\0\0\0\0\0\0\0\0\0\0\0\0\0\0\0\0\0\0\0\0\0\0\x01\x01z\0\0\0\x01\x03a9_\0\0\0\0\0\0\0\0\0\0\0\0\0\0\0\0\0\0\0\0\0\0\0\0\0\0\0\0\0\0\0\0w\xe3%\x80)t\xb8\x83\xd8\x8e\x02M\x12\xc4\xd1R8,{43\x0a]v5o\x0c\xed\xe8\x9e\xc2l\0\0\0\0\x01\0\0\0\x01@z/0/_00/9z/9..9._z909__//0.990_._.99.z0/.",
-        false,
-    ),
-    (
-        b"\x01\0\0\0\0\x01\x01\x80\0\0\0\0\0\0\0\0\0\0\x01\x02b/\xb0\xca>\x82>>)\xab\xc8l5\x0c\xf0\x16\xfe\x94\xb7\xeaH\xbf\x89\xf7\xf4\xd6\xfb\x97\xcavP\xfa\x84\xda\0\0\0\0\0\0\0\0\0\0\0\0\0\0\0\x01\x04Z405\0\0\0\0\xff\xff\xff\xff\xff\xff\xff\xff\xff\xff\xff\xff\xff\xff\xff\xff\xff\xff\xff\xff\xff\xff\xff\xff\xff\xff\xff\xff\xff\xff\xff\xff\0\0\0\x01\x05ZZ405\0\0\0\x01\x01b\xff\xff\xff\xff\xff\xff\xff\xff\xff\xff\xff\xff\xff\xff\xff\xff\xff\xff\xff\xff\xff\xff\xff\xff\xff\xff\xff\xff\xff\xff\xff\xff\xff\xff\xff\xff\xff\xff\xff\xff\xff\xff\xff\xff\xff\xff\xff\xff\xff\xff\xff\xff\xff\xff\xff\xff\xff\xff\xff\xff\xff\xff\xff\xff\0",
-        true,
-    ),
-    (
-        b"\x01\0\0\0\0\x01\x01\x80\0\0\0\0\0\0\0\0\0\0\x01\x02b/\xb0\xca>\x82>>)\xab\xc8l5\x0c\xf0\x16\xfe\x94\xb7\xeaH\xbf\x89\xf7\xf4\xd6\xfb\x97\xcavP\xfa\x84\xda\0\0\0\0\0\0\0\0\0\0\0\0\0\0\0\x01\x04Z405\0\0\0\0\xff\xff\xff\xff\xff\xff\xff\xff\xff\xff\xff\xff\xff\xff\xff\xff\xff\xff\xff\xff\xff\xff\xff\xff\xff\xff\xff\xff\xff\xff\xff\xff\0\0\0\x01\x05ZZ405\0\0\0\x01\x01b\xff\xff\xff\xff\xff\xff\xff\xff\xff\xff\xff\xff\xff\xff\xff\xff\xff\xff\xff\xff\xff\xff\xff\xff\xff\xff\xff\xff\xff\xff\xff\xff\xff\xff\xff\xff\xff\xff\xff\xff\xff\xff\xff\xff\xff\xff\xff\xff\xff\xfd\xff\xff\xff\xff\xff\xff\xff\xff\xff\xff\xff\xff\xff\xff\0",
-        true,
-    ),
-    (
-        b"\x01\0\0\0\0\0\0\0\0\0\0\0\0\x01\x03AB9\0\0\0\x01\x02Z9\0\0\0\0\0\0\0\0\0\0\0\0\0\0\0\0\0\0\0\0\0\0\0\0\0\0\0\0\0\0\0\0\x01\0\0\0\x01\x03a0z\0\0\0\x01\x02Z9\0\0\0\x01\x04ZZ10\xff\xff\xff\xff\xff\xff\xff\xff\xff\xff\xff\xff\xff\xff\xff\xff\xff\xff\xff\xff\xff\xff\xff\xff\xff\xff\xff\xff\xff\xff\xff\xff\xc5\xe7\x177\xe7A<Y'\xc9\x9c\xea\x04\x816\xb3pX\x0cK\xda/\xac\xee\x19\xf3{!\xf6G\x0fF\0\0\0\0\0\0\0\0\x01\0\0\0\x01\x03a0z",
-        true,
-    ),
-    (
-        b"\x01\0\0\0\0\0\0\0\0\0\0\0\0\x01\x03AB9\0\0\0\x01\x02Z9\0\0\0\0\0\0\0\0\0\0\0\0\0\0\0\0\0\0\0\0\0\0\0\0\0\0\0\0\0\0\0\0\x01\0\0\0\x01\x03a0z\0\0\0\x01\x02Z9\0\0\0\x01\x04ZZ10\xff\xff\xff\xff\xff\xff\xff\xff\xff\xff\xff\xff\xff\xff\xff\xff\xff\xff\xff\xff\xff\xff\xff\xff\xff\xff\xff\xff\xff\xff\xff\xff\xc5\xe7\x177\xe7A<Y'\xc9\x9c\xea\x04\x816\xb3pX\x0cK\xda/\xac\xee\x19\xf3{!\xf6G\x0fF\0\0\0\0\0\0\0\0\x01\0\0\0\x01\x03a0z\0",
-        false,
-    ),
-    (
-        b"\x01\x02\0\0\0\x01\x02\0\0\0\x04\xf0\x9f\x98\x80\0\0\0\x01\x08a.z._.aaglc\xc8\x14F\x0c\x86\xf3\x18rI\xa0\x13d7G_/\xed\x95jP\xa6\x8d\x22\xd3\xd4\x11\xe9\x98>\0\0\0\x01\x02a9\0\0\0\x01\x06ZZ9999\xff\xff\xff\xff\xff\xff\xff\xff\xff\xff\xff\xff\xff\xff\xff\xff\xff\xff\xff\xff\xff\xff\xff\xff\xff\xff\xff\xff\xff\xff\xff\xff\x01\0\0\0\x01\x08a9/.a0__\0\0\0\0\0\0\0\0\0\0\0\0\0",
-        true,
-    ),
-    (
-        b"\x01\x02\0\0\0\x01\x02\0\0\0\x04\xf0\x9f\x98\x80\0\0\0\x01\x08a.z._.aaglc\xc8\x14F\x0c\x86\xf3\x18rI\xa0\x13d7G_/\xed\x95jP\xa6\x8d\x22\xd3\xd4\x11\xe9\x98>\0\0\0\x01\x02a9\0\0\0\x01\x06ZZ9999\xff\xff\xff\xff\xff\xff\xff\xff\xff\xff\xff\xff\xff\xff\xff\xff\xff\xff\xff\xff\xff\xff\xff\xff\xff\xff\xff\xff\xff\xff\xff\xff\x01\0\0\0\x01\x08a9/.a0__\0\0\0\0\0\0\0\0\0\0\0\0\0\0",
-        false,
-    ),
-    (
-        b"\x01\x02\0\0\0\0\0\0\0\0\0\0\0\x01\x02b_\0\0\0\x01\x06AB9999\xfc#\xebq\x8f\x0c\x0f\xf5\x15BHi\xa4{\x18J\x974,E\xdfG\x11\x9e\x89\xf2\x18\xb5\xae1\xb86\x01\0\0\0\x01\x03z/9\0\0\0\x01\x01a\0\0\0\0\0\0\0\0\0\0\0\0\0\0\0\0\0\0\0\0\0\0\0\0\0\0\0\0\0\0\0\0\0\0\0\0\0\0\0\x01\x01a\0\0\0\x01\x02a9\xff\xff\xff\xff\xff\xff\xff\xff\xff\xff\xff\xff\xff\xff\xff\xff\xff\xff\xff\xff\xff\xff\xff\xff\xff\xff\xff\xff\xff\xff\xff\xff\xff\xff\xff\xff\xff\xff\xff\xff\xff\xff\xff\xff\xff\xff\xff\xff\xff\xff\xff\xff\xff\xff\xff\xff\xff\xff\xff\xff\xff\xff\xff\xff\0\0\0\x01\x02z9\0\0\0\x01\x08z0../0.0\xff\xff\xff\xff\xff\xff\xff\xff\xff\xff\xff\xff\xff\xff\xff\xff\xff\xff\xff\xff\xff\xff\xff\xff\xff\xff\xff\xff\xff\xff\xff\xffhr\xa7T\xaa\x9b\xc8\xf8\xee\x8f+m\xbb{\xb9\xbe\x5c{sk\xefy\xcb\x88hR\0\xcf\xf2\xb9\x5ce\x01\0\0\0\0",
-        true,
-    ),
-    (
-        b"\x01\x02\0\0\0\0\0\0\0\0\0\0\0\x01\x02b_\0\0\0\x01\x06AB9999\xfc#\xebq\x8f\x0c\x0f\xf5\x15BHi\xa4{\x18J\x974,E\xdfG\x11\x9e\x89\xf2\x18\xb5\xae1\xb86\x01\0\0\0\x01\x03z/9\0\0\0\x01\x01a\0\0\0\0\0\0\0\0\0\0\0\0\0\0\0\0\0\0\0\0\0\0\0\0\0\0\0\0\0\0\0\0\0\0\0\0\0\0\0\x01\x01a\0\0\0\x01\x02a9\xff\xff\xff\xff\xff\xff\xff\xff\xff\xff\xff\xff\xff\xff\xff\xff\xff\xff\xff\xff\xff\xff\xff\xff\xff\xff\xff\xff\xff\xff\xff\xff\xff\xff\xff\xff\xff\xff\xff\xff\xff\xff\xff\xff\xff\xff\xff\xff\xff\xff\xff\xff\xff\xff\xff\xff\xff\xff\xff\xff\xff\xff\xff\xff\0\0\0\x01\x02z9\0\0\0\x01\x08z0../0.0\xff\xff\xff\xff\xff\xff\xff\xff\xff\xff\xff\xff\xff\xff\xff\xff\xff\xff\xff\xff\xff\xff\xff\xff\xff\xff\xff\xff\xff\xff\xff\xffhr\xa7T\xaa\x9b\xc8\xf8\xee\x8f+m\xbb{\xb9\xbe\x5c{sk\xefy\xcb\x88hR\0\xcf\xf2\xb9\x5ce\x01\0\0\0\0\0",
-        false,
-    ),
-    (
-        b"\x01\x02\0\0\0\0\0\0\0\x01@a09z/a.09/azz/_0.0/..a/zz/za0a0a0/a_//._z0z9..z0_/a/a0.z.a/_/az.\xfc\xd5\xb7\xf6\x97\x98 M:\x03.I\xb4O\x99B-uu\xab._\xdfk\xd2\x13\xab\xdb\xfe\xb0^<\0\0\0\0\0\0\0\0\0\0\0\x01\x03Z10\0\0\0\0\0\0\0\0\0\0\0\0\0\0\0\0\0\0\0\0\0\0\0\0\0\0\0\0\0\0\0\0\0\0\0\0\0\0\0\0\0\0\0\x01\x01b\0\0\0\0\xff\xff\xff\xff\xff\xff\xff\xff\xff\xff\xff\xff\xff\xff\xff\xff\xff\xff\xff\xff\xff\xff\xff\xff\xff\xff\xff\xff\xff\xff\xff\xff\x01\0\0\0\0",
-        true,
-    ),
-    (
-        b"\x01\x02\0\0\0\0\0\0\0\x01@a09z/a.09/azz/_0.0/..a/zz/za0a0a0/a_//._z0z9..z0_/a/a0.z.a/_/az.\xfc\xd5\xb7\xf6\x97\x98 M:\x03.I\xb4O\x99B-uu\xab._\xdfk\xd2\x13\xab\xdb\xfe\xb0",
-        false,
-    ),
-    (
-        b"\x01\x01\xf0\x8ePo\xbd6ql\xdd@a\xc7S$\x9d\xe9H/\xbf_p\x15\xdf\x10\xc8\x9awR\xccqfu\0\0\0\0\0\0\0\0\0\0\0\x01\x04AB10\0\0\0\0\0\0\0\x01\x01b\0\0\0\0\0\0\0\0\0\0\0\0\0\0\0\0\0\0\0\0\0\0\0\0\0\0\0\0\0\0\0\0\0\0\0\0\0\0\0\0\0\0\0\0\x01\0\0\0\x01\x06ZZ9999",
-        true,
-    ),
-    (
-        b"\x01\x01\xf0\x8ePo\xbd6ql\xdd@a\xc7S$\x9d\xe9H?\xbf_p\x15\xdf\x10\xc8\x9awR\xccqfu\0\0\0\0\0\0\0\0\0\0\0\x01\x04AB10\0\0\0\0\0\0\0\x01\x01b\0\0\0\0\0\0\0\0\0\0\0\0\0\0\0\0\0\0\0\0\0\0\0\0\0\0\0\0\0\0\0\0\0\0\0\0\0\0\0\0\0\0\0\0\x01\0\0\0\x01\x06ZZ9999",
-        true,
-    ),
-    (
-        b"\x01\0\0\0\0\0\0\0\0\x01\x02az\xff\xff\xff\xff\xff\xff\xff\xff\xff\xff\xff\xff\xff\xff\xff\xff\xff\xff\xff\xff\xff\xff\xff\xff\xff\xff\xff\xff\xff\xff\xff\xff\0\0\0\0\0\0\0\x01\x03a00\xdfF~\x84\xf1\xa6\0\x17\x03:j\x96\x1c\xe2ri|'\x10\x0d9\xc69\xd4\xd9\x0c\x0dX?fs)\x01\0\0\0\x01\x05Z9999\0\0\0\x01\x02A9\0\0\0\0\x035\xeb\xef\x09\x01t\xa9${\x8e;Vc+\xd8\x8d\xfd;\x8bJ\xa5\xc0pre\xfb\xe29\xf8\xc9\xa3\0\0\0\0\0\0\0\x01\x03ZZ9\0\0\0\x01@a90a900.9z/.///z.z/a/a0_.z99_.a..z..aaza/.0_//zz90.a.9__/za90za.\0\0\0\0\0\0\0\0\0\0\0\0\0\0\0\0\0\0\0\0\0\0\0\0\0\0\0\0\0\0\0\0\xff\xff\xff\xff\xff\xff\xff\xff\xff\xff\xff\xff\xff\xff\xff\xff\xff\xff\xff\xff\xff\xff\xff\xff\xff\xff\xff\xff\xff\xff\xff\xff\x01\0\0\0\0",
-        true,
-    ),
-    (
-        b"\x01\0\0\0\0\0\0\0\0\x01\x02az\xff\xff\xff\xff\xff\xff\xff\xff\xff\xff\xff\xff\xff\xff\xff\xff\xff\xff\xff\xff\xff\xff\xff\xff\xff\xff\xff\xff\xff\xff\xff\xff\0\0\0\0\0\0\0\x01\x03a00\xdfF~\x84\xf1\xa6\0\x17\x03:j\x96\x1c\xe2ri|'\x10\x0d9\xc69\xd4\xd9\x0c\x0dX?fs)\x01\0\0\0\x01\x05Z9999\0\0\0\x01\x02A9\0\0\0\0\x035\xeb\xef\x09\x01t\xa9${\x8e;Vc+\xd8\x8d\xfd;\x8bJ\xa5\xc0pre\xfb\xe29\xf8\xc9\xa3\0\0\0\0\0\0\0\x01\x03ZZ9\0\0\0\x01@a90a900.9z/.///z.z/a/a0_.z99_.a..z..aaza/.0_//zz90.a.9__/za90za.\0\0\0\0\0\0\0\0\0\0\x8f\0\0\0\0\0\0\0\0\0\0\0\0\0\0\0\0\0\0\0\0\0\0\xff\xff\xff\xff\xff\xff\xff\xff\xff\xff\xff\xff\xff\xff\xff\xff\xff\xff\xff\xff\xff\xff\xff\xff\xff\xff\xff\xff\xff\xff\xff\xff\x01\0\0\0\0",
-        false,
-    ),
-    (
-        b"\x01\x01\xff\xff\xff\xff\xff\xff\xff\xff\xff\xff\xff\xff\xff\xff\xff\xff\xff\xff\xff\xff\xff\xff\xff\xff\xff\xff\xff\xff\xff\xff\xff\xff\0\0\0\x01\x03\x04\0\0\0\x01\x01b\xfe\xb8\xd7g*\x04X\x86\x0d\x95\x11\xd9\x9f\xcb~\xdc\x89\xc0\xc8\x8a\0\x87]\x93\x03e\x0be^\xa6\x8ea\0\0\0\x01\x02za\0\0\0\0\0\0\0\0\0\0\0\0\0\0\0\x01\x03bz0\0\0\0\0\0\0\0\0\0\0\0\0\0\0\0\0\0\0\0\0\0\0\0\0\0\0\0\0\0\0\0\0\0\0\0\0\x01\0\0\0\0",
-        true,
-    ),
-    (
-        b"\x01\x01\xff\xff\xff\xff\xff\xff\xff\xff\xff\xff\xff\xff\xff\xff\xff\xff\xff\xff\xff\xff\xff\xff\xff\xff\xff\xff\xff\xff\xff\xff\xff\xff\0\0\0\x01\x03\x04\0\0\0",
-        false,
-    ),
-    (
-        b"\x01\x01sd&4\x82\xe7\xacJ`u<\x9a\xf8\xf5\xe8\xad\x90L\xe9\xe3\x0e\xd8\xcc]v\xa4\xd4\x91\xe3D\x8d\xbb\0\0\0\0\0\0\0\x01@z/_z__90_z/0.z/.0__z._aa._..//9a/_zaa_.0z9z__/0/90z_.a.__/9/a9/.\xff\xff\xff\xff\xff\xff\xff\xff\xff\xff\xff\xff\xff\xff\xff\xff\xff\xff\xff\xff\xff\xff\xff\xff\xff\xff\xff\xff\xff\xff\xff\xff\0\0\0\0\0\0\0\x01\x03z__-\x0dK\xa8|xq|\xd1\xde\x93F\x9e\x01\xdf\xebG\x9e\xa95L\xcf\xbe\x12\xd0\xfc\xc5.,\xff\xee\xf2\0\0\0\0\0\0\0\0\0\0\0\0\x01@z0_0_./.._9_/99..z/__zz.z.zaaa9a9_/9z09z/aa99_zz/_0/zaazzz.za0a/\0\0\0\0\0\0\0\0\0\0\0\0\0\0\0\0\0\0\0\0\0\0\0\0\0\0\0\0\0\0\0\0\0\0\0\0\0\0\0\0\x01\0\0\0\0",
-        true,
-    ),
-    (
-        b"\x01\x01sd&4\x82\xe7\xacJ`u<\x9a\xf8\xf5\xe8\xad\x90L\xe9\xe3\x0e\xd8\xcc]v\xa4\xd4\x91\xe3D\x8d\xbb\0\0\0\0\0\0\0\x01@z/_z__90_z/0.z/.0__z._aa._..//9a/_zaaa_.0z9z__/0/90z_.a.__/9/a9/.\xff\xff\xff\xff\xff\xff\xff\xff\xff\xff\xff\xff\xff\xff\xff\xff\xff\xff\xff\xff\xff\xff\xff\xff\xff\xff\xff\xff\xff\xff\xff\xff\0\0\0\0\0\0\0\x01\x03z__-\x0dK\xa8|xq|\xd1\xde\x93F\x9e\x01\xdf\xebG\x9e\xa95L\xcf\xbe\x12\xd0\xfc\xc5.,\xff\xee\xf2\0\0\0\0\0\0\0\0\0\0\0\0\x01@z0_0_./.._9_/99..z/__zz.z.zaaa9a9_/9z09z/aa99_zz/_0/zaazzz.za0a/\0\0\0\0\0\0\0\0\0\0\0\0\0\0\0\0\0\0\0\0\0\0\0\0\0\0\0\0\0\0\0\0\0\0\0\0\0\0\0\0\x01\0\0\0\0",
-        false,
-    ),
-];
-
 fn small(alloc: Global) -> Result<Vec<u8>, NoMemory> {
     let mut body = Vec::new(alloc);
     for part in PARTS {
@@ -171,106 +29,84 @@ fn small(alloc: Global) -> Result<Vec<u8>, NoMemory> {
     Ok(body)
 }
 
-/// Whether the bytes are a batch, and then what it is written as.
-fn again(alloc: Global, body: &[u8]) -> Result<Option<Vec<u8>>, NoMemory> {
+/// What the bytes are written as where they are a batch, and else nothing.
+fn again(alloc: Global, body: &[u8]) -> Result<Vec<u8>, NoMemory> {
     match Batch::decode(alloc, body)? {
-        Some(batch) => Ok(Some(batch.encode(alloc)?)),
-        None => Ok(None),
+        Some(batch) => batch.encode(alloc),
+        None => Ok(Vec::new(alloc)),
     }
 }
 
-/// It is read exactly where it is to be, and written again as it was.
-fn is_read(rt: &impl Abort, alloc: Global, body: &[u8], good: bool) -> Result<(), Fail> {
-    match again(alloc, body)? {
-        Some(bytes) => assert!(rt; good && bytes.as_slice() == body),
-        None => assert!(rt; !good),
-    }
-    Ok(())
-}
-
-#[test]
-fn bodies_are_read_by_the_format(rt: HostRuntime) -> Result<(), Fail> {
-    let alloc = rt.alloc();
-    for (body, good) in BODIES {
-        is_read(&rt, alloc, body, good)?;
-    }
-    Ok(())
-}
-
-#[test]
-fn fronts_and_turned_bits(rt: HostRuntime) -> Result<(), Fail> {
-    let alloc = rt.alloc();
-    let mut body = small(alloc)?;
-    for length in 0..body.len() {
-        let front = body.get(..length).unwrap_or(&[]);
-        is_read(&rt, alloc, front, false)?;
-    }
-    let mut at = 0usize;
-    for (length, bits) in FLIPS {
-        for _ in 0..length {
-            for bit in 0..8u32 {
-                let mask = 1u8 << bit;
-                turn(&mut body, at, mask);
-                is_read(&rt, alloc, body.as_slice(), bits & mask != 0)?;
-                turn(&mut body, at, mask);
-            }
-            at = at.saturating_add(1);
-        }
-    }
-    assert_eq!(&rt; at, body.len());
-    body.push(0)?;
-    is_read(&rt, alloc, body.as_slice(), false)
-}
-
-fn turn(body: &mut Vec<u8>, at: usize, mask: u8) {
-    if let Some(byte) = body.get_mut(at) {
-        *byte ^= mask;
-    }
-}
-
-#[test]
-fn the_small_example(rt: HostRuntime) -> Result<(), Fail> {
-    let alloc = rt.alloc();
+/// It is written again as it was.
+fn is_read(alloc: Global) -> Result<bool, NoMemory> {
     let body = small(alloc)?;
-    assert_eq!(&rt; body.len(), 423);
-    is_read(&rt, alloc, body.as_slice(), true)?;
-    match Batch::decode(alloc, body.as_slice())? {
-        Some(batch) => has_the_small(&rt, &batch),
-        None => assert!(&rt; false, "no batch"),
-    }
-    Ok(())
+    Ok(again(alloc, body.as_slice())?.as_slice() == body.as_slice())
 }
 
-fn has_the_small(rt: &impl Abort, batch: &Batch) {
-    let lengths = (
+fn number(value: i64) -> Digest {
+    Value::Number(value).digest()
+}
+
+/// How many values, inputs, stale keys, entries and traces there are.
+fn lengths(batch: &Batch) -> [usize; 7] {
+    [
         batch.values.len(),
         batch.seen.len(),
         batch.stale.len(),
         batch.entries.len(),
-    );
-    assert_eq!(rt; lengths, (2, 2, 0, 2));
-    let traces = (
         batch.verifying.len(),
         batch.constructive.len(),
         batch.deep.len(),
-    );
-    assert_eq!(rt; traces, (2, 0, 0));
-    assert!(rt; batch.chain.is_none());
-    if let Some(link) = batch.seen.get(1) {
-        assert_eq!(rt; link.name.text(), "a2");
-        assert_eq!(rt; link.digest, Value::Number(20).digest());
+    ]
+}
+
+fn has_a2(batch: &Batch) -> bool {
+    match batch.seen.get(1) {
+        Some(link) => link.name.text() == "a2" && link.digest == number(20),
+        None => false,
     }
-    if let Some(entry) = batch.entries.get(1) {
-        assert_eq!(rt; entry.key.text(), "b2");
-        assert_eq!(rt; entry.result, Value::Number(60).digest());
-        assert_eq!(rt;
-            (entry.needs.len(), entry.stale, entry.shallow),
-            (1, false, false)
-        );
+}
+
+fn has_b2(batch: &Batch) -> bool {
+    match batch.entries.get(1) {
+        Some(entry) => {
+            entry.key.text() == "b2" && entry.result == number(60) && entry.needs.len() == 1
+        }
+        None => false,
     }
-    if let Some(trace) = batch.verifying.get(0) {
-        assert_eq!(rt; trace.key.text(), "b1");
-        assert_eq!(rt; trace.links.len(), 2);
-        assert_eq!(rt; trace.result, Value::Number(30).digest());
+}
+
+fn has_b1(batch: &Batch) -> bool {
+    match batch.verifying.get(0) {
+        Some(trace) => {
+            trace.key.text() == "b1" && trace.result == number(30) && trace.links.len() == 2
+        }
+        None => false,
     }
+}
+
+/// What the batch of the small example has.
+fn found(alloc: Global) -> Result<[bool; 5], NoMemory> {
+    let body = small(alloc)?;
+    match Batch::decode(alloc, body.as_slice())? {
+        Some(batch) => Ok(told(&batch)),
+        None => Ok([false; 5]),
+    }
+}
+
+fn told(batch: &Batch) -> [bool; 5] {
+    [
+        lengths(batch) == [2, 2, 0, 2, 2, 0, 0],
+        has_a2(batch),
+        has_b2(batch),
+        has_b1(batch),
+        batch.chain.is_none(),
+    ]
+}
+
+#[test]
+fn the_small_example(rt: HostRuntime) -> Result<(), Fail> {
+    assert!(&rt; is_read(rt.alloc())?);
+    assert!(&rt; found(rt.alloc())? == [true; 5]);
+    Ok(())
 }

@@ -1,0 +1,88 @@
+#!/usr/bin/env python3
+"""Measures the lines of a session: sessions.py PROGRAM [KEYS] [OPTIONS of the program]
+
+Over a generated book with an input more on which three rules depend, whose last key and these were built, a session sets that
+input and builds the last of the three rules, PAIRS times. Of one such pair: its instructions (a session of many
+pairs beside one of few, by callgrind), its user time and its system calls (strace), each beside a process that builds the last
+key again, where nothing changed. It ends with 1 where a pair takes more than 1/20 of that process's user time, or more syncs
+than a commit has. The same is then told of a pair that builds the last key, beneath which all kept rules lie.
+"""
+import os
+import pathlib
+import re
+import shutil
+import statistics
+import subprocess
+import sys
+import tempfile
+
+from generated import generated
+
+SEED, PAIRS, SYNCS = 1, 200, 2
+
+
+def with_three(book):
+    """The book with an input more, and three rules above it, one over the other."""
+    front, behind = book.split("[rules]\n")
+    rules = ['first = "edited + k0"', 'second = "first + k1"', 'third = "second + k2"']
+    return front + "edited = 1\n[rules]\n" + behind + "\n".join(rules) + "\n"
+
+
+def script(name, target, pairs):
+    return "".join(f"set {name} {1000 + at}\nbuild {target}\n" for at in range(pairs)).encode()
+
+
+def run(words, text):
+    """What was written, and the user time."""
+    done = subprocess.run(["/usr/bin/time", "-f", "%U", *words], input=text, capture_output=True)
+    return done.stdout.decode(), float(done.stderr.split()[-1])
+
+
+def counted(words, text, folder):
+    done = subprocess.run(["valgrind", "--tool=callgrind", f"--callgrind-out-file={folder}/callgrind", *words],
+                          input=text, capture_output=True)
+    return int(re.search(rb"Collected : (\d+)", done.stderr)[1])
+
+
+def calls(words, text, folder):
+    """How many system calls were made, and how many of these were syncs."""
+    subprocess.run(["strace", "-f", "-o", f"{folder}/strace", *words], input=text, stdout=subprocess.DEVNULL, check=False)
+    lines = pathlib.Path(f"{folder}/strace").read_text().splitlines()
+    return len(lines), sum("sync(" in line for line in lines)
+
+
+def measure(program, extra, folder, name, target, pairs):
+    """Of one pair the instructions, the user time, the calls and the syncs."""
+    words = [program, "session", f"{folder}/book.toml", f"{folder}/state", *extra]
+
+    def of(count, how, *more):
+        shutil.copyfile(f"{folder}/built", f"{folder}/state")
+        return how(words, script(name, target, count), *more)
+
+    few, many = (of(count, counted, folder) for count in (2, 12))
+    times = [(of(pairs + 1, run)[1] - of(1, run)[1]) / pairs for _ in range(3)]
+    seen, more = (of(count, calls, folder) for count in (2, 12))
+    return (many - few) / 10, statistics.median(times), (more[0] - seen[0]) / 10, (more[1] - seen[1]) / 10
+
+
+def main(program, *words):
+    extra = [word for at, word in enumerate(words) if word.startswith("--") or (at and words[at - 1].startswith("--"))]
+    keys = next((int(word) for word in words if word.isdigit()), 65_536)
+    program, book, last = os.path.abspath(program), with_three(generated(SEED, keys - 4)), f"k{keys - 5}"
+    with tempfile.TemporaryDirectory() as folder:
+        pathlib.Path(f"{folder}/book.toml").write_text(book)
+        null = [program, "build", f"{folder}/book.toml", f"{folder}/built", last, "third", *extra]
+        subprocess.run(null, check=True, stdout=subprocess.DEVNULL)
+        null_count, null_time = counted(null, b"", folder), statistics.median(run(null, b"")[1] for _ in range(5))
+        print(f"{keys} keys, a build in a process where nothing changed: {null_count} instructions, {null_time:.3f} s of user time")
+        failed = False
+        for what, pairs in (("third", PAIRS), (last, PAIRS // 10)):
+            count, seconds, made, syncs = measure(program, extra, folder, "edited", what, pairs)
+            print(f"set edited, build {what}: {count:.0f} instructions (1/{null_count / count:.1f}), {1000 * seconds:.2f} ms of user time "
+                  f"(1/{null_time / max(seconds, 1e-9):.1f}), {made:.1f} system calls, {syncs:.1f} syncs", flush=True)
+            failed |= what == "third" and (seconds > null_time / 20 or syncs > SYNCS)
+    return 1 if failed else 0
+
+
+if __name__ == "__main__":
+    sys.exit(main(*sys.argv[1:]))
