@@ -3,12 +3,14 @@
 //! A build is proved once for any rebuilder; `by` alone names them, since that their jobs cross threads is proved anew at each call.
 
 use crate::books::{book_of, names_of};
+use carte_book::Book;
 use carte_construct::Construct;
 use carte_deep::Deep;
 use carte_dirty::Dirty;
 use carte_engine::{Built, Engine, Scheduler, history_is_right, plan_is_sound, plan_keeps};
 use carte_io::MemDisk;
 use carte_rebuild::Rebuilder;
+use carte_value::Names;
 use carte_verify::Verify;
 use std::alloc::Global;
 use std::test::Fail;
@@ -16,7 +18,20 @@ use std::test::Fail;
 /// The chain of docs/REBUILDERS.md.
 const CHAIN: &str = "b: a / 2; c: b + 1";
 
-/// A build of c over the disk, from loading on.
+/// A build over the disk, from loading on.
+fn built_of<R: Rebuilder>(
+    alloc: Global,
+    disk: &mut MemDisk,
+    book: &Book,
+    rebuilder: &R,
+    scheduler: Scheduler,
+    targets: &Names,
+) -> Result<Built, Fail> {
+    let mut engine = Engine::load(alloc, disk, 65536)?;
+    Ok(engine.build(alloc, disk, book, rebuilder, scheduler, targets)?)
+}
+
+/// A build of c. The book and the targets stand in this function alone: whatever lives is dropped at each question mark.
 fn built<R: Rebuilder>(
     alloc: Global,
     disk: &mut MemDisk,
@@ -26,8 +41,7 @@ fn built<R: Rebuilder>(
 ) -> Result<Built, Fail> {
     let book = book_of(alloc, "a", a, CHAIN)?;
     let targets = names_of(alloc, "c")?;
-    let mut engine = Engine::load(alloc, disk, 65536)?;
-    Ok(engine.build(alloc, disk, &book, rebuilder, scheduler, &targets)?)
+    built_of(alloc, disk, &book, rebuilder, scheduler, &targets)
 }
 
 /// The target's value, how many rules ran, and how many were reused.
@@ -39,17 +53,27 @@ fn printed(alloc: Global, built: &Built) -> Result<String, Fail> {
     Ok(format!(in alloc; "{value} {} {}; ", built.ran.len(), built.reused)?)
 }
 
-/// How many rules a build would finish.
-fn foreseen<R: Rebuilder>(
+/// How many rules a build over the disk would finish.
+fn foreseen_of<R: Rebuilder>(
     alloc: Global,
     disk: &mut MemDisk,
+    book: &Book,
     rebuilder: &R,
-) -> Result<String, Fail> {
+    targets: &Names,
+) -> Result<usize, Fail> {
+    let engine = Engine::load(alloc, disk, 65536)?;
+    Ok(
+        engine
+            .preview(alloc, book, rebuilder, targets)?
+            .finished
+            .len(),
+    )
+}
+
+fn foreseen<R: Rebuilder>(alloc: Global, disk: &mut MemDisk, rebuilder: &R) -> Result<usize, Fail> {
     let book = book_of(alloc, "a", 2, CHAIN)?;
     let targets = names_of(alloc, "c")?;
-    let engine = Engine::load(alloc, disk, 65536)?;
-    let work = engine.preview(alloc, &book, rebuilder, &targets)?;
-    Ok(format!(in alloc; "{} foreseen; ", work.finished.len())?)
+    foreseen_of(alloc, disk, &book, rebuilder, &targets)
 }
 
 fn clean(alloc: Global, disk: &mut MemDisk) -> Result<(), Fail> {
@@ -65,7 +89,8 @@ fn in_a_row<R: Rebuilder>(
     scheduler: Scheduler,
 ) -> Result<String, Fail> {
     let mut disk = MemDisk::of(alloc, &[], &[])?;
-    let mut text = foreseen(alloc, &mut disk, rebuilder)?;
+    let count = foreseen(alloc, &mut disk, rebuilder)?;
+    let mut text = format!(in alloc; "{count} foreseen; ")?;
     for a in [2, 3, 4, 2, 0, 2] {
         text.push_str(step(alloc, &mut disk, rebuilder, scheduler, a)?.as_str())?;
     }
