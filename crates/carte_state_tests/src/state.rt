@@ -53,15 +53,15 @@ fn apply_two<D: Disk>(alloc: Global, disk: &mut D) -> Result<bool, NoMemory> {
         return Ok(false);
     };
     let batches = two_batches(alloc)?;
-    Ok(apply_all(&mut state, alloc, disk, &batches).is_ok())
+    Ok(apply_all(&mut state, alloc, disk, batches).is_ok())
 }
 
-fn two_batches(alloc: Global) -> Result<[Batch; 2], NoMemory>
-    ensures { IfOk result AreUnmarked }
+fn two_batches(alloc: Global) -> Result<Vec<Batch>, NoMemory>
+    ensures { IfOk result (λ batches. AreUnmarked batches.items) }
 {
     let first = number_batch(alloc, Start::Anew(Value::Number(7).digest()), 1)?;
     let second = number_batch(alloc, Start::GoOn, 2)?;
-    Ok([first, second])
+    Ok(vec![in alloc; first, second]?)
 }
 
 /// How many writing calls were made, how many values are there then, and whether these two are.
