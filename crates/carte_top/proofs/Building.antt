@@ -1,5 +1,5 @@
 -- What a build has done, from its plan and its commit.
-use Rattle.std.proofs.Common.{◌≡◌, ℕ, List, Err, subst, inl, inr, ◌⊎◌}
+use Rattle.std.proofs.Common.{◌≡◌, ℕ, List, Ok, Err, subst, inl, inr, ◌⊎◌}
 use Rattle.carte_io.proofs.Images.{leaves_more}
 use Rattle.carte_book.specs.Book.{Book}
 use Rattle.carte_record.specs.declared.batch.Batch.{Batch}
@@ -21,7 +21,7 @@ use Rattle.carte_top.specs.Chosen.{scheduler_of, how_of, choices_of}
 use Rattle.carte_top.specs.Found.{Answers, IsPut, Replies, reply_to}
 use Rattle.carte_top.specs.Outcome.{TellsSink}
 use Rattle.carte_top.specs.Sound.{IsStation, MayBuild}
-use Rattle.carte_top.specs.Running.{BuildsWith, BuiltWith, PutOrNot, Settled, Settles, StaysOver, StaysWith}
+use Rattle.carte_top.specs.Running.{BuildsWith, BuiltWith, Prints, PutOrNot, Settled, Settles, StaysOver, StaysWith, TellsPut}
 use Rattle.carte_top.proofs.Keeping.{keeps_by}
 
 -- a plan's batch, by what the words choose and by the answer that it was found to have
@@ -91,3 +91,14 @@ module _ (limit : ℕ) (w : Asked) (b : Book) (K : SomeKept) (B : Batch) where
 pub told_untouched : (k : OverSink) (limit : ℕ) (d : OverDisk) (K : SomeKept) (B : Batch) (status : Status) → PutOrNot limit d K B (Err status) → k.new.faults ≡ k.old.faults → TellsSink k status
 told_untouched k limit d K B WriteFault put same = absurd put
 told_untouched k limit d K B status put same = same
+
+-- a commit, and then a text that was written, or wasn't to its end
+written : (limit : ℕ) (text : List ℕ) (K : SomeKept) (B : Batch) (d : OverDisk) (k : OverSink) (status : Status) → IsPut limit d K B → StaysWith limit K B d
+    → TellsPut d (Ok tt) → Prints text k status → Settles limit text K B d k status
+written limit text K B d k Done put stays disk prints = record { did = (put, prints.0); stays = stays; disk = disk; sink = prints.1 }
+written limit text K B d k WriteFault put stays disk prints = record { did = (put, prints.0); stays = stays; disk = disk; sink = prints.1 }
+written limit text K B d k status put stays disk prints = absurd prints
+
+pub settled : (limit : ℕ) (bytes text : List ℕ) (K : SomeKept) (B : Batch) (d : OverDisk) (k : OverSink) (status : Status) → bytes ≡ text → IsPut limit d K B
+    → StaysWith limit K B d → TellsPut d (Ok tt) → Prints bytes k status → Settles limit text K B d k status
+settled limit bytes text K B d k status same put stays disk prints = written limit text K B d k status put stays disk (subst (λ x. Prints x k status) same prints)

@@ -44,8 +44,8 @@ returns-in-Ok-commit g c =
       sink = refl;
     }
 
-pub returns : goal.returns
-returns g c =
+pub returns-in-Err-commit : goal.returns-in-Err-commit
+returns-in-Err-commit g c =
     let e = c.args.engine.now in
     let w = c.args.asked.now in
     let b = book_view c.args.book in
