@@ -1,12 +1,12 @@
 -- What a build begins with.
-use Rattle.std.proofs.Common.{◌≡◌, ℕ, Bool, true, false, cond, List, [], Option, Some, None, option_map, refl, ap, sym, ◌∙◌}
+use Rattle.std.proofs.Common.{◌≡◌, ℕ, true, false, cond, List, [], Option, Some, None, option_map, refl, ap, sym, ◌∙◌}
 use Rattle.std.proofs.Math.Path.{fun_ext}
 use Rattle.carte_value.specs.Truths.{IsListOf}
 use Rattle.carte_book.specs.Book.{Book}
 use Rattle.carte_record.specs.declared.entry.Entry.{Entry}
 use Rattle.carte_record.specs.Folds.{with_marks}
 use Rattle.carte_record.specs.Kept.{SomeKept, nothing_kept, staled}
-use Rattle.carte_sound.specs.Begun.{begin, has_rules_of}
+use Rattle.carte_sound.specs.Begun.{has_rules_of}
 use Rattle.carte_sound.specs.Marks.{IsMarked}
 use Rattle.carte_mark.specs.declared.base.Begun.{Begun}
 use Rattle.carte_mark.specs.Bases.{base_view, BeginsWith}

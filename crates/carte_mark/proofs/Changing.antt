@@ -1,19 +1,20 @@
 -- Gathering the changed names.
-use Rattle.std.proofs.Common.{◌≡◌, ◌⊎◌, ℕ, Bool, true, false, not, cond, List, [], ◌∷◌, ◌++◌, Option, Some, None, map, find, refl, ap, sym, ◌∙◌, subst, inl, inr}
+use Rattle.std.proofs.Common.{◌≡◌, ◌⊎◌, ℕ, suc, ◌+◌, ◌<◌, ◌≤◌, Bool, true, false, not, ◌||◌, cond, List, [], ◌∷◌, length, Option, Some, None, slice_get, find, refl, ap, sym, ◌∙◌, subst, inl, inr, arith}
+use Rattle.indexmap.specs.IndexSet.{insert_key}
 use Rattle.carte_value.specs.declared.digest.Digest.{Digest}
 use Rattle.carte_value.specs.declared.link.Link.{Link}
 use Rattle.carte_value.specs.Names.{name_eq}
 use Rattle.carte_value.specs.Truths.{Among}
-use Rattle.carte_value.proofs.Members.{among_append, among_left, among_right}
 use Rattle.carte_book.specs.Book.{Book}
 use Rattle.carte_record.specs.declared.kept.Kept.{Kept}
 use Rattle.carte_record.specs.Kept.{SomeKept, kept_view}
-use Rattle.carte_record.specs.Lookups.{digest_eq, digest_in, first_link, is_link_of}
+use Rattle.carte_record.specs.Lookups.{digest_in, first_link, is_link_of}
 use Rattle.carte_record.proofs.Names.{name_eq_is}
 use Rattle.carte_sound.specs.Begun.{is_digest}
 use Rattle.carte_sound.specs.Marks.{present, IsChanged}
 use Rattle.carte_sound.proofs.Tests.{same_digest, digest_self}
-use Rattle.carte_mark.specs.Reached.{has_changed, AreChanged}
+use Rattle.carte_mark.specs.Reached.{has_changed, AreChanged, AddsChanged}
+use Rattle.carte_mark.proofs.Putting.{put_only, put_stays, put_there}
 
 is_digest_is : (o : Option Digest) (d : Digest) → is_digest o d ≡ true → o ≡ Some d
 is_digest_is None d is = cc
@@ -39,50 +40,85 @@ untold K b q (Some d) is test c = c.differs (is_digest_is (present b q) d (on (i
     on true h = refl
     on false h = cc
 
--- those among the names so far
-pub record AreChangedSoFar (K : SomeKept) (b : Book) (before ns : List (List ℕ)) : Type 0 where
+-- of a link whose own digest is the present one, or whose name hasn't changed, none is put
+pub adds_none : (K : SomeKept) (b : Book) (l : Link) (names : List (List ℕ)) → (is_digest (present b l.name) l.digest || not (has_changed (K.seen l.name) (present b l.name))) ≡ true → AddsChanged K b l names names
+adds_none K b l names test = record { only = λ q among. inl among; stays = λ q among. among; there = λ first c. absurd (on (is_digest (present b l.name) l.digest) refl test first c) }
+  where
+    off : (t : Bool) → not t ≡ true → t ≡ false
+    off true h = cc
+    off false h = refl
+
+    on : (t : Bool) → is_digest (present b l.name) l.digest ≡ t → (t || not (has_changed (K.seen l.name) (present b l.name))) ≡ true → K.seen l.name ≡ Some l.digest → ¬ (IsChanged K b l.name)
+    on true is test first c =
+        let both : Some l.digest ≡ Some c.digest = sym first ∙ c.seen in
+        let same : l.digest ≡ c.digest = cc in
+        c.differs (is_digest_is (present b l.name) l.digest is ∙ ap Some same)
+    on false is test first c = untold K b l.name (K.seen l.name) refl (off (has_changed (K.seen l.name) (present b l.name)) test) c
+
+-- and else the name
+pub adds_name : (K : SomeKept) (b : Book) (l : Link) (old new : List (List ℕ)) → has_changed (K.seen l.name) (present b l.name) ≡ true → new ≡ insert_key name_eq old l.name → AddsChanged K b l old new
+adds_name K b l old new test is = subst (AddsChanged K b l old) (sym is) (record {
+  only = λ q among. elim (put_only old (l.name ∷ []) q among) [
+    | inl was ↦ inl was
+    | inr here ↦ elim here [
+      | inl same ↦ inr (subst (IsChanged K b) (sym same) (told K b l.name (K.seen l.name) refl test))
+      | inr nowhere ↦ absurd nowhere
+    ]
+  ];
+  stays = λ q among. put_stays old (l.name ∷ []) q among;
+  there = λ first c. put_there old (l.name ∷ []) l.name (inl refl);
+})
+
+-- those of the links before a place
+pub record AreChangedBefore (K : SomeKept) (b : Book) (ls : List Link) (end : ℕ) (ns : List (List ℕ)) : Type 0 where
   pub only : (q : List ℕ) → Among ns q → IsChanged K b q
-  pub each : (q : List ℕ) → Among before q → IsChanged K b q → Among ns q
+  pub each : (i : ℕ) (l : Link) → i < end → slice_get ls i ≡ Some l → K.seen l.name ≡ Some l.digest → IsChanged K b l.name → Among ns l.name
 
-pub changed_first : (K : SomeKept) (b : Book) → AreChangedSoFar K b [] []
-changed_first K b = record { only = λ q nowhere. absurd nowhere; each = λ q nowhere c. absurd nowhere }
+pub changed_first : (K : SomeKept) (b : Book) (ls : List Link) (ns : List (List ℕ)) → ns ≡ [] → AreChangedBefore K b ls 0 ns
+changed_first K b ls ns none = record { only = λ q among. absurd (subst (λ ks. Among ks q) none among); each = λ i l below there first c. absurd (omega arith) }
 
-pub changed_more : (K : SomeKept) (b : Book) (before old new : List (List ℕ)) (n : List ℕ) → AreChangedSoFar K b before old → new ≡ cond (has_changed (K.seen n) (present b n)) (old ++ n ∷ []) old → AreChangedSoFar K b (before ++ n ∷ []) new
-changed_more K b before old new n so is = subst (AreChangedSoFar K b (before ++ n ∷ [])) (sym is) (on (has_changed (K.seen n) (present b n)) refl)
+pub changed_more : (K : SomeKept) (b : Book) (ls : List Link) (at : ℕ) (l : Link) (old new : List (List ℕ)) → slice_get ls at ≡ Some l → AreChangedBefore K b ls at old → AddsChanged K b l old new → AreChangedBefore K b ls (at + 1) new
+changed_more K b ls at l old new here so adds = record {
+  only = λ q among. elim (adds.only q among) [
+    | inl was ↦ so.only q was
+    | inr c ↦ c
+  ];
+  each = λ i m below there first c. elim (either i below) [
+    | inl before ↦ adds.stays m.name (so.each i m before there first c)
+    | inr now ↦
+        let both : Some l ≡ Some m = sym here ∙ (ap (slice_get ls) (sym now) ∙ there) in
+        let same : l ≡ m = cc in
+        let f = subst (λ (x : Link). K.seen x.name ≡ Some x.digest) (sym same) first in
+        subst (λ (x : Link). Among new x.name) same (adds.there f (subst (λ (x : Link). IsChanged K b x.name) (sym same) c))
+  ];
+}
   where
-    on : (t : Bool) → has_changed (K.seen n) (present b n) ≡ t → AreChangedSoFar K b (before ++ n ∷ []) (cond t (old ++ n ∷ []) old)
-    on true test = record {
-      only = λ q among. elim (among_append old (n ∷ []) q among) [
-        | inl was ↦ so.only q was
-        | inr here ↦ elim here [
-          | inl same ↦ subst (IsChanged K b) (sym same) (told K b n (K.seen n) refl test)
-          | inr nowhere ↦ absurd nowhere
-        ]
-      ];
-      each = λ q among c. elim (among_append before (n ∷ []) q among) [
-        | inl was ↦ among_left old (n ∷ []) q (so.each q was c)
-        | inr here ↦ among_right old (n ∷ []) q here
-      ];
-    }
-    on false test = record {
-      only = so.only;
-      each = λ q among c. elim (among_append before (n ∷ []) q among) [
-        | inl was ↦ so.each q was c
-        | inr here ↦ elim here [
-          | inl same ↦ absurd (untold K b n (K.seen n) refl test (subst (IsChanged K b) same c))
-          | inr nowhere ↦ absurd nowhere
-        ]
-      ];
-    }
+    either : (i : ℕ) → i < at + 1 → (i < at) ⊎ (i ≡ at)
+    either i below = grind arith
 
--- a name that was seen is the name of one of the links
-seen_name : (ls : List Link) (q : List ℕ) (d : Digest) → first_link ls q ≡ Some d → Among (map (λ l. l.name) ls) q
-seen_name [] q d is = cc
-seen_name (l ∷ ls) q d is = on (name_eq q l.name) refl is (seen_name ls q d)
+record SeenAt (ls : List Link) (q : List ℕ) (d : Digest) : Type 0 where
+  pub place : ℕ
+  pub link : Link
+  pub below : place < length ls
+  pub there : slice_get ls place ≡ Some link
+  pub name : q ≡ link.name
+  pub digest : link.digest ≡ d
+
+-- a digest that was seen is that of the first link of the name
+seen_at : (ls : List Link) (q : List ℕ) (d : Digest) → first_link ls q ≡ Some d → SeenAt ls q d
+seen_at [] q d is = cc
+seen_at (l ∷ ls) q d is = on (name_eq q l.name) refl is (seen_at ls q d)
   where
-    on : (t : Bool) → name_eq q l.name ≡ t → digest_in (cond t (Some l) (find (is_link_of q) ls)) ≡ Some d → (first_link ls q ≡ Some d → Among (map (λ m. m.name) ls) q) → Among (l.name ∷ map (λ m. m.name) ls) q
-    on true same there rest = inl (name_eq_is q l.name same)
-    on false same there rest = inr (rest there)
+    on : (t : Bool) → name_eq q l.name ≡ t → digest_in (cond t (Some l) (find (is_link_of q) ls)) ≡ Some d → (first_link ls q ≡ Some d → SeenAt ls q d) → SeenAt (l ∷ ls) q d
+    on true same there rest = record { place = 0; link = l; below = omega arith; there = refl; name = name_eq_is q l.name same; digest = (let e : l.digest ≡ d = cc in e) }
+    on false same there rest = let s = rest there in let inside = s.below in record { place = suc s.place; link = s.link; below = omega arith; there = s.there; name = s.name; digest = s.digest }
 
-pub changed_all : (K : Kept) (b : Book) (ns : List (List ℕ)) → AreChangedSoFar (kept_view K) b (map (λ l. l.name) K.seen) ns → AreChanged (kept_view K) b ns
-changed_all K b ns so = record { only = so.only; each = λ q c. so.each q (seen_name K.seen q c.digest c.seen) c }
+pub changed_all : (K : Kept) (b : Book) (end : ℕ) (ns : List (List ℕ)) → length K.seen ≤ end → AreChangedBefore (kept_view K) b K.seen end ns → AreChanged (kept_view K) b ns
+changed_all K b end ns past so = record {
+  only = so.only;
+  each = λ q c.
+      let s = seen_at K.seen q c.digest c.seen in
+      let inside = s.below in
+      let first = ap (first_link K.seen) (sym s.name) ∙ (c.seen ∙ ap Some (sym s.digest)) in
+      subst (Among ns) (sym s.name) (so.each s.place s.link (omega arith) s.there first (subst (IsChanged (kept_view K) b) s.name c));
+}

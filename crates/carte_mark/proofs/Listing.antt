@@ -1,94 +1,122 @@
 -- The list of the marks.
-use Rattle.std.proofs.Common.{◌≡◌, ◌⊎◌, ℕ, Bool, true, false, not, ◌&&◌, ◌||◌, cond, List, [], ◌∷◌, ◌++◌, length, Option, Some, None, BTreeSet, refl, ap, sym, ◌∙◌, subst, inl, inr}
-use Rattle.std.specs.Prelude.{◌==◌}
-use Rattle.std.proofs.Math.Dec.{eqb-suc-zero}
-use Rattle.std.specs.List.{list_any}
-use Rattle.std.specs.List.Sorted.{IsStrictlySortedBy}
-use Rattle.std.specs.BTreeSet.{contains}
-use Rattle.std.specs.BTreeMap.{is_at}
-use Rattle.std.specs.Ordering.{eq_by_cmp}
-use Rattle.std.specs.Cmp.{eq_by_cmp_equiv}
-use Rattle.std.proofs.lemmas.Cmp.{nat_list_cmp_total}
-use Rattle.carte_value.specs.Names.{name_cmp}
+use Rattle.std.proofs.Common.{◌≡◌, ℕ, zero, suc, ◌<◌, List, [], ◌∷◌, ◌++◌, length, get_or, Some, refl, sym, ◌∙◌, subst, inl, inr, arith}
+use Rattle.std.specs.Prelude.{◌↔◌}
+use Rattle.std.specs.List.{Contains, dedup}
+use Rattle.std.specs.List.Retain.{DiffersFromLast, IsFiltered}
+use Rattle.std.specs.List.Sorted.{IsPermutation, IsSorted, IsStrictlySortedBy}
+use Rattle.std.specs.Cmp.Lexicographic.{nat_list_eq_equiv, nat_list_cmp_total, texts_ties}
+use Rattle.std.proofs.lemmas.List.Filters.{dedup_is}
+use Rattle.std.proofs.lemmas.List.Kept.{IsStrictlySortedBy-dedup, Contains-dedup, Contains-from_dedup}
+use Rattle.std.proofs.lemmas.List.Sorted.{Contains-permutation, IsPermutation-sym}
+use Rattle.carte_value.specs.Names.{name_cmp, name_eq}
 use Rattle.carte_value.specs.Truths.{Among, IsListOf}
 use Rattle.carte_value.proofs.Members.{among_append, among_left, among_right}
 use Rattle.carte_book.specs.Book.{Book}
-use Rattle.carte_book.proofs.Clean.{tied_name}
 use Rattle.carte_record.specs.declared.entry.Entry.{Entry}
 use Rattle.carte_record.specs.declared.kept.Kept.{Kept}
 use Rattle.carte_record.specs.Kept.{kept_view}
-use Rattle.carte_record.specs.Lookups.{first_entry}
+use Rattle.carte_record.proofs.Names.{name_eq_is}
 use Rattle.carte_sound.specs.Marks.{Leads, need, on, IsMarked}
-use Rattle.carte_mark.specs.Marking.{is_unmarked, PutsIf, AreUnmarked}
-use Rattle.carte_mark.specs.Reached.{AreChanged, AreReached, LeadsToChange}
+use Rattle.carte_mark.specs.Marking.{IsToMark, PushesToMark, AreToMark}
+use Rattle.carte_mark.specs.Reached.{AreChanged, Meets}
+use Rattle.carte_mark.specs.Passes.{AreReached}
+use Rattle.carte_mark.proofs.Spreading.{leads_further}
 
-pub unmarked_first : (es : List Entry) (s : BTreeSet (List ℕ)) → s.keys ≡ [] → AreUnmarked es [] s
-unmarked_first es s none q = ((λ has. let e : contains name_cmp s q ≡ false = rw none refl in cc), (λ p. absurd p.0))
+-- those to be marked
 
-pub unmarked_more : (es : List Entry) (before : List (List ℕ)) (k : List ℕ) (old new : BTreeSet (List ℕ)) → AreUnmarked es before old → PutsIf (is_unmarked (first_entry es k)) old new k → AreUnmarked es (before ++ k ∷ []) new
-unmarked_more es before k old new so puts q = ((λ has. back (is_unmarked (first_entry es k)) refl (eq_by_cmp name_cmp k q) refl (sym (puts q) ∙ has)), (λ p. puts q ∙ there (is_unmarked (first_entry es k)) refl (eq_by_cmp name_cmp k q) refl p))
-  where
-    old_back : contains name_cmp old q ≡ true → Among (before ++ k ∷ []) q × (is_unmarked (first_entry es q) ≡ true)
-    old_back has = let p = (so q).0 has in (among_left before (k ∷ []) q p.0, p.1)
+pub to_mark_first : (es : List Entry) (names ms : List (List ℕ)) → ms ≡ [] → AreToMark es names [] ms
+to_mark_first es names ms none k = ((λ among. absurd (subst (λ ks. Among ks k) none among)), (λ p. absurd p.0))
 
-    back : (t : Bool) → is_unmarked (first_entry es k) ≡ t → (c : Bool) → eq_by_cmp name_cmp k q ≡ c → cond (t && c) true (contains name_cmp old q) ≡ true → Among (before ++ k ∷ []) q × (is_unmarked (first_entry es q) ≡ true)
-    back true unmarked true tied has = let same : k ≡ q = tied_name k q tied in (among_right before (k ∷ []) q (inl (sym same)), ap (λ j. is_unmarked (first_entry es j)) (sym same) ∙ unmarked)
-    back true unmarked false tied has = old_back has
-    back false marked c tied has = old_back has
-
-    there : (t : Bool) → is_unmarked (first_entry es k) ≡ t → (c : Bool) → eq_by_cmp name_cmp k q ≡ c → Among (before ++ k ∷ []) q × (is_unmarked (first_entry es q) ≡ true) → cond (t && c) true (contains name_cmp old q) ≡ true
-    there true unmarked true tied p = refl
-    there true unmarked false tied p = elim (among_append before (k ∷ []) q p.0) [
-      | inl was ↦ (so q).1 (was, p.1)
-      | inr here ↦ elim here [
-        | inl same ↦ (let e : false ≡ true = sym tied ∙ (ap (eq_by_cmp name_cmp k) same ∙ (eq_by_cmp_equiv nat_list_cmp_total).refl k) in cc)
-        | inr nowhere ↦ absurd nowhere
-      ]
+pub to_mark_more : (es : List Entry) (names before : List (List ℕ)) (n : List ℕ) (old new : List (List ℕ)) → AreToMark es names before old → PushesToMark es names old new n → AreToMark es names (before ++ n ∷ []) new
+to_mark_more es names before n old new so (inl (marks, is)) k = subst (λ ks. Among ks k ↔ (Among (before ++ n ∷ []) k × IsToMark es names k)) (sym is) (
+  (λ among. elim (among_append old (n ∷ []) k among) [
+    | inl was ↦ (let p = (so k).0 was in (among_left before (n ∷ []) k p.0, p.1))
+    | inr here ↦ elim here [
+      | inl same ↦ (among_right before (n ∷ []) k (inl same), subst (IsToMark es names) (sym same) marks)
+      | inr nowhere ↦ absurd nowhere
     ]
-    there false marked c tied p = elim (among_append before (k ∷ []) q p.0) [
-      | inl was ↦ (so q).1 (was, p.1)
-      | inr here ↦ elim here [
-        | inl same ↦ (let e : false ≡ true = sym marked ∙ (ap (λ j. is_unmarked (first_entry es j)) (sym same) ∙ p.1) in cc)
-        | inr nowhere ↦ absurd nowhere
-      ]
+  ]),
+  (λ p. elim (among_append before (n ∷ []) k p.0) [
+    | inl was ↦ among_left old (n ∷ []) k ((so k).1 (was, p.1))
+    | inr here ↦ among_right old (n ∷ []) k here
+  ]),
+)
+to_mark_more es names before n old new so (inr (not_so, is)) k = subst (λ ks. Among ks k ↔ (Among (before ++ n ∷ []) k × IsToMark es names k)) (sym is) (
+  (λ among. let p = (so k).0 among in (among_left before (n ∷ []) k p.0, p.1)),
+  (λ p. elim (among_append before (n ∷ []) k p.0) [
+    | inl was ↦ (so k).1 (was, p.1)
+    | inr here ↦ elim here [
+      | inl same ↦ absurd (not_so (subst (IsToMark es names) same p.1))
+      | inr nowhere ↦ absurd nowhere
     ]
+  ]),
+)
 
-keys_among : (ks : List (List ℕ)) (q : List ℕ) → list_any (is_at (name_cmp q)) ks ≡ true → Among ks q
-keys_among [] q is = cc
-keys_among (k ∷ ks) q is = on (eq_by_cmp name_cmp q k) refl is (keys_among ks q)
-  where
-    on : (t : Bool) → eq_by_cmp name_cmp q k ≡ t → (t || list_any (is_at (name_cmp q)) ks) ≡ true → (list_any (is_at (name_cmp q)) ks ≡ true → Among ks q) → Among (k ∷ ks) q
-    on true tied is rest = inl (tied_name q k tied)
-    on false tied is rest = inr (rest is)
+-- in name order, each once
 
-among_keys : (ks : List (List ℕ)) (q : List ℕ) → Among ks q → list_any (is_at (name_cmp q)) ks ≡ true
-among_keys [] q nowhere = absurd nowhere
-among_keys (k ∷ ks) q (inl same) = ap (λ t. (t || list_any (is_at (name_cmp q)) ks)) (ap (eq_by_cmp name_cmp q) (sym same) ∙ (eq_by_cmp_equiv nat_list_cmp_total).refl q)
-among_keys (k ∷ ks) q (inr later) = on (eq_by_cmp name_cmp q k) (among_keys ks q later)
-  where
-    on : (t : Bool) → list_any (is_at (name_cmp q)) ks ≡ true → (t || list_any (is_at (name_cmp q)) ks) ≡ true
-    on true is = refl
-    on false is = is
+at_among : (ks : List (List ℕ)) (k : List ℕ) (i : ℕ) → i < length ks → get_or ks i k ≡ k → Among ks k
+at_among [] k i below is = absurd (omega arith)
+at_among (j ∷ js) k zero below is = inl (sym is)
+at_among (j ∷ js) k (suc i) below is = inr (at_among js k i (omega arith) is)
 
--- what leads to a changed name and isn't stale yet is to be marked
-marked_by : (K : Kept) (b : Book) (k : List ℕ) (o : Option Entry) → first_entry K.entries k ≡ o → is_unmarked o ≡ true → LeadsToChange (kept_view K) b k → IsMarked (kept_view K) b k
-marked_by K b k None is unmarked l = cc
-marked_by K b k (Some e) is unmarked l = record { entry = e; kept = is; unmarked = off e.stale unmarked; name = l.name; leads = l.leads; changed = l.changed }
-  where
-    off : (t : Bool) → not t ≡ true → t ≡ false
-    off true h = cc
-    off false h = refl
+contains_among : (ks : List (List ℕ)) (k : List ℕ) → Contains ks k → Among ks k
+contains_among ks k c = at_among ks k c.0 c.1 c.2
 
-pub all_marked : (K : Kept) (b : Book) (rs : List (List ℕ)) (s : BTreeSet (List ℕ)) (ms : List (List ℕ)) → AreReached (kept_view K) b rs → AreUnmarked K.entries rs s → IsStrictlySortedBy name_cmp s.keys → ms ≡ s.keys → IsListOf (IsMarked (kept_view K) b) ms
-all_marked K b rs s ms reached unmarked rising is = subst (IsListOf (IsMarked (kept_view K) b)) (sym is) (record {
-  rising = rising;
-  only = λ k among. let p = (unmarked k).0 (among_keys s.keys k among) in marked_by K b k (first_entry K.entries k) refl p.1 (reached.only k p.0);
-  each = λ k m. keys_among s.keys k ((unmarked k).1 (reached.each k (record { name = m.name; leads = m.leads; changed = m.changed }), ap is_unmarked m.kept ∙ ap not m.unmarked));
+among_contains : (ks : List (List ℕ)) (k : List ℕ) → Among ks k → Contains ks k
+among_contains [] k nowhere = absurd nowhere
+among_contains (j ∷ js) k (inl same) = (zero, omega arith, sym same)
+among_contains (j ∷ js) k (inr later) = let c = among_contains js k later in let below = c.1 in (suc c.0, omega arith, c.2)
+
+-- a list in name order, and this without what stands there twice
+pub record IsInOrder (ms sorted listed : List (List ℕ)) : Type 0 where
+  pub permutation : IsPermutation ms sorted
+  pub rising : IsSorted name_cmp sorted
+  pub once : IsFiltered (DiffersFromLast name_eq) [] sorted listed
+
+in_order : (ms sorted listed : List (List ℕ)) → IsInOrder ms sorted listed → IsListOf (Among ms) listed
+in_order ms sorted listed o = let is = dedup_is name_eq sorted listed o.once in subst (IsListOf (Among ms)) (sym is) (record {
+  rising = IsStrictlySortedBy-dedup nat_list_cmp_total texts_ties sorted o.rising;
+  only = λ k among. contains_among ms k (Contains-permutation sorted ms k (IsPermutation-sym ms sorted o.permutation) (Contains-from_dedup name_eq sorted k (among_contains (dedup name_eq sorted) k among)));
+  each = λ k among. contains_among (dedup name_eq sorted) k (Contains-dedup nat_list_eq_equiv name_eq_is sorted k (Contains-permutation ms sorted k o.permutation (among_contains ms k among)));
 })
 
-pub no_names : (ns : List (List ℕ)) → (length ns == 0) ≡ true → ns ≡ []
+-- of all that is reached from the changed names those are the marks
+
+module _ (K : Kept) (b : Book) (names rs : List (List ℕ)) (changed : AreChanged (kept_view K) b names) (reached : AreReached K names rs) where
+  marked : (k : List ℕ) → IsToMark K.entries rs k → IsMarked (kept_view K) b k
+  marked k m =
+      let l = leads_further (kept_view K) names k m.meets.name (need m.entry m.kept m.meets.needed) (reached.spreads.only m.meets.name m.meets.among) in
+      record { entry = m.entry; kept = m.kept; unmarked = m.unmarked; name = l.name; leads = l.leads; changed = changed.only l.name l.among }
+
+  reached_back : (k n : List ℕ) → Leads (kept_view K) k n → Among names n → Among rs k
+  reached_back k n (need e kept among) named = reached.closed k e kept (record { name = n; needed = among; among = reached.spreads.stays n named })
+  reached_back k n (on {i = i} e kept among leads) named = reached.closed k e kept (record { name = i; needed = among; among = reached_back i n leads named })
+
+  meets_back : (k n : List ℕ) (e : Entry) → (kept_view K).entries k ≡ Some e → Leads (kept_view K) k n → Among names n → Meets e.needs rs
+  meets_back k n e kept (need f found among) named =
+      let both : Some f ≡ Some e = sym found ∙ kept in
+      let same : f ≡ e = cc in
+      record { name = n; needed = subst (λ (x : Entry). Among x.needs n) same among; among = reached.spreads.stays n named }
+  meets_back k n e kept (on {i = i} f found among leads) named =
+      let both : Some f ≡ Some e = sym found ∙ kept in
+      let same : f ≡ e = cc in
+      record { name = i; needed = subst (λ (x : Entry). Among x.needs i) same among; among = reached_back i n leads named }
+
+  to_mark : (k : List ℕ) → IsMarked (kept_view K) b k → Among rs k × IsToMark K.entries rs k
+  to_mark k m =
+      let named = changed.each m.name m.changed in
+      (reached_back k m.name m.leads named, record { entry = m.entry; kept = m.kept; unmarked = m.unmarked; meets = meets_back k m.name m.entry m.kept m.leads named })
+
+  pub all_marked : (ms sorted listed result : List (List ℕ)) → AreToMark K.entries rs rs ms → IsInOrder ms sorted listed → result ≡ listed → IsListOf (IsMarked (kept_view K) b) result
+  all_marked ms sorted listed result marks o is = let l = in_order ms sorted listed o in subst (IsListOf (IsMarked (kept_view K) b)) (sym is) (record {
+    rising = l.rising;
+    only = λ k among. marked k ((marks k).0 (l.only k among)).1;
+    each = λ k m. l.each k ((marks k).1 (to_mark k m));
+  })
+
+pub no_names : (ns : List (List ℕ)) → length ns ≡ 0 → ns ≡ []
 no_names [] is = refl
-no_names (n ∷ ns) is = let e : true ≡ false = sym is ∙ eqb-suc-zero (length ns) in cc
+no_names (n ∷ ns) is = absurd (omega arith)
 
 nil_rising : IsStrictlySortedBy name_cmp []
 unfolding IsStrictlySortedBy

@@ -1,14 +1,14 @@
 -- Lists of names to which names are put, each once.
-use Rattle.std.proofs.Common.{◌≡◌, ◌⊎◌, ℕ, suc, zero, ◌<◌, ◌≤◌, Bool, true, false, ◌||◌, cond, List, [], ◌∷◌, ◌++◌, length, Option, Some, None, slice_get, take, add-one, ◌+◌, refl, ap, sym, ◌∙◌, subst, inl, inr, arith}
+use Rattle.std.proofs.Common.{◌≡◌, ◌⊎◌, ℕ, suc, zero, ◌<◌, Bool, true, false, ◌||◌, cond, List, [], ◌∷◌, ◌++◌, length, Some, slice_get, take, add-one, ◌+◌, refl, ap, sym, ◌∙◌, subst, inl, inr, arith}
 use Rattle.std.specs.List.{list_any}
 use Rattle.indexmap.specs.IndexSet.{insert_key}
 use Rattle.carte_value.specs.Names.{name_eq}
-use Rattle.carte_value.specs.Truths.{Among, NoneTwice}
-use Rattle.carte_value.proofs.Members.{among_append, among_left, among_right, apart_append}
+use Rattle.carte_value.specs.Truths.{Among}
+use Rattle.carte_value.proofs.Members.{among_append, among_left, among_right}
 use Rattle.carte_record.proofs.Names.{name_eq_is, name_eq_self}
 use Rattle.carte_mark.specs.Puts.{put_all}
 
-any_among : (rs : List (List ℕ)) (k : List ℕ) → list_any (name_eq k) rs ≡ true → Among rs k
+pub any_among : (rs : List (List ℕ)) (k : List ℕ) → list_any (name_eq k) rs ≡ true → Among rs k
 any_among [] k is = cc
 any_among (r ∷ rs) k is = on (name_eq k r) refl is (any_among rs k)
   where
@@ -16,14 +16,14 @@ any_among (r ∷ rs) k is = on (name_eq k r) refl is (any_among rs k)
     on true same is rest = inl (name_eq_is k r same)
     on false same is rest = inr (rest is)
 
-none_among : (rs : List (List ℕ)) (k : List ℕ) → list_any (name_eq k) rs ≡ false → ¬ (Among rs k)
-none_among [] k is h = h
-none_among (r ∷ rs) k is h = on (name_eq k r) refl is (none_among rs k) h
+pub among_any : (rs : List (List ℕ)) (k : List ℕ) → Among rs k → list_any (name_eq k) rs ≡ true
+among_any [] k nowhere = absurd nowhere
+among_any (r ∷ rs) k (inl same) = ap (λ t. (t || list_any (name_eq k) rs)) (ap (name_eq k) (sym same) ∙ name_eq_self k)
+among_any (r ∷ rs) k (inr later) = on (name_eq k r) (among_any rs k later)
   where
-    on : (t : Bool) → name_eq k r ≡ t → (t || list_any (name_eq k) rs) ≡ false → (list_any (name_eq k) rs ≡ false → ¬ (Among rs k)) → Among (r ∷ rs) k → ⊥
-    on true same is rest h = cc
-    on false same is rest (inl here) = (let e : false ≡ true = sym same ∙ (ap (name_eq k) (sym here) ∙ name_eq_self k) in cc)
-    on false same is rest (inr later) = rest is later
+    on : (t : Bool) → list_any (name_eq k) rs ≡ true → (t || list_any (name_eq k) rs) ≡ true
+    on true is = refl
+    on false is = is
 
 abbrev pub put : List (List ℕ) → List ℕ → List (List ℕ)
 put rs k = insert_key name_eq rs k
@@ -56,16 +56,6 @@ one_there rs k = on (list_any (name_eq k) rs) refl
     on true is = any_among rs k is
     on false is = among_right rs (k ∷ []) k (inl refl)
 
-one_once : (rs : List (List ℕ)) (k : List ℕ) → NoneTwice rs → NoneTwice (put rs k)
-one_once rs k once = on (list_any (name_eq k) rs) refl
-  where
-    on : (t : Bool) → list_any (name_eq k) rs ≡ t → NoneTwice (cond t rs (rs ++ k ∷ []))
-    on true is = once
-    on false is = apart_append rs (k ∷ []) once ((λ h. h), tt) (λ j among here. elim here [
-      | inl same ↦ none_among rs k is (subst (Among rs) same among)
-      | inr nowhere ↦ nowhere
-    ])
-
 get_left : (rs ks : List (List ℕ)) (i : ℕ) (q : List ℕ) → slice_get rs i ≡ Some q → slice_get (rs ++ ks) i ≡ Some q
 get_left [] ks i q is = cc
 get_left (r ∷ rs) ks zero q is = is
@@ -97,10 +87,6 @@ pub put_there : (rs ks : List (List ℕ)) (j : List ℕ) → Among ks j → Amon
 put_there rs [] j nowhere = absurd nowhere
 put_there rs (k ∷ ks) j (inl same) = subst (Among (put_all (put rs k) ks)) (sym same) (put_stays (put rs k) ks k (one_there rs k))
 put_there rs (k ∷ ks) j (inr later) = put_there (put rs k) ks j later
-
-pub put_once : (rs ks : List (List ℕ)) → NoneTwice rs → NoneTwice (put_all rs ks)
-put_once rs [] once = once
-put_once rs (k ∷ ks) once = put_once (put rs k) ks (one_once rs k once)
 
 pub put_get : (rs ks : List (List ℕ)) (i : ℕ) (q : List ℕ) → slice_get rs i ≡ Some q → slice_get (put_all rs ks) i ≡ Some q
 put_get rs [] i q is = is

@@ -1,9 +1,11 @@
--- Which keys lead to a changed name.
-use Rattle.std.specs.Prelude.{ℕ, ◌≡◌, Bool, false, not, List, Option, Some, None}
+-- Which names have changed, and which keys lead to one of these.
+use Rattle.std.specs.Prelude.{ℕ, ◌≡◌, ◌⊎◌, Bool, false, not, List, Option, Some, None}
 use Rattle.carte_value.specs.declared.digest.Digest.{Digest}
+use Rattle.carte_value.specs.declared.link.Link.{Link}
 use Rattle.carte_value.specs.Truths.{Among}
 use Rattle.carte_book.specs.Book.{Book}
 use Rattle.carte_record.specs.Kept.{SomeKept}
+use Rattle.carte_record.specs.declared.entry.Entry.{Entry}
 use Rattle.carte_sound.specs.Begun.{is_digest}
 use Rattle.carte_sound.specs.Marks.{Leads, IsChanged}
 
@@ -17,12 +19,43 @@ pub record AreChanged (K : SomeKept) (b : Book) (ns : List (List ℕ)) : Type 0 
   pub only : (q : List ℕ) → Among ns q → IsChanged K b q
   pub each : (q : List ℕ) → IsChanged K b q → Among ns q
 
-pub record LeadsToChange (K : SomeKept) (b : Book) (k : List ℕ) : Type 0 where
+-- besides what was there at most the name of this link, and that where it has changed and this is what it was seen with
+pub record AddsChanged (K : SomeKept) (b : Book) (l : Link) (old new : List (List ℕ)) : Type 0 where
+  pub only : (q : List ℕ) → Among new q → Among old q ⊎ IsChanged K b q
+  pub stays : (q : List ℕ) → Among old q → Among new q
+  pub there : K.seen l.name ≡ Some l.digest → IsChanged K b l.name → Among new l.name
+
+-- a key that leads to one of these names
+pub record LeadsTo (K : SomeKept) (names : List (List ℕ)) (k : List ℕ) : Type 0 where
   pub name : List ℕ
   pub leads : Leads K k name
-  pub changed : IsChanged K b name
+  pub among : Among names name
 
--- exactly the keys that lead to one
-pub record AreReached (K : SomeKept) (b : Book) (rs : List (List ℕ)) : Type 0 where
-  pub only : (k : List ℕ) → Among rs k → LeadsToChange K b k
-  pub each : (k : List ℕ) → LeadsToChange K b k → Among rs k
+-- what was there, and besides only keys that lead to it
+pub record Spreads (K : SomeKept) (old new : List (List ℕ)) : Type 0 where
+  pub only : (k : List ℕ) → Among new k → Among old k ⊎ LeadsTo K old k
+  pub stays : (k : List ℕ) → Among old k → Among new k
+
+-- one of the needs is there
+pub record Meets (needs names : List (List ℕ)) : Type 0 where
+  pub name : List ℕ
+  pub needed : Among needs name
+  pub among : Among names name
+
+-- a key whose entry needs one of these names
+pub record IsUser (K : SomeKept) (names : List (List ℕ)) (k : List ℕ) : Type 0 where
+  pub entry : Entry
+  pub kept : K.entries k ≡ Some entry
+  pub meets : Meets entry.needs names
+
+-- the key is there where its entry needs what is there
+abbrev pub IsClosedAt : SomeKept → List (List ℕ) → List ℕ → Type 0
+IsClosedAt K names k = (e : Entry) → K.entries k ≡ Some e → Meets e.needs names → Among names k
+
+abbrev pub IsClosed : SomeKept → List (List ℕ) → Type 0
+IsClosed K names = (k : List ℕ) → IsClosedAt K names k
+
+-- At most keys that lead there were put there; where the answer is no, none was.
+pub record PutsMore (K : SomeKept) (old new : List (List ℕ)) (more : Bool) : Type 0 where
+  pub spreads : Spreads K old new
+  pub same : more ≡ false → new ≡ old

@@ -1,40 +1,43 @@
-ghost use Rattle.std.specs.Prelude.{◌≡◌, ◌∷◌, ◌++◌, [], IfOk, OnOk, if◌then◌else◌};
+ghost use Rattle.std.specs.Prelude.{◌≡◌, IfOk, OnOk};
 ghost use Rattle.carte_book.specs.Book.{book_view};
 ghost use Rattle.carte_record.specs.Kept.{kept_view};
 ghost use Rattle.carte_record.specs.Lookups.{first_link};
 ghost use Rattle.carte_sound.specs.Begun.{is_digest};
 ghost use Rattle.carte_sound.specs.Marks.{present};
-ghost use Rattle.carte_mark.specs.Reached.{has_changed, AreChanged};
+ghost use Rattle.carte_mark.specs.Reached.{has_changed, AreChanged, AddsChanged};
 
+use crate::set::put;
 use carte_book::{Book, Looked};
 use carte_record::{Kept, Seen};
-use carte_value::{Digest, Name, Names, NoMemory};
+use carte_value::{Digest, Link, Name, NoMemory};
+use indexmap::IndexSet;
 use std::alloc::Global;
 
 /// The names that were seen with a digest that they haven't now.
-pub(crate) fn changed(alloc: Global, kept: &Kept, book: &Book) -> Result<Names, NoMemory>
-    ensures { IfOk result (AreChanged (kept_view kept.now) (book_view book.now)) }
+pub(crate) fn changed(alloc: Global, kept: &Kept, book: &Book) -> Result<IndexSet<Name>, NoMemory>
+    ensures { IfOk result (λ names. AreChanged (kept_view kept.now) (book_view book.now) names.keys) }
 {
-    let mut names = Names::new(alloc);
+    let mut names = IndexSet::new(alloc);
     for link in kept.seen.as_slice() {
-        add_changed(alloc, &kept.seen, book, &link.name, &mut names)?;
+        add_changed(alloc, kept, book, link, &mut names)?;
     }
     Ok(names)
 }
 
+// Of a name that has several links the first counts. It is looked up only where the link's own digest isn't the present one.
 fn add_changed(
     alloc: Global,
-    seen: &Seen,
+    kept: &Kept,
     book: &Book,
-    name: &Name,
-    names: &mut Names,
+    link: &Link,
+    names: &mut IndexSet<Name>,
 ) -> Result<(), NoMemory>
-    ensures { OnOk result (names.new ≡ (if has_changed (first_link seen.now name.now) (present (book_view book.now) name.now) then names.old ++ name.now ∷ [] else names.old)) }
+    ensures { OnOk result (AddsChanged (kept_view kept.now) (book_view book.now) link.now names.old.keys names.new.keys) }
 {
-    if has_changed(seen, book, name) {
-        return names.push(name.copy(alloc)?);
+    if is_present(book, &link.name, &link.digest) || !has_changed(&kept.seen, book, &link.name) {
+        return Ok(());
     }
-    Ok(())
+    put(alloc, &link.name, names)
 }
 
 fn has_changed(seen: &Seen, book: &Book, name: &Name) -> bool

@@ -1,23 +1,34 @@
 //! The marking: which entries a build marks stale, and what it begins with.
 //!
 //! A name has changed where an input was seen with a digest that it hasn't now. A key is marked where its entry isn't
-//! stale yet and leads to a changed name, by needs of needs. The marks are found backwards, from the changed names over
-//! a table of the keys that need each name, so each need of each entry is looked at once; where no name has changed the
-//! table isn't made. There is no recursion: the keys reached so far are also the queue of those whose users are to come.
+//! stale yet and leads to a changed name, by needs of needs. One set of names grows from the changed names: passes over
+//! the entries put the key of each that needs a name of the set. A build finishes needs first, so most entries stand
+//! behind those that they need, and one pass puts all; a second one over those before the last key that was put shows
+//! that none is missing. Entries in a worse order would need a pass for each step of the longest chain: where two rounds of
+//! passes weren't enough, the set goes on over a table of the keys that need each name, and is itself the queue of the
+//! names whose users are to come. There is no recursion, and where no name has changed no entry is looked at.
+//!
+//! The set holds the changed names beside the keys that are reached, so that a need is looked up once. A changed name may
+//! have an entry without leading to a change; once the set is closed, the keys that lead to one are those whose entries
+//! need a name of the set, so this is asked again of each that is to be marked. The marks are sorted once, at the end.
 //!
 //! The contract is exact for any kept information, sound or not: marks are the list of what `IsMarked` says, in name
 //! order. What a build begins with is lent where nothing is marked, so a build that finds nothing changed copies nothing.
 //! Under other rules it begins with nothing, and nothing is marked.
 //!
-//! Turned down: a walk from each entry down to its inputs, which goes over shared needs again and again; and marks kept
-//! beside the entries, which every reader of an entry would have to look at.
+//! Turned down: the table from the start, which costs several times the passes; a walk from each entry down to its inputs,
+//! which goes over shared needs again and again; a tree of the marks, dearer than one sort; and marks kept beside the
+//! entries, which every reader of an entry would have to look at.
 #![tactic(auto)]
 
 mod base;
 mod changed;
 mod marking;
+mod pass;
 mod reach;
+mod set;
 mod users;
+mod walk;
 
 pub use base::{Base, Begun, begin};
 pub use marking::mark;

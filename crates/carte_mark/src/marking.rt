@@ -1,21 +1,18 @@
-ghost use Rattle.std.specs.Prelude.{◌≡◌, IfOk, OnOk};
-ghost use Rattle.std.specs.BTreeSet.{IsOrdered};
-ghost use Rattle.carte_value.specs.Names.{name_cmp};
+ghost use Rattle.std.specs.Prelude.{◌≡◌, ◌↔◌, true, IfOk, OnOk};
 ghost use Rattle.carte_value.specs.Truths.{IsListOf};
 ghost use Rattle.carte_book.specs.Book.{book_view};
 ghost use Rattle.carte_record.specs.Kept.{kept_view};
-ghost use Rattle.carte_record.specs.Lookups.{first_entry};
 ghost use Rattle.carte_sound.specs.Marks.{IsMarked};
-ghost use Rattle.carte_mark.specs.Marking.{is_unmarked, PutsIf, AreUnmarked};
+ghost use Rattle.carte_mark.specs.Marking.{IsToMark, PushesToMark, AreToMark};
 
 use crate::changed::changed;
 use crate::reach::reached;
+use crate::set::meets;
 use carte_book::Book;
 use carte_record::{Entries, Kept};
 use carte_value::{Name, Names, NoMemory};
 use indexmap::IndexSet;
 use std::alloc::Global;
-use std::collections::BTreeSet;
 
 /// The keys, in name order, whose entries aren't stale and lead to a name that was seen with a digest that it hasn't now.
 pub fn mark(alloc: Global, kept: &Kept, book: &Book) -> Result<Names, NoMemory>
@@ -25,62 +22,57 @@ pub fn mark(alloc: Global, kept: &Kept, book: &Book) -> Result<Names, NoMemory>
     if changed.is_empty() {
         return Ok(Names::new(alloc));
     }
-    let reached = reached(alloc, kept, &changed)?;
-    let marks = unmarked(alloc, &kept.entries, &reached)?;
+    let reached = reached(alloc, kept, changed)?;
+    let mut marks = to_mark(alloc, &kept.entries, &reached)?;
+    marks.sort_unstable();
+    marks.dedup();
     listed(alloc, marks)
 }
 
-fn unmarked(
+fn to_mark(
     alloc: Global,
     entries: &Entries,
     reached: &IndexSet<Name>,
-) -> Result<BTreeSet<Name>, NoMemory>
-    ensures unmarked { IfOk result (AreUnmarked entries.now reached.now.keys) }
-    ensures rising { IfOk result (IsOrdered name_cmp) }
+) -> Result<Vec<Name>, NoMemory>
+    ensures { IfOk result (λ marks. AreToMark entries.now reached.now.keys reached.now.keys marks.items) }
 {
-    let mut marks = BTreeSet::new(alloc);
-    for at in 0..reached.len() {
-        match reached.get_index(at) {
-            Some(name) => put_unmarked(alloc, entries, name, &mut marks)?,
-            None => unreachable!(),
-        }
+    let mut marks = Vec::new(alloc);
+    for name in reached.as_slice() {
+        push_to_mark(alloc, entries, reached, name, &mut marks)?;
     }
     Ok(marks)
 }
 
-fn put_unmarked(
+fn push_to_mark(
     alloc: Global,
     entries: &Entries,
+    reached: &IndexSet<Name>,
     name: &Name,
-    marks: &mut BTreeSet<Name>,
+    marks: &mut Vec<Name>,
 ) -> Result<(), NoMemory>
-    ensures puts { OnOk result (PutsIf (is_unmarked (first_entry entries.now name.now)) marks.old marks.new name.now) }
-    ensures rising { IsOrdered name_cmp marks.old → IsOrdered name_cmp marks.new }
+    ensures { OnOk result (PushesToMark entries.now reached.now.keys marks.old.items marks.new.items name.now) }
 {
-    if !is_unmarked(entries, name) {
-        return Ok(());
+    if is_to_mark(entries, reached, name) {
+        marks.push(name.copy(alloc)?)?;
     }
-    let name = name.copy(alloc)?;
-    match marks.insert(name) {
-        Ok(_) => Ok(()),
-        Err(_) => Err(NoMemory),
-    }
+    Ok(())
 }
 
-fn is_unmarked(entries: &Entries, name: &Name) -> bool
-    ensures { result ≡ is_unmarked (first_entry entries.now name.now) }
+// A changed name that is there isn't thereby a key that leads to one.
+fn is_to_mark(entries: &Entries, reached: &IndexSet<Name>, name: &Name) -> bool
+    ensures { (result ≡ true) ↔ IsToMark entries.now reached.now.keys name.now }
 {
     match entries.find(name) {
-        Some(entry) => !entry.stale,
+        Some(entry) => !entry.stale && meets(&entry.needs, reached),
         None => false,
     }
 }
 
-fn listed(alloc: Global, mut marks: BTreeSet<Name>) -> Result<Names, NoMemory>
-    ensures { IfOk result (λ names. names ≡ marks.keys) }
+fn listed(alloc: Global, marks: Vec<Name>) -> Result<Names, NoMemory>
+    ensures { IfOk result (λ names. names ≡ marks.items) }
 {
     let mut names = Names::new(alloc);
-    while let Some(name) = marks.pop_first() {
+    for name in marks {
         names.push(name)?;
     }
     Ok(names)

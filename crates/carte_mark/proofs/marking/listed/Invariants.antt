@@ -1,9 +1,5 @@
-use Rattle.std.proofs.Common.{◌≡◌, ◌++◌}
-use Rattle.std.specs.BTreeSet.{btree_set_len}
+use Rattle.std.proofs.Common.{◌≡◌}
 use Rattle.carte_mark.proofs.marking.listed.Given as goal
 
 abbrev pub invariant-loop-name : goal.invariant-loop-name
-invariant-loop-name l = l.names ++ l.marks.keys ≡ l.initial.marks.keys
-
-abbrev pub decreases-loop-name : goal.decreases-loop-name
-decreases-loop-name l = btree_set_len l.marks
+invariant-loop-name l = l.names ≡ l.yielded

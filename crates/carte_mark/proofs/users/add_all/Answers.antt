@@ -1,4 +1,4 @@
-use Rattle.std.proofs.Common.{◌≡◌, ◌<◌, ◌≤◌, ℕ, List, [], ◌∷◌, ◌++◌, Some, length, map, take, slice_get, option_copied, ap, sym, ◌∙◌, subst, rules, refl, arith}
+use Rattle.std.proofs.Common.{◌<◌, ℕ, List, [], ◌∷◌, ◌++◌, length, take, ap, sym, ◌∙◌, subst, rules}
 use Rattle.std.proofs.lemmas.List.{take_more}
 use Rattle.std.specs.HashMap.{get}
 use Rattle.carte_value.specs.Names.{name_eq}

@@ -1,4 +1,4 @@
-use Rattle.std.proofs.Common.{◌≡◌, ℕ, List, Result, Ok, Err, OnOk, sym, ◌∙◌, ap, option_copied}
+use Rattle.std.proofs.Common.{ℕ, List, Result, Ok, Err, OnOk, sym, ◌∙◌, ap, option_copied}
 use Rattle.std.specs.HashMap.{get}
 use Rattle.carte_value.specs.Names.{name_eq}
 use Rattle.carte_mark.specs.Tables.{keys_in}

@@ -1,10 +1,10 @@
-use Rattle.std.proofs.Common.{◌≡◌, ◌<◌, ◌≤◌, ℕ, List, [], ◌∷◌, ◌++◌, Some, length, map, take, slice_get, option_copied, ap, sym, ◌∙◌, subst, rules, refl, arith}
+use Rattle.std.proofs.Common.{◌<◌, [], ◌∷◌, ◌++◌, length, take, ap, sym, ◌∙◌, rules}
 use Rattle.std.proofs.lemmas.List.{take_more}
 use Rattle.indexmap.specs.IndexSet.{insert_key}
 use Rattle.carte_value.specs.Names.{name_eq}
 use Rattle.carte_mark.specs.Puts.{put_all}
 use Rattle.carte_mark.proofs.Putting.{put_end}
-use Rattle.carte_mark.proofs.reach.put_each.Goals as goal
+use Rattle.carte_mark.proofs.walk.put_each.Goals as goal
 
 pub loop-key-preserved : goal.loop-key-preserved
 loop-key-preserved c =

@@ -1,6 +1,6 @@
 use Rattle.std.proofs.Common.{◌≡◌, take}
 use Rattle.carte_mark.specs.Puts.{put_all}
-use Rattle.carte_mark.proofs.reach.put_each.Given as goal
+use Rattle.carte_mark.proofs.walk.put_each.Given as goal
 
 abbrev pub invariant-loop-key : goal.invariant-loop-key
 invariant-loop-key l = l.reached.keys ≡ put_all l.initial.reached.keys (take l.key-index l.key-items)

@@ -1,0 +1,105 @@
+ghost use Rattle.std.specs.Prelude.{◌≡◌, ◌↔◌, ◌<◌, ◌+◌, ◌^◌, ℕ, true, List, Some, slice_get, IfOk, OnOk};
+ghost use Rattle.carte_record.specs.Kept.{kept_view};
+ghost use Rattle.carte_record.specs.declared.entry.Entry.{Entry as SomeEntry};
+ghost use Rattle.carte_mark.specs.Passes.{Passes};
+ghost use Rattle.carte_mark.specs.Reached.{PutsMore, IsClosedAt, IsUser};
+
+use crate::set::{holds, meets, put};
+use carte_record::{Entry, Kept};
+use carte_value::{Name, NoMemory};
+use indexmap::IndexSet;
+use std::alloc::Global;
+
+/// A pass over the entries before a place: puts the keys of those that need what is there. Tells the place behind the
+/// last one whose key was put, or 0.
+pub(crate) fn pass(
+    alloc: Global,
+    kept: &Kept,
+    end: usize,
+    names: &mut IndexSet<Name>,
+) -> Result<usize, NoMemory>
+    ensures { IfOk result (λ last. Passes kept.now end last names.old.keys names.new.keys) }
+{
+    let mut last = 0;
+    for at in 0..end {
+        last = pass_at(alloc, kept, at, last, names)?;
+    }
+    Ok(last)
+}
+
+fn pass_at(
+    alloc: Global,
+    kept: &Kept,
+    at: usize,
+    last: usize,
+    names: &mut IndexSet<Name>,
+) -> Result<usize, NoMemory>
+    requires { at + 1 < 2 ^ 64 }
+    ensures { IfOk result (λ last'. (ns : List (List ℕ)) → Passes kept.now at last ns names.old.keys → Passes kept.now (at + 1) last' ns names.new.keys) }
+{
+    let more = put_user_at(alloc, kept, at, names)?;
+    if more {
+        return Ok(at + 1);
+    }
+    Ok(last)
+}
+
+fn put_user_at(
+    alloc: Global,
+    kept: &Kept,
+    at: usize,
+    names: &mut IndexSet<Name>,
+) -> Result<bool, NoMemory>
+    ensures puts { IfOk result (PutsMore (kept_view kept.now) names.old.keys names.new.keys) }
+    ensures closed { OnOk result ((e : SomeEntry) → slice_get kept.now.entries at ≡ Some e → (kept_view kept.now).entries e.key ≡ Some e
+        → IsClosedAt (kept_view kept.now) names.new.keys e.key) }
+{
+    match kept.entries.get(at) {
+        Some(entry) => put_user(alloc, kept, entry, names),
+        None => Ok(false),
+    }
+}
+
+fn put_user(
+    alloc: Global,
+    kept: &Kept,
+    entry: &Entry,
+    names: &mut IndexSet<Name>,
+) -> Result<bool, NoMemory>
+    ensures puts { IfOk result (PutsMore (kept_view kept.now) names.old.keys names.new.keys) }
+    ensures closed { OnOk result ((kept_view kept.now).entries entry.now.key ≡ Some entry.now → IsClosedAt (kept_view kept.now) names.new.keys entry.now.key) }
+{
+    if !meets(&entry.needs, names) {
+        return Ok(false);
+    }
+    if holds(names, &entry.key) {
+        return Ok(false);
+    }
+    put_key(alloc, kept, &entry.key, names)
+}
+
+// A key may have several entries, and the first one counts.
+fn put_key(
+    alloc: Global,
+    kept: &Kept,
+    key: &Name,
+    names: &mut IndexSet<Name>,
+) -> Result<bool, NoMemory>
+    ensures puts { IfOk result (PutsMore (kept_view kept.now) names.old.keys names.new.keys) }
+    ensures closed { OnOk result (IsClosedAt (kept_view kept.now) names.new.keys key.now) }
+{
+    if needs_one(kept, key, names) {
+        put(alloc, key, names)?;
+        return Ok(true);
+    }
+    Ok(false)
+}
+
+fn needs_one(kept: &Kept, key: &Name, names: &IndexSet<Name>) -> bool
+    ensures { (result ≡ true) ↔ IsUser (kept_view kept.now) names.now.keys key.now }
+{
+    match kept.entries.find(key) {
+        Some(entry) => meets(&entry.needs, names),
+        None => false,
+    }
+}
