@@ -10,3 +10,4 @@ pub mod Marks
 pub mod Growing
 pub mod Empties
 pub mod Looked
+pub mod Unmarking

@@ -13,6 +13,8 @@ use carte_value::{Name, Names, NoMemory, Same};
 use std::alloc::Global;
 use std::marker::Model;
 
+mod unmark;
+
 /// A list of at most 2^32 - 1 entries, seen as these entries, in which a key is looked up at once.
 #[derive(Drop)]
 pub struct Entries {

@@ -29,6 +29,7 @@ mod store;
 mod table;
 mod trace;
 mod traces;
+mod unmark;
 mod way;
 
 pub use batch::Batch;

@@ -1,0 +1,6 @@
+use Rattle.std.proofs.Common.{◌≡◌, take}
+use Rattle.carte_record.specs.Unmarks.{all_unmarked}
+use Rattle.carte_record.proofs.entries.Entries.take_marks.Given as goal
+
+abbrev pub invariant-loop-key : goal.invariant-loop-key
+invariant-loop-key l = l.self ≡ all_unmarked l.initial.self (take l.key-index l.key-items)

@@ -1,0 +1,13 @@
+use Rattle.std.proofs.Common.{◌∙◌, sym, refl, true}
+use Rattle.carte_record.specs.Lookups.{is_entry_of}
+use Rattle.carte_record.specs.Unmarks.{unstaled}
+use Rattle.carte_record.proofs.Changed.{place_kept, length_changed}
+use Rattle.carte_record.proofs.entries.Entries.unmark.Goals as goal
+
+pub invariant_of-self : goal.invariant_of-self
+invariant_of-self c =
+    let passes = is_entry_of c.args.key.now in
+    let new = c.unmark.ensures passes (c.place-at.ensures ∙ c.self.invariant.1 c.args.key.now) in (
+      rw (new, length_changed passes unstaled c.self.inside.entries.items) c.self.invariant.0,
+      λ k. rw new (c.self.invariant.1 k ∙ sym (place_kept (is_entry_of k) passes unstaled c.self.inside.entries.items (λ y h. refl))),
+    )
