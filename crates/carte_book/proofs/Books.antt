@@ -1,40 +1,50 @@
 -- Books in memory beside the books that they stand for.
-use Rattle.std.proofs.Common.{◌≡◌, ℕ, suc, Bool, true, false, cond, T, ◌&&◌, List, [], ◌∷◌, length, option_map, Option, Some, BTreeMap, Less, refl, ap, sym, ◌∙◌}
+use Rattle.std.proofs.Common.{◌≡◌, ℕ, suc, ◌+◌, Bool, true, false, cond, List, [], ◌∷◌, length, option_map, Option, Some, None, is_some, refl, ap, sym, subst, ◌∙◌, arith}
 use Rattle.std.specs.Ordering.{eq_by_cmp}
 use Rattle.std.specs.Map.{lookup, keys_of}
-use Rattle.std.specs.List.{AllByRecursion}
-use Rattle.std.specs.List.Sorted.{IsStrictlySortedBy}
-use Rattle.std.specs.BTreeMap as tree
-use Rattle.std.specs.FinMap.{FinMap, from_entries, entries, get, insert, find, get-from_entries, get-from_sorted, get-insert, entries-from_sorted, same_map, slice_cmp-IsAntisymmetric, nat_cmp-IsAntisymmetric}
-use Rattle.std.specs.FinMap.Entries.{below_all, is_sorted}
+use Rattle.std.specs.List.{AllByRecursion, IsDistinct}
+use Rattle.std.specs.HashMap as hash
+use Rattle.std.specs.HashMap.{HashMap}
+use Rattle.std.specs.FinMap.{FinMap, from_entries, get, insert, len, find, get-from_entries, get-insert, len-empty, len-entries, len-insert, same_map, slice_cmp-IsAntisymmetric, nat_cmp-IsAntisymmetric}
 use Rattle.std.specs.Cmp.{eq_by_cmp_equiv}
 use Rattle.std.proofs.lemmas.Cmp.{nat_list_cmp_total}
-use Rattle.carte_value.specs.Names.{name_cmp}
+use Rattle.std.proofs.lemmas.Map.Keys.{IsDistinct-head, IsDistinct-tail}
+use Rattle.std.proofs.lemmas.Map.Text.{is_eq-slice_cmp}
+use Rattle.carte_value.specs.Names.{name_cmp, name_eq}
 use Rattle.carte_book.specs.declared.book.Item.{Item as CodeItem}
 use Rattle.carte_book.specs.declared.book.Book.{Book as CodeBook}
 use Rattle.carte_book.specs.Book.{Item, Book, default_of, or_default, content, item_view, entries_view, book_view}
 use Rattle.carte_book.specs.Edits.{keys_of as keys_of_book, with_item}
 
-abbrev pub Map : Type 0
-Map = BTreeMap (List ℕ) CodeItem
+abbrev pub Map : Type 0 → Type 0
+Map S = HashMap (List ℕ) CodeItem S
 
-viewed : (es : List (List ℕ × CodeItem)) (k : List ℕ) → find name_cmp k (entries_view es) ≡ option_map item_view (lookup (λ q. tree.is_at (name_cmp k) q) es)
+-- names are equal where their order doesn't tell them apart
+pub names_tie : name_eq ≡ eq_by_cmp name_cmp
+names_tie = λ i k q. sym (is_eq-slice_cmp k q) i
+
+-- what is found by the order of names is what is found by the names
+pub found_by : {X : Type 0} (es : List (List ℕ × X)) (k : List ℕ) → find name_cmp k es ≡ lookup (name_eq k) es
+found_by [] k = refl
+found_by (e ∷ es) k = λ i. cond (is_eq-slice_cmp k e.0 i) (Some e.1) (found_by es k i)
+
+viewed : (es : List (List ℕ × CodeItem)) (k : List ℕ) → find name_cmp k (entries_view es) ≡ option_map item_view (find name_cmp k es)
 viewed [] k = refl
 viewed (e ∷ es) k =
-    elim (eq_by_cmp name_cmp k e.0) as (λ b. cond b (Some (item_view e.1)) (find name_cmp k (entries_view es)) ≡ option_map item_view (cond b (Some e.1) (lookup (λ q. tree.is_at (name_cmp k) q) es))) [
+    elim (eq_by_cmp name_cmp k e.0) as (λ b. cond b (Some (item_view e.1)) (find name_cmp k (entries_view es)) ≡ option_map item_view (cond b (Some e.1) (find name_cmp k es))) [
       | true ↦ refl
       | false ↦ viewed es k
     ]
 
 -- the entries of a map as a book has them
-abbrev pub items_view : Map → FinMap name_cmp Item
+abbrev pub items_view : {S : Type 0} → Map S → FinMap name_cmp Item
 items_view m = from_entries (entries_view m.entries)
 
-got : (m : Map) (k : List ℕ) → get (items_view m) k ≡ option_map item_view (tree.get name_cmp m k)
-got m k = get-from_entries nat_list_cmp_total (entries_view m.entries) k ∙ viewed m.entries k
+got : {S : Type 0} (m : Map S) (k : List ℕ) → get (items_view m) k ≡ option_map item_view (hash.get name_eq m k)
+got m k = get-from_entries nat_list_cmp_total (entries_view m.entries) k ∙ viewed m.entries k ∙ ap (option_map item_view) (found_by m.entries k)
 
 -- what the map finds is what the book holds
-pub item_found : (b : CodeBook) (k : List ℕ) → get (book_view b).items k ≡ option_map item_view (tree.get name_cmp b.items k)
+pub item_found : (b : CodeBook) (k : List ℕ) → get (book_view b).items k ≡ option_map item_view (hash.get name_eq b.items k)
 item_found b k = got b.items k
 
 turned : (b : Bool) (x : CodeItem) (o : Option CodeItem) → option_map item_view (cond b (Some x) o) ≡ cond b (Some (item_view x)) (option_map item_view o)
@@ -42,41 +52,41 @@ turned true x o = refl
 turned false x o = refl
 
 -- one entry that is put
-pub one_put : (m n : Map) (k : List ℕ) (x : CodeItem) → ((q : List ℕ) → tree.get name_cmp n q ≡ cond (eq_by_cmp name_cmp k q) (Some x) (tree.get name_cmp m q)) → items_view n ≡ insert (items_view m) k (item_view x)
+pub one_put : {S : Type 0} (m n : Map S) (k : List ℕ) (x : CodeItem) → ((q : List ℕ) → hash.get name_eq n q ≡ cond (name_eq k q) (Some x) (hash.get name_eq m q)) → items_view n ≡ insert (items_view m) k (item_view x)
 one_put m n k x put = same_map nat_list_cmp_total (slice_cmp-IsAntisymmetric nat_cmp-IsAntisymmetric) _ _ (λ q.
-    got n q ∙ ap (option_map item_view) (put q) ∙ turned (eq_by_cmp name_cmp k q) x (tree.get name_cmp m q)
-    ∙ ap (λ t. cond t (Some (item_view x)) (option_map item_view (tree.get name_cmp m q))) ((eq_by_cmp_equiv nat_list_cmp_total).symm k q)
+    got n q ∙ ap (option_map item_view) (put q) ∙ turned (name_eq k q) x (hash.get name_eq m q)
+    ∙ ap (λ t. cond t (Some (item_view x)) (option_map item_view (hash.get name_eq m q))) (sym (is_eq-slice_cmp k q) ∙ (eq_by_cmp_equiv nat_list_cmp_total).symm k q)
     ∙ ap (cond (eq_by_cmp name_cmp q k) (Some (item_view x))) (sym (got m q))
     ∙ sym (get-insert nat_list_cmp_total (items_view m) k (item_view x) q))
 
-below_view : (k : List ℕ) (es : List (List ℕ × CodeItem)) → AllByRecursion (λ q. name_cmp k q ≡ Less) (keys_of es) → T (below_all name_cmp k (entries_view es))
-below_view k [] h = tt
-below_view k (e ∷ es) h = rw (h.0) (below_view k es h.1)
+-- a name that ties with none isn't found
+pub absent : {X : Type 0} (k : List ℕ) (es : List (List ℕ × X)) → AllByRecursion (λ q. eq_by_cmp name_cmp k q ≡ false) (keys_of es) → find name_cmp k es ≡ None
+absent k [] h = refl
+absent k (e ∷ es) h = rw (h.0) (absent k es h.1)
 
-sorted_view : (es : List (List ℕ × CodeItem)) → IsStrictlySortedBy name_cmp (keys_of es) → T (is_sorted name_cmp (entries_view es))
-unfolding IsStrictlySortedBy
-sorted_view [] h = tt
-sorted_view (e ∷ es) h = both (below_all name_cmp e.0 (entries_view es)) (is_sorted name_cmp (entries_view es)) (below_view e.0 es h.0) (sorted_view es h.1)
-  where
-    both : (a b : Bool) → T a → T b → T (a && b)
-    both true b p q = q
-    both false b p q = p
-
--- the book has the entries of the map, in its order
-pub entries_held : (b : CodeBook) → tree.IsOrdered name_cmp b.items → entries (book_view b).items ≡ entries_view b.items.entries
-entries_held b ordered =
-    let sorted = sorted_view b.items.entries ordered in
-    ap entries (same_map nat_list_cmp_total (slice_cmp-IsAntisymmetric nat_cmp-IsAntisymmetric) _ _ (λ q.
-    get-from_entries nat_list_cmp_total (entries_view b.items.entries) q ∙ sym (get-from_sorted name_cmp (entries_view b.items.entries) q sorted)))
-    ∙ entries-from_sorted name_cmp (entries_view b.items.entries) sorted
+counted : {X : Type 0} (es : List (List ℕ × X)) → IsDistinct (eq_by_cmp name_cmp) (keys_of es) → len (from_entries {R = name_cmp} es) ≡ length es
+counted {X = X} [] apart = len-empty name_cmp X
+counted (e ∷ es) apart =
+    let none : get (from_entries {R = name_cmp} es) e.0 ≡ None = get-from_entries nat_list_cmp_total es e.0 ∙ absent e.0 es (IsDistinct-head _ _ _ apart) in
+    let before : len (from_entries {R = name_cmp} es) ≡ length es = counted es (IsDistinct-tail _ _ _ apart) in
+    let more : len (from_entries {R = name_cmp} es) + 1 ≡ suc (length es) = omega arith in
+    len-insert nat_list_cmp_total (from_entries es) e.0 e.1 ∙ ap (λ o. cond (is_some o) (len (from_entries {R = name_cmp} es)) (len (from_entries {R = name_cmp} es) + 1)) none ∙ more
 
 length_view : (es : List (List ℕ × CodeItem)) → length (entries_view es) ≡ length es
 length_view [] = refl
 length_view (e ∷ es) = ap suc (length_view es)
 
--- as many of them
-pub keys_held : (b : CodeBook) → tree.IsOrdered name_cmp b.items → keys_of_book (book_view b) ≡ length b.items.entries
-keys_held b ordered = ap length (entries_held b ordered) ∙ length_view b.items.entries
+keys_view : (es : List (List ℕ × CodeItem)) → keys_of (entries_view es) ≡ keys_of es
+keys_view [] = refl
+keys_view (e ∷ es) = ap (λ ks. e.0 ∷ ks) (keys_view es)
+
+-- the names of a map are apart in the order of names too
+pub apart_view : (es : List (List ℕ × CodeItem)) → IsDistinct name_eq (keys_of es) → IsDistinct (eq_by_cmp name_cmp) (keys_of (entries_view es))
+apart_view es apart = subst (λ ks. IsDistinct (eq_by_cmp name_cmp) ks) (sym (keys_view es)) (subst (λ e. IsDistinct e (keys_of es)) names_tie apart)
+
+-- as many keys as entries
+pub keys_held : (b : CodeBook) → hash.IsUnique name_eq b.items → keys_of_book (book_view b) ≡ length b.items.entries
+keys_held b unique = sym (len-entries (book_view b).items) ∙ counted (entries_view b.items.entries) (apart_view b.items.entries unique) ∙ length_view b.items.entries
 
 chosen : (t : Bool) (x : Item) (o d : Option Item) → or_default (cond t (Some x) o) d ≡ cond t (Some x) (or_default o d)
 chosen true x o d = refl

@@ -1,55 +1,53 @@
 -- What a book holds fits its kind.
-use Rattle.std.proofs.Common.{◌≡◌, ℕ, true, false, cond, IsTrue, List, [], ◌∷◌, Option, Some, None, Less, Equal, Greater, Result, Ok, Err, OnOk, OnErr, refl}
-use Rattle.std.specs.BTreeMap as tree
-use Rattle.std.specs.BTreeMap.{insert_entry}
+use Rattle.std.proofs.Common.{◌≡◌, ℕ, true, false, cond, IsTrue, List, [], ◌∷◌, Option, Some, None, if◌then◌else◌, Result, Ok, Err, OnOk, OnErr, refl}
+use Rattle.std.specs.HashMap as hash
+use Rattle.indexmap.specs.IndexMap.{insert_entry}
 use Rattle.std.specs.Map.{lookup}
-use Rattle.std.specs.Ordering.{eq_by_cmp, match_ordering}
+use Rattle.std.specs.Cmp.Lexicographic.{bytes_decides}
 use Rattle.carte_value.specs.declared.kind.Kind.{Kind}
 use Rattle.carte_value.specs.declared.kind.Kind.TheVariants.{Rules, Sheet}
 use Rattle.carte_value.specs.Kinds.{is_name_of}
-use Rattle.carte_value.specs.Names.{name_cmp}
+use Rattle.carte_value.specs.Names.{name_eq}
 use Rattle.carte_book.specs.declared.book.Item.{Item as CodeItem}
 use Rattle.carte_book.specs.declared.book.Book.{Book as CodeBook}
 use Rattle.carte_book.specs.Fits.{FitsItem, Fits}
 use Rattle.carte_book.specs.Book.{default_of, content, book_view}
 use Rattle.carte_book.specs.Looked.{HasNoOthers}
 use Rattle.carte_book.proofs.Books.{Map, item_found}
-use Rattle.carte_book.proofs.Clean.{tied_name}
 
 abbrev pub Entries : Type 0
 Entries = List (List ℕ × CodeItem)
 
-pub fits_one_more : (q : Kind) (es : Entries) (k : List ℕ) (x : CodeItem) → IsTrue (is_name_of q k) → FitsItem q x → Fits q es → Fits q (insert_entry name_cmp es k x)
+pub fits_one_more : (q : Kind) (es : Entries) (k : List ℕ) (x : CodeItem) → IsTrue (is_name_of q k) → FitsItem q x → Fits q es → Fits q (insert_entry name_eq es k x)
 fits_one_more q [] k x named fits all = ((named, fits), tt)
-fits_one_more q (e ∷ es) k x named fits all = elim (name_cmp k e.0) as (λ o. Fits q (match_ordering o ((k, x) ∷ e ∷ es) ((e.0, x) ∷ es) (e ∷ insert_entry name_cmp es k x))) [
-  | Less ↦ ((named, fits), all)
-  | Equal ↦ ((all.0.0, fits), all.1)
-  | Greater ↦ (all.0, fits_one_more q es k x named fits all.1)
+fits_one_more q (e ∷ es) k x named fits all = elim (name_eq k e.0) as (λ b. Fits q (if b then (e.0, x) ∷ es else e ∷ insert_entry name_eq es k x)) [
+  | true ↦ ((all.0.0, fits), all.1)
+  | false ↦ (all.0, fits_one_more q es k x named fits all.1)
 ]
 
 -- what was put fits, and what couldn't be put changed nothing
-pub fits_put : {A B : Type 0} (q : Kind) (m n : Map) (k : List ℕ) (x : CodeItem) (r : Result A B) → IsTrue (is_name_of q k) → FitsItem q x → OnOk r (n.entries ≡ insert_entry name_cmp m.entries k x) → OnErr r (n.entries ≡ m.entries) → Fits q m.entries → Fits q n.entries
+pub fits_put : {A B S : Type 0} (q : Kind) (m n : Map S) (k : List ℕ) (x : CodeItem) (r : Result A B) → IsTrue (is_name_of q k) → FitsItem q x → OnOk r (n.entries ≡ insert_entry name_eq m.entries k x) → OnErr r (n.entries ≡ m.entries) → Fits q m.entries → Fits q n.entries
 fits_put q m n k x (Ok a) named fits put kept all = rw put (fits_one_more q m.entries k x named fits all)
 fits_put q m n k x (Err e) named fits put kept all = rw kept all
 
 -- what is found fits, at a name of the kind
-fits_found : (q : Kind) (es : Entries) (k : List ℕ) (x : CodeItem) → Fits q es → lookup (tree.is_at (name_cmp k)) es ≡ Some x → IsTrue (is_name_of q k) × FitsItem q x
+fits_found : (q : Kind) (es : Entries) (k : List ℕ) (x : CodeItem) → Fits q es → lookup (name_eq k) es ≡ Some x → IsTrue (is_name_of q k) × FitsItem q x
 fits_found q [] k x all found = cc
-fits_found q (e ∷ es) k x all found = elim (eq_by_cmp name_cmp k e.0) as (λ b. eq_by_cmp name_cmp k e.0 ≡ b → cond b (Some e.1) (lookup (tree.is_at (name_cmp k)) es) ≡ Some x → IsTrue (is_name_of q k) × FitsItem q x) [
-  | true ↦ λ tied here. let same : k ≡ e.0 = tied_name k e.0 tied in let is : e.1 ≡ x = cc in rw same (rw is at all.0)
+fits_found q (e ∷ es) k x all found = elim (name_eq k e.0) as (λ b. name_eq k e.0 ≡ b → cond b (Some e.1) (lookup (name_eq k) es) ≡ Some x → IsTrue (is_name_of q k) × FitsItem q x) [
+  | true ↦ λ tied here. let same : k ≡ e.0 = (bytes_decides k e.0).0 tied in let is : e.1 ≡ x = cc in rw same (rw is at all.0)
   | false ↦ λ apart later. fits_found q es k x all.1 later
 ] refl found
 
-pub found_fits : (b : CodeBook) (k : List ℕ) (x : CodeItem) → tree.get name_cmp b.items k ≡ Some x → FitsItem b.kind x
+pub found_fits : (b : CodeBook) (k : List ℕ) (x : CodeItem) → hash.get name_eq b.items k ≡ Some x → FitsItem b.kind x
 found_fits b k x found = (fits_found b.kind b.items.entries k x b.fits found).1
 
 pub no_others : (b : CodeBook) → HasNoOthers (book_view b)
-no_others b k other = absent (tree.get name_cmp b.items k) refl
+no_others b k other = absent (hash.get name_eq b.items k) refl
   where
     no_default : (q : Kind) → is_name_of q k ≡ false → default_of q k ≡ None
     no_default Rules h = refl
     no_default Sheet h = rw h refl
 
-    absent : (o : Option CodeItem) → tree.get name_cmp b.items k ≡ o → content (book_view b) k ≡ None
+    absent : (o : Option CodeItem) → hash.get name_eq b.items k ≡ o → content (book_view b) k ≡ None
     absent None is = rw (item_found b k) (rw is (no_default b.kind other))
     absent (Some x) is = let named = (fits_found b.kind b.items.entries k x b.fits is).0 in cc

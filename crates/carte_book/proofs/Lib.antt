@@ -3,6 +3,8 @@ pub mod Reasons
 pub mod Books
 pub mod RuleNames
 pub mod Fitting
+pub mod Ordered
+pub mod Listed
 pub mod Digests
 pub mod Orders
 pub mod Stuck

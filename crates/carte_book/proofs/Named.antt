@@ -1,7 +1,7 @@
 -- What a rule looks up are names of its book's kind.
 use Rattle.std.proofs.Common.{◌≡◌, ◌∙◌, ap, ℕ, Bool, true, false, cond, IsTrue, List, [], ◌∷◌, ◌++◌, option_map, Option, Some, None, Result, Ok, Err, refl, sym, inl, inr}
 use Rattle.std.specs.Arc.{arc_value}
-use Rattle.std.specs.BTreeMap as tree
+use Rattle.std.specs.HashMap as hash
 use Rattle.carte_value.specs.declared.kind.Kind.{Kind}
 use Rattle.carte_value.specs.declared.kind.Kind.TheVariants.{Rules, Sheet}
 use Rattle.carte_value.specs.declared.value.Value.{Value}
@@ -10,7 +10,7 @@ use Rattle.carte_value.specs.declared.area.Area.{Area}
 use Rattle.carte_value.specs.Areas.{IsArea, cells_of}
 use Rattle.carte_value.specs.Asks.{Asks, done, ask, and_then, asked, asked_on}
 use Rattle.carte_value.specs.Kinds.{is_name_of, is_text_of, name_of}
-use Rattle.carte_value.specs.Names.{name_cmp}
+use Rattle.carte_value.specs.Names.{name_eq}
 use Rattle.carte_value.specs.Truths.{Truth, Among}
 use Rattle.carte_value.proofs.Firsts.{among_firsts}
 use Rattle.carte_value.proofs.Sides.{cells_within}
@@ -149,7 +149,7 @@ mutual
 -- a rule that stands in a book is as reading makes one
 rule_named : (b : CodeBook) (k : List ℕ) (e : Tree) → content (book_view b) k ≡ Some (rule e) → IsExpr e × HasNames b.kind e
 rule_named b k e stands =
-    let found = rule_found (tree.get name_cmp b.items k) e (sym (item_found b k) ∙ rule_held (book_view b) k e stands) in
+    let found = rule_found (hash.get name_eq b.items k) e (sym (item_found b k) ∙ rule_held (book_view b) k e stands) in
     let same : Some (rule (tree_of (arc_value found.0))) ≡ Some (rule e) = ap (option_map item_view) (sym found.1) ∙ sym (item_found b k) ∙ rule_held (book_view b) k e stands in
     let one : tree_of (arc_value found.0) ≡ e = cc in
     rw (← one) (found_fits b k (RuleItem found.0) found.1)

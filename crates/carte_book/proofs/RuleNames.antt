@@ -1,14 +1,14 @@
 -- Gathering the names of rules, entry by entry.
-use Rattle.std.proofs.Common.{◌≡◌, ℕ, true, false, cond, List, [], ◌∷◌, option_map, Option, Some, None, is_some, BTreeMap, BTreeSet, Global, refl, ap, sym, ◌∙◌, inl, inr, ◌⊎◌}
+use Rattle.std.proofs.Common.{◌≡◌, ℕ, true, false, cond, List, [], ◌∷◌, option_map, Option, Some, None, is_some, BTreeSet, Global, refl, ap, sym, ◌∙◌, inl, inr, ◌⊎◌}
 use Rattle.std.specs.declared.sync.Arc.{Arc}
 use Rattle.std.specs.Arc.{arc_value}
 use Rattle.std.specs.Ordering.{eq_by_cmp}
-use Rattle.std.specs.Map.{lookup}
-use Rattle.std.specs.BTreeMap as tree
+use Rattle.std.specs.FinMap.{find}
+use Rattle.std.specs.HashMap as hash
 use Rattle.std.specs.BTreeSet.{contains}
 use Rattle.std.specs.Cmp.{eq_by_cmp_equiv}
 use Rattle.std.proofs.lemmas.Cmp.{nat_list_cmp_total}
-use Rattle.carte_value.specs.Names.{name_cmp}
+use Rattle.carte_value.specs.Names.{name_cmp, name_eq}
 use Rattle.carte_book.specs.declared.book.Item.{Item as CodeItem}
 use Rattle.carte_book.specs.declared.book.Item.TheVariants.{Input as InputItem, Rule as RuleItem}
 use Rattle.carte_tree.specs.declared.expr.Expr.{Expr}
@@ -18,33 +18,30 @@ use Rattle.carte_book.specs.declared.book.Book.{Book as CodeBook}
 use Rattle.carte_book.specs.Book.{rule, default_of, or_default, item_view, book_view}
 use Rattle.carte_book.specs.Needs.{IsRule}
 use Rattle.carte_book.specs.Looked.{HasRules, AddsRule}
-use Rattle.carte_book.proofs.Books.{item_found}
+use Rattle.carte_book.proofs.Books.{Map, item_found, found_by}
 use Rattle.carte_book.proofs.Clean.{tied_name, rule_held}
-
-abbrev pub Map : Type 0
-Map = BTreeMap (List ℕ) CodeItem
 
 abbrev pub Entries : Type 0
 Entries = List (List ℕ × CodeItem)
 
-abbrev pub HasRuleAt : Map → List ℕ → Type 0
-HasRuleAt m k = (f : Arc Expr Global) × (tree.get name_cmp m k ≡ Some (RuleItem f))
+abbrev pub HasRuleAt : {S : Type 0} → Map S → List ℕ → Type 0
+HasRuleAt m k = (f : Arc Expr Global) × (hash.get name_eq m k ≡ Some (RuleItem f))
 
 -- the names of the rules that aren't among the entries left
-pub record IsSoFar (m : Map) (names : BTreeSet (List ℕ)) (rest : Entries) : Type 0 where
+pub record IsSoFar {S : Type 0} (m : Map S) (names : BTreeSet (List ℕ)) (rest : Entries) : Type 0 where
   pub only : (k : List ℕ) → contains name_cmp names k ≡ true → HasRuleAt m k
-  pub each : (k : List ℕ) → HasRuleAt m k → (contains name_cmp names k ≡ true) ⊎ (is_some (lookup (tree.is_at (name_cmp k)) rest) ≡ true)
+  pub each : (k : List ℕ) → HasRuleAt m k → (contains name_cmp names k ≡ true) ⊎ (is_some (find name_cmp k rest) ≡ true)
 
-pub at_first : (m : Map) (names : BTreeSet (List ℕ)) → names.keys ≡ [] → IsSoFar m names m.entries
+pub at_first : {S : Type 0} (m : Map S) (names : BTreeSet (List ℕ)) → names.keys ≡ [] → IsSoFar m names m.entries
 at_first m names none = record {
   only = λ k has. let e : contains name_cmp names k ≡ false = rw none refl in cc;
-  each = λ k has. inr (ap is_some has.1);
+  each = λ k has. inr (ap is_some (found_by m.entries k ∙ has.1));
 }
 
 tied_itself : (k : List ℕ) → eq_by_cmp name_cmp k k ≡ true
 tied_itself k = (eq_by_cmp_equiv nat_list_cmp_total).refl k
 
-pub one_more : (m : Map) (names new : BTreeSet (List ℕ)) (rest left : Entries) (k : List ℕ) (x : CodeItem) → rest ≡ (k, x) ∷ left → tree.get name_cmp m k ≡ Some x → AddsRule names new k x → IsSoFar m names rest → IsSoFar m new left
+pub one_more : {S : Type 0} (m : Map S) (names new : BTreeSet (List ℕ)) (rest left : Entries) (k : List ℕ) (x : CodeItem) → rest ≡ (k, x) ∷ left → hash.get name_eq m k ≡ Some x → AddsRule names new k x → IsSoFar m names rest → IsSoFar m new left
 one_more m names new rest left k (InputItem v) is has adds so = record {
   only = λ q in_new. so.only q (sym (adds q) ∙ in_new);
   each = λ q rule_at. elim (so.each q rule_at) [
@@ -53,9 +50,9 @@ one_more m names new rest left k (InputItem v) is has adds so = record {
   ];
 }
   where
-    past : (q : List ℕ) → HasRuleAt m q → is_some (cond (eq_by_cmp name_cmp q k) (Some (InputItem v)) (lookup (tree.is_at (name_cmp q)) left)) ≡ true → is_some (lookup (tree.is_at (name_cmp q)) left) ≡ true
-    past q rule_at = elim (eq_by_cmp name_cmp q k) as (λ b. eq_by_cmp name_cmp q k ≡ b → is_some (cond b (Some (InputItem v)) (lookup (tree.is_at (name_cmp q)) left)) ≡ true → is_some (lookup (tree.is_at (name_cmp q)) left) ≡ true) [
-      | true ↦ λ tied here. let same : q ≡ k = tied_name q k tied in let r : tree.get name_cmp m k ≡ Some (RuleItem rule_at.0) = rw same at rule_at.1 in cc
+    past : (q : List ℕ) → HasRuleAt m q → is_some (cond (eq_by_cmp name_cmp q k) (Some (InputItem v)) (find name_cmp q left)) ≡ true → is_some (find name_cmp q left) ≡ true
+    past q rule_at = elim (eq_by_cmp name_cmp q k) as (λ b. eq_by_cmp name_cmp q k ≡ b → is_some (cond b (Some (InputItem v)) (find name_cmp q left)) ≡ true → is_some (find name_cmp q left) ≡ true) [
+      | true ↦ λ tied here. let same : q ≡ k = tied_name q k tied in let r : hash.get name_eq m k ≡ Some (RuleItem rule_at.0) = rw same at rule_at.1 in cc
       | false ↦ λ apart there. there
     ] refl
 one_more m names new rest left k (RuleItem f) is has adds so = record {
@@ -78,8 +75,8 @@ one_more m names new rest left k (RuleItem f) is has adds so = record {
       | false ↦ in_old
     ]
 
-    past : (q : List ℕ) → is_some (cond (eq_by_cmp name_cmp q k) (Some (RuleItem f)) (lookup (tree.is_at (name_cmp q)) left)) ≡ true → (contains name_cmp new q ≡ true) ⊎ (is_some (lookup (tree.is_at (name_cmp q)) left) ≡ true)
-    past q = elim (eq_by_cmp name_cmp q k) as (λ b. eq_by_cmp name_cmp q k ≡ b → is_some (cond b (Some (RuleItem f)) (lookup (tree.is_at (name_cmp q)) left)) ≡ true → (contains name_cmp new q ≡ true) ⊎ (is_some (lookup (tree.is_at (name_cmp q)) left) ≡ true)) [
+    past : (q : List ℕ) → is_some (cond (eq_by_cmp name_cmp q k) (Some (RuleItem f)) (find name_cmp q left)) ≡ true → (contains name_cmp new q ≡ true) ⊎ (is_some (find name_cmp q left) ≡ true)
+    past q = elim (eq_by_cmp name_cmp q k) as (λ b. eq_by_cmp name_cmp q k ≡ b → is_some (cond b (Some (RuleItem f)) (find name_cmp q left)) ≡ true → (contains name_cmp new q ≡ true) ⊎ (is_some (find name_cmp q left) ≡ true)) [
       | true ↦ λ tied here. inl (adds q ∙ ap (λ t. cond t true (contains name_cmp names q)) ((eq_by_cmp_equiv nat_list_cmp_total).symm k q ∙ tied))
       | false ↦ λ apart there. inr there
     ] refl
@@ -91,7 +88,7 @@ rule_found (Some (RuleItem f)) e h = (f, refl)
 
 -- a rule of the book stands in the map
 pub rule_at : (b : CodeBook) (k : List ℕ) → IsRule (book_view b) k → HasRuleAt b.items k
-rule_at b k is_rule = rule_found (tree.get name_cmp b.items k) is_rule.0 (sym (item_found b k) ∙ rule_held (book_view b) k is_rule.0 is_rule.1)
+rule_at b k is_rule = rule_found (hash.get name_eq b.items k) is_rule.0 (sym (item_found b k) ∙ rule_held (book_view b) k is_rule.0 is_rule.1)
 
 pub at_last : (b : CodeBook) (names : BTreeSet (List ℕ)) → IsSoFar b.items names [] → HasRules (book_view b) names
 at_last b names so k = (

@@ -8,3 +8,4 @@ pub mod Looked
 pub mod Edits
 pub mod Digest
 pub mod Stuck
+pub mod Order

@@ -7,11 +7,12 @@ ghost use Rattle.carte_book.specs.Edits.{with_item};
 ghost use Rattle.carte_book.specs.Looked.{Answers, IsFormula, IsFormulaAt, HasNoOthers, HasRules, AddsRule};
 ghost use Rattle.carte_book.specs.Needs.{IsRule};
 
+use crate::book::Items;
 use crate::{Book, Item, Looked};
 use carte_tree::Expr;
 use carte_value::{Kind, Name, NoMemory, Value};
 use std::alloc::Global;
-use std::collections::{BTreeMap, BTreeSet};
+use std::collections::BTreeSet;
 use std::sync::Arc;
 
 impl Book {
@@ -23,7 +24,7 @@ impl Book {
         Book {
             alloc,
             kind,
-            items: BTreeMap::new(alloc),
+            items: Items::new(alloc),
             nothing: Value::Empty,
         }
     }

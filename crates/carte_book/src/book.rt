@@ -4,9 +4,12 @@ ghost use Rattle.carte_book.specs.Fits.{Fits, Fits-prop};
 
 use carte_tree::Expr;
 use carte_value::{Kind, Name, Value};
+use indexmap::IndexMap;
 use std::alloc::Global;
-use std::collections::BTreeMap;
 use std::sync::Arc;
+
+/// The one name of the map in memory, so that its hasher can be changed here. Items stand in the order in which they were added.
+pub(crate) type Items = IndexMap<Name, Item>;
 
 /// What stands at a name of a book. A formula is shared with those who may run it later, without the book.
 #[derive(Debug, Drop)]
@@ -20,7 +23,7 @@ pub enum Item {
 pub struct Book {
     pub(crate) alloc: Global,
     pub(crate) kind: Kind,
-    pub(crate) items: BTreeMap<Name, Item>,
+    pub(crate) items: Items,
     /// What each cell of a sheet holds that nothing was put in.
     pub(crate) nothing: Value,
     ghost is_nothing: { nothing ≡ Empty },

@@ -1,11 +1,13 @@
-ghost use Rattle.std.specs.Prelude.{◌≡◌, ◌++◌, ℕ, List, IfOk, OnOk};
+ghost use Rattle.std.specs.Prelude.{◌≡◌, ◌++◌, ℕ, List, All, IfOk, OnOk};
 ghost use Rattle.sha2.specs.Hashers.{Holds256};
 ghost use Rattle.carte_tree.specs.Code.{tree_of};
 ghost use Rattle.carte_tree.specs.Formula.{IsExpr};
 ghost use Rattle.carte_book.specs.Book.{book_view};
-ghost use Rattle.carte_book.specs.Digest.{kind_code, spelled_name, spelled_formula, rules_digest_of};
+ghost use Rattle.carte_book.specs.Digest.{kind_code, spelled_name, spelled_formula, spelled_rules, rules_digest_of};
+ghost use Rattle.carte_book.specs.Order.{rules_view, IsFormulaOf};
 
-use crate::{Book, Item};
+use crate::Book;
+use crate::order::HeldRule;
 use carte_tree::{Expr, print_expr};
 use carte_value::{Digest, Kind, Name, NoMemory};
 use sha2::{Digest as Hasher, Sha256};
@@ -18,13 +20,7 @@ impl Book {
     {
         let mut hasher = Sha256::new();
         hasher.update([kind_code(self.kind)]);
-        let mut text = String::new(alloc);
-        for (name, item) in &self.items {
-            if let Item::Rule(formula) = item {
-                feed_name(&mut hasher, name);
-                feed_formula(alloc, &mut hasher, &mut text, formula)?;
-            }
-        }
+        feed_rules(alloc, &mut hasher, &self.rules_in_order(alloc)?)?;
         Ok(Digest(hasher.finalize()))
     }
 }
@@ -36,6 +32,18 @@ fn kind_code(kind: Kind) -> u8
         Kind::Rules => 0,
         Kind::Sheet => 1,
     }
+}
+
+fn feed_rules(alloc: Global, hasher: &mut Sha256, rules: &[HeldRule<'_>]) -> Result<(), NoMemory>
+    requires { All IsFormulaOf rules.now }
+    ensures { OnOk result ((m : List ℕ) → Holds256 hasher.old m → Holds256 hasher.new (m ++ spelled_rules (rules_view rules.now))) }
+{
+    let mut text = String::new(alloc);
+    for rule in rules {
+        feed_name(hasher, rule.name);
+        feed_formula(alloc, hasher, &mut text, rule.formula)?;
+    }
+    Ok(())
 }
 
 fn feed_name(hasher: &mut Sha256, name: &Name)

@@ -2,10 +2,12 @@
 //!
 //! A book is a rule file or a sheet, and its names and those in its formulas are of its kind. The type keeps this, and
 //! that each formula is as reading makes one, so that what is looked up can be run and printed without a test. In
-//! memory a book is an ordered map, whose formulas are shared: a job holds its formula without the book. Contracts see
-//! it as a finite map `Book` of the specs, with formulas as trees, and reach what stands at a name by `content` alone: in
-//! a sheet each cell that the map doesn't hold is an empty input, and this default has one place. Two types for the two
-//! kinds would have doubled every layer above.
+//! memory a book is a hash map that keeps the order in which names were added, since it is looked up several times for
+//! each key of a build, and name order is wanted once, for the digest: there the rules are sorted, or found to be in
+//! order already, as those of a rule file are. Formulas are shared: a job holds its formula without the book. Contracts
+//! see it as a finite map `Book` of the specs, with formulas as trees, and reach what stands at a name by `content` alone:
+//! in a sheet each cell that the map doesn't hold is an empty input, and this default has one place. Two types for the
+//! two kinds would have doubled every layer above.
 //!
 //! Names are added, and inputs are set. Each call says exactly when each fault comes, and after one the book is as
 //! before. That there are 65,536 names at most is tested where one is added, so no reader of bytes counts. The faults of
@@ -34,6 +36,7 @@ mod fault;
 mod key_text;
 mod laws;
 mod needs;
+mod order;
 mod reason;
 
 pub use book::{Book, Item, Looked};

@@ -1,6 +1,6 @@
 use Rattle.std.proofs.Common.{◌≡◌, ◌∙◌, ap, Some, None, option_map}
-use Rattle.std.specs.BTreeMap as tree
-use Rattle.carte_value.specs.Names.{name_cmp}
+use Rattle.std.specs.HashMap as hash
+use Rattle.carte_value.specs.Names.{name_eq}
 use Rattle.carte_book.specs.Book.{item_view, default_of, or_default}
 use Rattle.carte_book.specs.declared.book.Item.TheVariants.{Input as InputItem, Rule as RuleItem}
 use Rattle.carte_book.proofs.Books.{item_found}
@@ -11,20 +11,20 @@ use Rattle.carte_book.proofs.book.Book.formula.Goals as goal
 pub unreachable-requires : goal.unreachable-requires
 unreachable-requires c =
     let held = rule_at c.args.self.now c.args.name.now c.requires in
-    let found : tree.get name_cmp c.args.self.now.items c.args.name.now ≡ Some (InputItem c.in-Some-Input.field-0-0) = cc (c.in-Some-Input.ensures.value) in
-    let rule : tree.get name_cmp c.args.self.now.items c.args.name.now ≡ Some (RuleItem held.0) = held.1 in
+    let found : hash.get name_eq c.args.self.now.items c.args.name.now ≡ Some (InputItem c.in-Some-Input.field-0-0) = cc (c.in-Some-Input.ensures.value) in
+    let rule : hash.get name_eq c.args.self.now.items c.args.name.now ≡ Some (RuleItem held.0) = held.1 in
     cc
 
 pub unreachable-requires-in-None : goal.unreachable-requires-in-None
 unreachable-requires-in-None c =
     let held = rule_at c.args.self.now c.args.name.now c.requires in
-    let found : tree.get name_cmp c.args.self.now.items c.args.name.now ≡ None = cc (c.in-None.ensures.value) in
-    let rule : tree.get name_cmp c.args.self.now.items c.args.name.now ≡ Some (RuleItem held.0) = held.1 in
+    let found : hash.get name_eq c.args.self.now.items c.args.name.now ≡ None = cc (c.in-None.ensures.value) in
+    let rule : hash.get name_eq c.args.self.now.items c.args.name.now ≡ Some (RuleItem held.0) = held.1 in
     cc
 
 pub returns : goal.returns
 returns c =
-    let found : tree.get name_cmp c.args.self.now.items c.args.name.now ≡ Some (RuleItem c.in-Some-Rule.formula) = cc (c.in-Some-Rule.ensures.value) in
+    let found : hash.get name_eq c.args.self.now.items c.args.name.now ≡ Some (RuleItem c.in-Some-Rule.formula) = cc (c.in-Some-Rule.ensures.value) in
     rw c.in_ok-clone-in-Some-Rule.ensures.cases (
       ap (λ o. or_default o (default_of c.args.self.now.kind c.args.name.now)) (item_found c.args.self.now c.args.name.now ∙ ap (option_map item_view) found),
       (found_fits c.args.self.now c.args.name.now (RuleItem c.in-Some-Rule.formula) found).0,

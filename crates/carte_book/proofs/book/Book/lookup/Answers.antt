@@ -1,6 +1,6 @@
 use Rattle.std.proofs.Common.{◌≡◌, ◌∙◌, ap, Some, None, option_map}
-use Rattle.std.specs.BTreeMap as tree
-use Rattle.carte_value.specs.Names.{name_cmp}
+use Rattle.std.specs.HashMap as hash
+use Rattle.carte_value.specs.Names.{name_eq}
 use Rattle.carte_book.specs.Book.{item_view, default_of, or_default}
 use Rattle.carte_book.specs.declared.book.Item.TheVariants.{Input as InputItem, Rule as RuleItem}
 use Rattle.carte_book.proofs.Books.{item_found}
@@ -9,22 +9,22 @@ use Rattle.carte_book.proofs.book.Book.lookup.Goals as goal
 
 pub returns-in-Some-Input-clause-answer : goal.returns-in-Some-Input-clause-answer
 returns-in-Some-Input-clause-answer c =
-    let found : tree.get name_cmp c.args.self.now.items c.args.name.now ≡ Some (InputItem c.in-Some-Input.value) = cc (c.in-Some-Input.ensures.value) in
+    let found : hash.get name_eq c.args.self.now.items c.args.name.now ≡ Some (InputItem c.in-Some-Input.value) = cc (c.in-Some-Input.ensures.value) in
     ap (λ o. or_default o (default_of c.args.self.now.kind c.args.name.now)) (item_found c.args.self.now c.args.name.now ∙ ap (option_map item_view) found)
 
 pub returns-in-Some-Rule-clause-answer : goal.returns-in-Some-Rule-clause-answer
 returns-in-Some-Rule-clause-answer c =
-    let found : tree.get name_cmp c.args.self.now.items c.args.name.now ≡ Some (RuleItem c.in-Some-Rule.formula) = cc (c.in-Some-Rule.ensures.value) in
+    let found : hash.get name_eq c.args.self.now.items c.args.name.now ≡ Some (RuleItem c.in-Some-Rule.formula) = cc (c.in-Some-Rule.ensures.value) in
     rw c.deref.ensures (ap (λ o. or_default o (default_of c.args.self.now.kind c.args.name.now)) (item_found c.args.self.now c.args.name.now ∙ ap (option_map item_view) found))
 
 pub returns-in-None-clause-answer : goal.returns-in-None-clause-answer
 returns-in-None-clause-answer c =
-    let found : tree.get name_cmp c.args.self.now.items c.args.name.now ≡ None = cc (c.in-None.ensures.value) in
+    let found : hash.get name_eq c.args.self.now.items c.args.name.now ≡ None = cc (c.in-None.ensures.value) in
     rw (item_found c.args.self.now c.args.name.now ∙ ap (option_map item_view) found) c.unheld.ensures
 
 pub returns-in-Some-Rule-clause-formula : goal.returns-in-Some-Rule-clause-formula
 returns-in-Some-Rule-clause-formula c =
-    let found : tree.get name_cmp c.args.self.now.items c.args.name.now ≡ Some (RuleItem c.in-Some-Rule.formula) = cc (c.in-Some-Rule.ensures.value) in
+    let found : hash.get name_eq c.args.self.now.items c.args.name.now ≡ Some (RuleItem c.in-Some-Rule.formula) = cc (c.in-Some-Rule.ensures.value) in
     rw c.deref.ensures (found_fits c.args.self.now c.args.name.now (RuleItem c.in-Some-Rule.formula) found)
 
 pub returns-in-Some-Input-clause-others : goal.returns-in-Some-Input-clause-others
