@@ -40,7 +40,7 @@ viewed (e ∷ es) k =
 abbrev pub items_view : {S : Type 0} → Map S → FinMap name_cmp Item
 items_view m = from_entries (entries_view m.entries)
 
-got : {S : Type 0} (m : Map S) (k : List ℕ) → get (items_view m) k ≡ option_map item_view (hash.get name_eq m k)
+pub got : {S : Type 0} (m : Map S) (k : List ℕ) → get (items_view m) k ≡ option_map item_view (hash.get name_eq m k)
 got m k = get-from_entries nat_list_cmp_total (entries_view m.entries) k ∙ viewed m.entries k ∙ ap (option_map item_view) (found_by m.entries k)
 
 -- what the map finds is what the book holds

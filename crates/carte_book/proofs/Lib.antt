@@ -2,6 +2,7 @@ pub mod Clean
 pub mod Reasons
 pub mod Books
 pub mod RuleNames
+pub mod Added
 pub mod Fitting
 pub mod Ordered
 pub mod Listed

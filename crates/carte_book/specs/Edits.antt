@@ -1,6 +1,9 @@
 -- How books change: names are added, and inputs set.
-use Rattle.std.specs.Prelude.{ℕ, ◌≡◌, ◌<◌, ◌≤◌, true, List, length, Some, None, is_some, Result, Ok, Err}
+use Rattle.std.specs.Prelude.{ℕ, ◌≡◌, ◌<◌, ◌≤◌, Bool, true, false, List, length, Some, None, is_some, Result, Ok, Err}
 use Rattle.std.specs.FinMap.{get, insert, entries}
+use Rattle.std.specs.HashMap.{HashMap, get as find}
+use Rattle.carte_value.specs.Names.{name_eq}
+use Rattle.carte_book.specs.declared.book.Item.{Item as CodeItem}
 use Rattle.carte_value.specs.declared.kind.Kind.TheVariants.{Sheet}
 use Rattle.carte_value.specs.declared.value.Value.{Value}
 use Rattle.carte_book.specs.Book.{Item, input, Book, content}
@@ -18,12 +21,12 @@ keys_of b = length (entries b.items)
 abbrev pub with_item : Book → List ℕ → Item → Book
 with_item b k x = record { kind = b.kind; items = insert b.items k x }
 
--- it hasn't the key, and has fewer than 65,536
-abbrev pub Admits : Book → List ℕ → Result (Unit {0}) AddFault → Type 0
-Admits b k (Ok u) = (get b.items k ≡ None) × (keys_of b < 65536)
-Admits b k (Err add.Twice) = is_some (get b.items k) ≡ true
-Admits b k (Err add.Limit) = (get b.items k ≡ None) × (65536 ≤ keys_of b)
-Admits b k (Err add.NoMemory) = ⊥
+-- a map hasn't the key, and there is room; else why it isn't added
+abbrev pub AdmitsEntry : {S : Type 0} → HashMap (List ℕ) CodeItem S → List ℕ → Bool → Result (Unit {0}) AddFault → Type 0
+AdmitsEntry m k room (Ok u) = (find name_eq m k ≡ None) × (room ≡ true)
+AdmitsEntry m k room (Err add.Twice) = is_some (find name_eq m k) ≡ true
+AdmitsEntry m k room (Err add.Limit) = (find name_eq m k ≡ None) × (room ≡ false)
+AdmitsEntry m k room (Err add.NoMemory) = (find name_eq m k ≡ None) × (room ≡ true)
 
 -- a key that the book hasn't, where it has fewer than 65,536, gets the item; else nothing changes
 abbrev pub Adds : Book → Book → List ℕ → Item → Result (Unit {0}) AddFault → Type 0

@@ -1,15 +1,18 @@
-ghost use Rattle.std.specs.Prelude.{◌≡◌, ◌<◌, None, IsTrue};
-ghost use Rattle.std.specs.FinMap.{get};
+ghost use Rattle.std.specs.Prelude.{◌≡◌, Some, Err, nat_lt, IsTrue, OnOk, OnErr};
+ghost use Rattle.indexmap.specs.IndexMap.{insert_entry, Updates};
 ghost use Rattle.carte_value.specs.Kinds.{is_name_of};
+ghost use Rattle.carte_value.specs.Names.{name_eq};
 ghost use Rattle.carte_tree.specs.Code.{tree_of};
 ghost use Rattle.carte_tree.specs.Formula.{IsExpr, HasNames};
 ghost use Rattle.carte_book.specs.Fits.{FitsItem};
-ghost use Rattle.carte_book.specs.Book.{book_view, item_view, input, rule};
-ghost use Rattle.carte_book.specs.Edits.{keys_of, Admits, Adds, IsInput, Sets};
+ghost use Rattle.carte_book.specs.Book.{Item as ItemView, book_view, item_view, input, rule};
+ghost use Rattle.carte_book.specs.Edits.{keys_of, AdmitsEntry, Adds, IsInput, Sets};
 
+use crate::book::Items;
 use crate::{AddFault, Book, Item, Looked, SetFault};
 use carte_tree::Expr;
 use carte_value::{Name, Value};
+use indexmap::map::Entry;
 use std::sync::Arc;
 
 /// As many names as a book has at most.
@@ -28,7 +31,6 @@ impl Book {
         requires { IsTrue (is_name_of (book_view self.old).kind name) }
         ensures { Adds (book_view self.old) (book_view self.new) name (input value) result }
     {
-        self.admit(&name)?;
         self.add(name, Item::Input(value))
     }
 
@@ -39,37 +41,38 @@ impl Book {
         requires names { HasNames (book_view self.old).kind (tree_of expr) }
         ensures { Adds (book_view self.old) (book_view self.new) name (rule (tree_of expr)) result }
     {
-        self.admit(&name)?;
-        let Ok(formula) = Arc::new(self.alloc, expr) else {
-            return Err(AddFault::NoMemory);
-        };
-        self.add(name, Item::Rule(formula))
+        match Arc::new(self.alloc, expr) {
+            Ok(formula) => self.add(name, Item::Rule(formula)),
+            Err(_) => Err(self.refusal(&name)),
+        }
     }
 
-    // Whether a name may be added, so far as memory isn't asked.
-    fn admit(&self, name: &Name) -> Result<(), AddFault>
-        ensures { Admits (book_view self.now) name.now result }
+    // Why a name isn't added where there was no memory for its item.
+    fn refusal(&self, name: &Name) -> AddFault
+        ensures { (x : ItemView) → Adds (book_view self.now) (book_view self.now) name.now x (Err result) }
     {
         if self.has(name) {
-            return Err(AddFault::Twice);
+            AddFault::Twice
+        } else if self.has_room() {
+            AddFault::NoMemory
+        } else {
+            AddFault::Limit
         }
-        if self.keys() >= MOST_KEYS {
-            return Err(AddFault::Limit);
-        }
-        Ok(())
+    }
+
+    fn has_room(&self) -> bool
+        ensures { result ≡ nat_lt (keys_of (book_view self.now)) 65536 }
+    {
+        self.keys() < MOST_KEYS
     }
 
     fn add(&mut self, name: Name, item: Item) -> Result<(), AddFault>
         requires name { IsTrue (is_name_of (book_view self.old).kind name) }
         requires item { FitsItem (book_view self.old).kind item }
-        requires absent { get (book_view self.old).items name ≡ None }
-        requires room { keys_of (book_view self.old) < 65536 }
         ensures { Adds (book_view self.old) (book_view self.new) name (item_view item) result }
     {
-        match self.put(name, item) {
-            Ok(()) => Ok(()),
-            Err(_) => Err(AddFault::NoMemory),
-        }
+        let has_room = self.has_room();
+        add_entry(&mut self.items, name, item, has_room)
     }
 
     /// Gives an input, or a cell that holds nothing yet, another value. After a fault the book is as before.
@@ -99,5 +102,26 @@ impl Book {
             },
             Err(_) => Err(SetFault::NoMemory),
         }
+    }
+}
+
+// One search says whether the name is there, and where it goes.
+fn add_entry(items: &mut Items, name: Name, item: Item, has_room: bool) -> Result<(), AddFault>
+    ensures outcome { AdmitsEntry items.old name has_room result }
+    ensures updates { OnOk result (Updates name_eq items.old items.new name (Some item)) }
+    ensures entries { OnOk result (items.new.entries ≡ insert_entry name_eq items.old.entries name item) }
+    ensures unchanged { OnErr result (items.new.entries ≡ items.old.entries) }
+{
+    match items.entry(name) {
+        Ok(Entry::Occupied(_)) => Err(AddFault::Twice),
+        Ok(Entry::Vacant(place)) => {
+            if !has_room {
+                return Err(AddFault::Limit);
+            }
+            place.insert(item);
+            Ok(())
+        }
+        Err(_) if !has_room => Err(AddFault::Limit),
+        Err(_) => Err(AddFault::NoMemory),
     }
 }
