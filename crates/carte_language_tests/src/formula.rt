@@ -1,9 +1,9 @@
 //! Which texts are formulas, how they are printed, and what they refer to.
 
-mod limits;
-
+use crate::rows::{Told, rows_hold};
+use crate::texts::named;
 use carte_formula::{is_static, print, read, refs};
-use carte_value::Kind;
+use carte_value::{Kind, NoMemory};
 use std::alloc::Global;
 use std::test::Fail;
 
@@ -334,67 +334,66 @@ sheet IF(SUM(A1:A2),1) -> static A1 A2
 sheet IF(A1,SUM(B1:B2)) -> changing A1 B1 B2
 sheet PICK(A1,SUM(B1:B2),INDIRECT(C1)) -> changing A1 B1 B2 C1"#;
 
-fn kind_of(word: &str, first: bool) -> Kind {
-    match word {
-        "rules" => Kind::Rules,
-        "sheet" => Kind::Sheet,
-        _ if first => Kind::Rules,
-        _ => Kind::Sheet,
+// Texts of formulas, where `both` stands for a kind.
+#[derive(Drop)]
+struct Grammar {
+    both: Kind,
+}
+
+impl Told for Grammar {
+    fn told(&self, alloc: Global, asked: &str) -> Result<String, NoMemory> {
+        let (word, text) = asked.split_once(' ').unwrap_or(("", asked));
+        printed(alloc, kind_of(word, self.both), text)
     }
 }
 
-/// How a text is printed once it is read and copied, or which fault it has.
-pub(crate) fn shown(alloc: Global, kind: Kind, text: &str) -> Result<String, Fail> {
+fn kind_of(word: &str, both: Kind) -> Kind {
+    match word {
+        "rules" => Kind::Rules,
+        "sheet" => Kind::Sheet,
+        _ => both,
+    }
+}
+
+// How a text is printed once it is read and copied, or which fault it has.
+fn printed(alloc: Global, kind: Kind, text: &str) -> Result<String, NoMemory> {
     match read(alloc, kind, text) {
-        Ok(expr) => Ok(print(alloc, &expr.copy(alloc)?)?),
+        Ok(expr) => print(alloc, &expr.copy(alloc)?),
         Err(fault) => Ok(format!(in alloc; "{fault}")?),
     }
 }
 
 #[test]
 fn texts_of_the_grammar(rt: HostRuntime) -> Result<(), Fail> {
-    let alloc = rt.alloc();
-    let mut count = 0u32;
-    for row in TEXTS.lines() {
-        let (asked, want) = row.split_once(" -> ").ok_or("no arrow")?;
-        let (word, text) = asked.split_once(' ').ok_or("no kind")?;
-        let first = shown(alloc, kind_of(word, true), text)?;
-        assert_eq!(rt; first.as_str(), want, "{row}");
-        let second = shown(alloc, kind_of(word, false), text)?;
-        assert_eq!(rt; second.as_str(), want, "{row}");
-        count = count.wrapping_add(1);
+    for both in [Kind::Rules, Kind::Sheet] {
+        let count = rows_hold(rt.alloc(), &Grammar { both }, TEXTS)?;
+        assert_eq!(rt; count, 291);
     }
-    assert_eq!(rt; count, 291);
     Ok(())
 }
 
-/// Whether a formula is static, and what it refers to.
-fn mentioned(alloc: Global, kind: Kind, text: &str) -> Result<String, Fail> {
-    let expr = read(alloc, kind, text).map_err(|_| "not read")?;
-    let word = if is_static(&expr) {
-        "static"
-    } else {
-        "changing"
-    };
-    let mut shown = String::from_str(alloc, word)?;
-    for name in refs(alloc, &expr)?.as_slice() {
-        shown.push_str(" ")?;
-        shown.push_str(name.text())?;
+// Whether formulas are static, and what they refer to.
+#[derive(Drop)]
+struct Mentions;
+
+impl Told for Mentions {
+    fn told(&self, alloc: Global, asked: &str) -> Result<String, NoMemory> {
+        let (word, text) = asked.split_once(' ').unwrap_or(("", asked));
+        let Ok(expr) = read(alloc, kind_of(word, Kind::Rules), text) else {
+            return Err(NoMemory);
+        };
+        let word = if is_static(&expr) {
+            "static"
+        } else {
+            "changing"
+        };
+        named(alloc, word, refs(alloc, &expr)?.as_slice())
     }
-    Ok(shown)
 }
 
 #[test]
 fn references(rt: HostRuntime) -> Result<(), Fail> {
-    let alloc = rt.alloc();
-    let mut count = 0u32;
-    for row in MENTIONED.lines() {
-        let (asked, want) = row.split_once(" -> ").ok_or("no arrow")?;
-        let (word, text) = asked.split_once(' ').ok_or("no kind")?;
-        let got = mentioned(alloc, kind_of(word, true), text)?;
-        assert_eq!(rt; got.as_str(), want, "{row}");
-        count = count.wrapping_add(1);
-    }
+    let count = rows_hold(rt.alloc(), &Mentions, MENTIONED)?;
     assert_eq!(rt; count, 31);
     Ok(())
 }

@@ -1,24 +1,22 @@
 //! Values by their printed form.
 
-use carte_value::{Bad, Value};
+use carte_value::{Bad, NoMemory, Value};
 use std::alloc::Global;
-use std::test::Fail;
 
-fn bad_of(text: &str) -> Option<Bad> {
+fn bad_of(text: &str) -> Bad {
     match text {
-        "#DIV/0!" => Some(Bad::Div0),
-        "#VALUE!" => Some(Bad::Value),
-        "#REF!" => Some(Bad::Ref),
-        "#NUM!" => Some(Bad::Num),
-        "#LEN!" => Some(Bad::Len),
-        _ => None,
+        "#DIV/0!" => Bad::Div0,
+        "#VALUE!" => Bad::Value,
+        "#REF!" => Bad::Ref,
+        "#NUM!" => Bad::Num,
+        _ => Bad::Len,
     }
 }
 
 /// The value with this printed form, a bad one too.
-pub(crate) fn value_of(alloc: Global, text: &str) -> Result<Value, Fail> {
-    match bad_of(text) {
-        Some(bad) => Ok(Value::Bad(bad)),
-        None => Ok(Value::read(alloc, text)?.ok_or("no value")?),
+pub(crate) fn value_of(alloc: Global, text: &str) -> Result<Value, NoMemory> {
+    match Value::read(alloc, text)? {
+        Some(value) => Ok(value),
+        None => Ok(Value::Bad(bad_of(text))),
     }
 }

@@ -1,7 +1,7 @@
 //! Formulas and what they come to.
 //!
 //! Where a meaning is Excel's, these are the values that its documentation gives for such formulas, and else they are worked out by hand from
-//! docs/FORMULAS.md. An arrow `->` stands behind a static formula, and `=>` behind one that isn't.
+//! docs/FORMULAS.md. What a formula comes to that isn't static stands behind `dynamic`.
 
 pub(crate) const VALUES: &str = r#"zero 0
 one 1
@@ -216,39 +216,39 @@ IF(-1,1,2) -> 1
 IF(void,1,2) -> 2
 IF(word,1,2) -> #VALUE!
 IF(div,1,2) -> #DIV/0!
-IF(one=2,1,IF(two=2,3,4)) => 3
+IF(one=2,1,IF(two=2,3,4)) -> dynamic 3
 IF(two>one,"more","less")&"!" -> "more!"
-IF(one,two,absent) => 2
-IF(zero,absent,two) => 2
-IF(word,absent,absent) => #VALUE!
-IF(num,absent,absent) => #NUM!
-IF(one,num,absent) => #NUM!
-IF(one,IF(zero,absent,word),absent) => "ab"
-1+IF(one,two,absent)*2 => 5
-SUM(1,IF(zero,absent,two),3) => 6
-INDIRECT(key) => 2
-INDIRECT("t"&"wo") => 2
-INDIRECT(cell) => #REF!
-INDIRECT("two ") => #REF!
-INDIRECT(two) => #REF!
-INDIRECT(void) => #REF!
-INDIRECT("") => #REF!
-INDIRECT(num) => #NUM!
-INDIRECT("num") => #NUM!
-1/0&INDIRECT("") => #DIV/0!
-INDIRECT(key)+INDIRECT("one") => 3
-SUM(1,INDIRECT(key)) => 3
-GATHER(roster) => "2ab"
-GATHER(twice) => "11"
-GATHER(mixed) => #REF!
-GATHER(gap) => #REF!
-GATHER("") => ""
-GATHER(void) => ""
-GATHER("void") => ""
-GATHER("div") => #DIV/0!
-GATHER(12) => #REF!
-GATHER(num) => #NUM!
-LEN(GATHER(roster))&UPPER(GATHER(roster)) => "32AB""#;
+IF(one,two,absent) -> dynamic 2
+IF(zero,absent,two) -> dynamic 2
+IF(word,absent,absent) -> dynamic #VALUE!
+IF(num,absent,absent) -> dynamic #NUM!
+IF(one,num,absent) -> dynamic #NUM!
+IF(one,IF(zero,absent,word),absent) -> dynamic "ab"
+1+IF(one,two,absent)*2 -> dynamic 5
+SUM(1,IF(zero,absent,two),3) -> dynamic 6
+INDIRECT(key) -> dynamic 2
+INDIRECT("t"&"wo") -> dynamic 2
+INDIRECT(cell) -> dynamic #REF!
+INDIRECT("two ") -> dynamic #REF!
+INDIRECT(two) -> dynamic #REF!
+INDIRECT(void) -> dynamic #REF!
+INDIRECT("") -> dynamic #REF!
+INDIRECT(num) -> dynamic #NUM!
+INDIRECT("num") -> dynamic #NUM!
+1/0&INDIRECT("") -> dynamic #DIV/0!
+INDIRECT(key)+INDIRECT("one") -> dynamic 3
+SUM(1,INDIRECT(key)) -> dynamic 3
+GATHER(roster) -> dynamic "2ab"
+GATHER(twice) -> dynamic "11"
+GATHER(mixed) -> dynamic #REF!
+GATHER(gap) -> dynamic #REF!
+GATHER("") -> dynamic ""
+GATHER(void) -> dynamic ""
+GATHER("void") -> dynamic ""
+GATHER("div") -> dynamic #DIV/0!
+GATHER(12) -> dynamic #REF!
+GATHER(num) -> dynamic #NUM!
+LEN(GATHER(roster))&UPPER(GATHER(roster)) -> dynamic "32AB""#;
 
 pub(crate) const CELLS: &str = r#"A1 5
 A2 "x"
@@ -287,33 +287,20 @@ SUM(D1:E2) -> 0
 CONCAT(D1:E2) -> ""
 SUM(A1:A1,A1) -> 10
 IF(D1,1,2) -> 2
-IF(A1=5,B1,B2) => 7
-INDIRECT("b2") => -3
-INDIRECT("B"&1+1) => -3
-INDIRECT(A4) => 7
-INDIRECT("Z99") => empty
-INDIRECT("A01") => #REF!
-INDIRECT("total") => #REF!
-INDIRECT(2) => #REF!
-INDIRECT("") => #REF!
-INDIRECT(C2) => #REF!
-GATHER(C1) => "75"
-GATHER(C4) => "-37"
-GATHER("") => ""
-GATHER(12) => #REF!
-GATHER(C2) => #REF!
-GATHER(C3) => #REF!
-GATHER(D1) => """#;
-
-pub(crate) const LONG: &str = r#"LEN(long) -> 65536
-(long&"")=long -> 1
-long&1 -> #LEN!
-CONCAT(half,half)=long -> 1
-CONCAT(half,half,1) -> #LEN!
-LEN(UPPER(long)) -> 65536
-LINES(long) -> 1
-LINE(long,1)=long -> 1
-INDIRECT(long) => #REF!
-LEN(GATHER("long")) => 65536
-LEN(GATHER(halves)) => 65536
-GATHER(more) => #LEN!"#;
+IF(A1=5,B1,B2) -> dynamic 7
+INDIRECT("b2") -> dynamic -3
+INDIRECT("B"&1+1) -> dynamic -3
+INDIRECT(A4) -> dynamic 7
+INDIRECT("Z99") -> dynamic empty
+INDIRECT("A01") -> dynamic #REF!
+INDIRECT("total") -> dynamic #REF!
+INDIRECT(2) -> dynamic #REF!
+INDIRECT("") -> dynamic #REF!
+INDIRECT(C2) -> dynamic #REF!
+GATHER(C1) -> dynamic "75"
+GATHER(C4) -> dynamic "-37"
+GATHER("") -> dynamic ""
+GATHER(12) -> dynamic #REF!
+GATHER(C2) -> dynamic #REF!
+GATHER(C3) -> dynamic #REF!
+GATHER(D1) -> dynamic """#;

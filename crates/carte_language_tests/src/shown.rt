@@ -6,10 +6,9 @@ ghost use Rattle.carte_effect.specs.Sights.{seen_or, not_done, missing};
 
 use crate::values::value_of;
 use carte_effect::{Look, Seen};
-use carte_value::{Kind, Name, Text, Value};
+use carte_value::{Kind, Name, NoMemory, Value};
 use indexmap::IndexMap;
 use std::alloc::Global;
-use std::test::Fail;
 
 #[derive(Drop)]
 pub(crate) struct Shown {
@@ -66,25 +65,37 @@ impl Shown {
         self.kind
     }
 
-    pub(crate) fn put(&mut self, alloc: Global, name: &str, value: Value) -> Result<(), Fail> {
-        let name = Name::of(alloc, self.kind, name)?;
-        match self.values.insert(name, value) {
-            Ok(_) => Ok(()),
-            Err(_) => Err(Fail::new("out of memory")),
+    /// The key of its formulas: no name that they look up.
+    pub(crate) fn key(&self) -> &'static str {
+        match self.kind {
+            Kind::Rules => "t",
+            Kind::Sheet => "ZZ1",
         }
     }
 
-    /// Puts `NAME VALUE` of each line, with values in printed form.
-    pub(crate) fn put_lines(&mut self, alloc: Global, lines: &str) -> Result<(), Fail> {
+    /// Puts a name and its value, which stands behind a blank in printed form.
+    pub(crate) fn put_line(&mut self, alloc: Global, line: &str) -> Result<(), NoMemory> {
+        let (text, value) = line.split_once(' ').unwrap_or((line, ""));
+        let value = value_of(alloc, value)?;
+        self.put(alloc, text, value)
+    }
+
+    /// Puts a value at a name, if it is one.
+    pub(crate) fn put(&mut self, alloc: Global, text: &str, value: Value) -> Result<(), NoMemory> {
+        let Ok(name) = Name::of(alloc, self.kind, text) else {
+            return Ok(());
+        };
+        match self.values.insert(name, value) {
+            Ok(_) => Ok(()),
+            Err(_) => Err(NoMemory),
+        }
+    }
+
+    /// Puts each line.
+    pub(crate) fn put_lines(&mut self, alloc: Global, lines: &str) -> Result<(), NoMemory> {
         for line in lines.lines() {
-            let (name, value) = line.split_once(' ').ok_or("no value")?;
-            self.put(alloc, name, value_of(alloc, value)?)?;
+            self.put_line(alloc, line)?;
         }
         Ok(())
     }
-}
-
-/// A text as a value.
-pub(crate) fn text_of(alloc: Global, text: &str) -> Result<Value, Fail> {
-    Ok(Value::Text(Text::of(alloc, text)?))
 }
