@@ -10,20 +10,20 @@ in_a_row-requires-send-R-Job c κs = search (sendable, tries_send, deep_send)
 pub in_a_row-requires-sync-R-Job : goal.in_a_row-requires-sync-R-Job
 in_a_row-requires-sync-R-Job c κs = search (sendable, tries_sync, deep_sync)
 
-pub in_a_row-requires-2-send-R-Job : goal.in_a_row-requires-2-send-R-Job
-in_a_row-requires-2-send-R-Job c κs = search (sendable, tries_send, deep_send)
+pub in_a_row-requires-in-1-send-R-Job : goal.in_a_row-requires-in-1-send-R-Job
+in_a_row-requires-in-1-send-R-Job c κs = search (sendable, tries_send, deep_send)
 
-pub in_a_row-requires-2-sync-R-Job : goal.in_a_row-requires-2-sync-R-Job
-in_a_row-requires-2-sync-R-Job c κs = search (sendable, tries_sync, deep_sync)
+pub in_a_row-requires-in-1-sync-R-Job : goal.in_a_row-requires-in-1-sync-R-Job
+in_a_row-requires-in-1-sync-R-Job c κs = search (sendable, tries_sync, deep_sync)
 
-pub in_a_row-requires-3-send-R-Job : goal.in_a_row-requires-3-send-R-Job
-in_a_row-requires-3-send-R-Job c κs = search (sendable, tries_send, deep_send)
+pub in_a_row-requires-in-2-send-R-Job : goal.in_a_row-requires-in-2-send-R-Job
+in_a_row-requires-in-2-send-R-Job c κs = search (sendable, tries_send, deep_send)
 
-pub in_a_row-requires-3-sync-R-Job : goal.in_a_row-requires-3-sync-R-Job
-in_a_row-requires-3-sync-R-Job c κs = search (sendable, tries_sync, deep_sync)
+pub in_a_row-requires-in-2-sync-R-Job : goal.in_a_row-requires-in-2-sync-R-Job
+in_a_row-requires-in-2-sync-R-Job c κs = search (sendable, tries_sync, deep_sync)
 
-pub in_a_row-requires-4-send-R-Job : goal.in_a_row-requires-4-send-R-Job
-in_a_row-requires-4-send-R-Job c κs = search (sendable, tries_send, deep_send)
+pub in_a_row-requires-in_default-send-R-Job : goal.in_a_row-requires-in_default-send-R-Job
+in_a_row-requires-in_default-send-R-Job c κs = search (sendable, tries_send, deep_send)
 
-pub in_a_row-requires-4-sync-R-Job : goal.in_a_row-requires-4-sync-R-Job
-in_a_row-requires-4-sync-R-Job c κs = search (sendable, tries_sync, deep_sync)
+pub in_a_row-requires-in_default-sync-R-Job : goal.in_a_row-requires-in_default-sync-R-Job
+in_a_row-requires-in_default-sync-R-Job c κs = search (sendable, tries_sync, deep_sync)
