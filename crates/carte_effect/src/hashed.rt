@@ -1,6 +1,7 @@
 ghost use Rattle.std.specs.Prelude.{◌≡◌, IfOk};
 ghost use Rattle.carte_value.specs.Spelling.{digest_of};
 
+use crate::Digests;
 use carte_value::{Digest, NoMemory, Value};
 use std::alloc::Global;
 use std::marker::Model;
@@ -72,6 +73,15 @@ impl Hashed {
         match self.digest {
             Some(digest) => digest,
             None => self.value.digest(),
+        }
+    }
+
+    /// Takes its digest, where that wasn't taken yet.
+    pub(crate) fn hash(&mut self, digests: &mut Digests)
+        ensures { self.new ≡ self.old }
+    {
+        if self.digest.is_none() {
+            self.digest = Some(digests.of(&self.value));
         }
     }
 

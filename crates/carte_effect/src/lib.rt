@@ -4,7 +4,8 @@
 //! "Build Systems à la Carte"). Between the two stand an `Effect`, which is asked for one name after the other, and a `FetchList`, which is asked
 //! for many at once; a `Look`, of which a `Snapshot` makes an effect; and a `Job`, which is driven over an effect and comes to a `Made`.
 //!
-//! A value that a job made goes about with its digest, so that this is taken once, however many look at the value (`Hashed`).
+//! A value that a job made goes about with its digest, so that this is taken once, however many look at the value (`Hashed`). The digests of
+//! numbers, which many keys share, are kept beside them (`Digests`), so that each number's is taken once.
 //!
 //! The form chosen: an effect means a truth (what each name has), the stops that are its own for a name, and a log where it keeps one. A
 //! job has a meaning too, in ghost members: what a drive over a truth gives by which further answers, and when a job fits a key. The law of a job,
@@ -18,6 +19,7 @@
 //!   public, and what an end promises stands in the contract of the drive that hands it out.
 #![tactic(auto)]
 
+mod digests;
 mod each;
 mod effect;
 mod hashed;
@@ -29,6 +31,7 @@ mod refs_only;
 mod runs;
 mod tracked;
 
+pub use digests::Digests;
 pub use each::Each;
 pub use effect::{Effect, Halt};
 pub use hashed::Hashed;

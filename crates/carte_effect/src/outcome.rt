@@ -1,6 +1,6 @@
 ghost use Rattle.std.specs.Prelude.{◌≡◌, IfOk};
 
-use crate::Hashed;
+use crate::{Digests, Hashed};
 use carte_value::{Links, Name, NoMemory, Value};
 use std::alloc::Global;
 use std::marker::Model;
@@ -140,6 +140,16 @@ impl Made {
         ensures { result.now ≡ (outcome_of self.now).links }
     {
         &self.record().links
+    }
+
+    /// Takes the digest of its value, where that wasn't taken yet.
+    pub fn hash(&mut self, digests: &mut Digests)
+        ensures { self.new ≡ self.old }
+    {
+        match self {
+            Made::Ran(ended) => ended.record.value.hash(digests),
+            Made::Reused(reuse) => reuse.record.value.hash(digests),
+        }
     }
 
     pub fn copy(&self, alloc: Global) -> Result<Made, NoMemory>

@@ -1,4 +1,4 @@
-use Rattle.std.proofs.Common.{◌≡◌, ◌∷◌, [], ◌++◌, false, refl, ap, sym, ◌∙◌}
+use Rattle.std.proofs.Common.{◌∷◌, [], ◌++◌, false, refl, ap, sym, ◌∙◌}
 use Rattle.carte_effect.specs.Effects.{more, paired}
 use Rattle.carte_effect.proofs.More.{more_none}
 use Rattle.carte_effect.proofs.Lists.{no_values, values_more, list_halts, asked_more, asked_so_far}
