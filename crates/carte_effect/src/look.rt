@@ -1,7 +1,7 @@
 ghost use Rattle.std.specs.Prelude.{◌≡◌, ℕ, List, None};
 ghost use Rattle.carte_effect.specs.Sights.{Sight, Sees, value_seen, IsStuck};
 
-use crate::{Effect, Halt, Hashed};
+use crate::{Digests, Effect, Halt, Hashed};
 use carte_value::{Name, Value};
 use std::alloc::Global;
 
@@ -35,13 +35,27 @@ pub enum Stuck {
 #[derive(Drop)]
 pub struct Snapshot<'a, L> {
     look: &'a L,
+    digests: Option<&'a mut Digests>,
 }
 
 impl<'a, L: Look> Snapshot<'a, L> {
     pub fn of(look: &'a L) -> Snapshot<'a, L>
         ensures { result.look.now ≡ look.now }
     {
-        Snapshot { look }
+        Snapshot {
+            look,
+            digests: None,
+        }
+    }
+
+    /// The same, where a value that no job made comes with its digest.
+    pub fn with(look: &'a L, digests: &'a mut Digests) -> Snapshot<'a, L>
+        ensures { result.look.now ≡ look.now }
+    {
+        Snapshot {
+            look,
+            digests: Some(digests),
+        }
     }
 }
 
@@ -56,7 +70,13 @@ impl<'a, L: Look> Effect for Snapshot<'a, L> {
 
     fn fetch(&mut self, alloc: Global, name: &Name) -> Result<Hashed, Halt<Stuck>> {
         match self.look.look(name) {
-            Seen::Value(value) => Ok(Hashed::unhashed(value.copy(alloc)?)),
+            Seen::Value(value) => {
+                let value = value.copy(alloc)?;
+                Ok(match &mut self.digests {
+                    Some(digests) => digests.hashed(value),
+                    None => Hashed::unhashed(value),
+                })
+            }
             Seen::Made(value) => Ok(value.copy(alloc)?),
             Seen::NotDone => Err(Halt::Stop(Stuck::NotDone(name.copy(alloc)?))),
             Seen::Missing => Err(Halt::Stop(Stuck::Missing(name.copy(alloc)?))),
