@@ -1,13 +1,14 @@
 -- What a turn keeps.
-use Rattle.std.proofs.Common.{◌≡◌, ℕ, Bool, List, Option, Some, None, Result, Ok, Err, sym, ◌∙◌, subst, inl, inr}
+use Rattle.std.proofs.Common.{◌≡◌, ℕ, Bool, List, Option, Some, None, Result, Ok, Err, sym, subst, inl, inr}
 use Rattle.carte_value.specs.declared.value.Value.{Value}
 use Rattle.carte_value.specs.Once.{Answers}
 use Rattle.carte_value.specs.Truths.{Truth, Extends}
 use Rattle.carte_value.proofs.Members.{same_or_not}
+use Rattle.carte_effect.specs.declared.effect.Halt.{Halt}
 use Rattle.carte_effect.specs.declared.look.Stuck.{Stuck}
 use Rattle.carte_effect.specs.declared.look.Stuck.TheVariants.{NotDone, Missing}
 use Rattle.carte_effect.specs.declared.outcome.Made.{Made}
-use Rattle.carte_effect.specs.Jobs.{Step, stopped, DriveFits, Gave, Counted}
+use Rattle.carte_effect.specs.Jobs.{Step, stopped, DriveFits, Gave}
 use Rattle.carte_effect.specs.Ledger.{Ledger}
 use Rattle.carte_effect.specs.Sights.{Sight, IsStuck}
 use Rattle.carte_book.specs.Book.{Book}
@@ -17,7 +18,7 @@ use Rattle.carte_bench.specs.Spots.{Spots, PutAt, job_in, name_of, slot_after, s
 use Rattle.carte_bench.specs.Steps.{FitsOf, GivesOf, IsCore, IsPartOf, step_of}
 use Rattle.carte_bench.specs.declared.bench.Bench.{Bench}
 use Rattle.carte_bench.specs.Held.{spots_of, book_of}
-use Rattle.carte_bench.specs.Turns.{stops_in, halted, TurnedTo, Turned}
+use Rattle.carte_bench.specs.Turns.{stops_in, TurnedTo, Turned}
 use Rattle.carte_bench.proofs.Puts.{put_here, put_apart}
 use Rattle.carte_bench.proofs.Cores.{put_core, job_fits, after_fits, sees_inputs}
 
@@ -69,16 +70,7 @@ module _ {J : Type 0} (name : J → List ℕ) (started : J → Bool) (gives : Gi
   turn_names (Some m) turned all = turn_named (Ok m) turned all
   turn_names None (x, turned) all = turn_named (Err x) turned all
 
--- the parts of a turn, as its calls promise them
-pub turned_by : {J : Type 0} (name : J → List ℕ) (started : J → Bool) (gives : GivesOf J) (l m : Bench J) (b : Book) (old new : Spots J) (r r' : Ledger) (k : List ℕ) (p q : J) (o : Result Made Stuck) → job_in (old k) ≡ Some p → PutAt old (spots_of l) k Out → m ≡ l → book_of l ≡ b → Gave gives (seen_in (book_of m) (spots_of m)) (stops_in (book_of m) (spots_of m)) None None p q (halted o) → name p ≡ k → name q ≡ name p → PutAt (spots_of l) new (name q) (slot_after q o) → Counted {S = Stuck} (name p) (started p) (started q) r r' (halted o) → TurnedTo name started gives b old new r r' k o
-turned_by {J = J} name started gives l m b old new r r' k p q o stood out same book gave at_key kept put counted = record {
-  before = p;
-  after = q;
-  mid = spots_of l;
-  stood = stood;
-  out = out;
-  gave = subst (λ (c : Book). Gave gives (seen_in c (spots_of l)) (stops_in c (spots_of l)) None None p q (halted o)) book (subst (λ (n : Bench J). Gave gives (seen_in (book_of n) (spots_of n)) (stops_in (book_of n) (spots_of n)) None None p q (halted o)) same gave);
-  named = kept ∙ at_key;
-  put = subst (λ (n : List ℕ). PutAt (spots_of l) new n (slot_after q o)) (kept ∙ at_key) put;
-  counted = subst (λ (n : List ℕ). Counted {S = Stuck} n (started p) (started q) r r' (halted o)) at_key counted;
-}
+-- the same bench and the same outcome
+pub gave_same : {J : Type 0} (gives : GivesOf J) (m l : Bench J) (p q : J) (o d : Result Made (Halt Stuck)) → m ≡ l → d ≡ o → Gave gives (seen_in (book_of m) (spots_of m)) (stops_in (book_of m) (spots_of m)) None None p q o → Gave gives (seen_in (book_of l) (spots_of l)) (stops_in (book_of l) (spots_of l)) None None p q d
+gave_same {J = J} gives m l p q o d same is gave =
+    subst (λ (r : Result Made (Halt Stuck)). Gave gives (seen_in (book_of l) (spots_of l)) (stops_in (book_of l) (spots_of l)) None None p q r) (sym is) (subst (λ (n : Bench J). Gave gives (seen_in (book_of n) (spots_of n)) (stops_in (book_of n) (spots_of n)) None None p q o) same gave)

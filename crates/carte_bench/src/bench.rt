@@ -6,7 +6,7 @@ ghost use Rattle.carte_bench.specs.declared.slot.Slot.TheVariants as slot;
 
 use crate::{Place, Slot};
 use carte_book::Book;
-use carte_effect::{Job, Made, Stuck};
+use carte_effect::{Digests, Job, Made, Stuck};
 use carte_value::{Name, NoMemory};
 use indexmap::IndexMap;
 use std::alloc::Global;
@@ -19,6 +19,7 @@ pub struct Bench<'b, J> {
     pub(crate) book: &'b Book,
     pub(crate) alloc: Global,
     pub(crate) slots: IndexMap<Name, Slot<J>>,
+    pub(crate) digests: Digests,
 }
 
 impl<'b, J: Job + Drop> Bench<'b, J> {
@@ -31,6 +32,7 @@ impl<'b, J: Job + Drop> Bench<'b, J> {
             book,
             alloc,
             slots: IndexMap::new(alloc),
+            digests: Digests::new(alloc),
         }
     }
 

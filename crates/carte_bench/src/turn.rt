@@ -1,12 +1,14 @@
-ghost use Rattle.std.specs.Prelude.{◌≡◌, true, IfOk};
+ghost use Rattle.std.specs.Prelude.{◌≡◌, true, None, IfOk};
 ghost use Rattle.carte_bench.specs.Held.{spots_of, book_of};
-ghost use Rattle.carte_bench.specs.Spots.{is_ready, AreNamed};
-ghost use Rattle.carte_bench.specs.Turns.{Turned};
+ghost use Rattle.carte_effect.specs.Jobs.{Gave, Counted};
+ghost use Rattle.carte_bench.specs.Spots.{is_ready, seen_in, AreNamed};
+ghost use Rattle.carte_bench.specs.Turns.{stops_in, Turned};
 
 use crate::Bench;
-use carte_effect::{Halt, Job, Made, Runs, Snapshot};
+use carte_effect::{Digests, Halt, Job, Made, Runs, Snapshot, Stuck};
 use carte_value::{Name, NoMemory};
 use std::alloc::Global;
+use std::mem;
 
 impl<J: Job + Drop> Bench<'_, J> {
     /// One turn of a key that is ready: its job is taken, driven over what the bench shows, and put back. The answer is
@@ -25,8 +27,7 @@ impl<J: Job + Drop> Bench<'_, J> {
         let Some(mut job) = self.take(name) else {
             unreachable!()
         };
-        let driven = job.drive(alloc, &mut Snapshot::of(&*self), runs);
-        match driven {
+        match self.drive(alloc, &mut job, runs) {
             Ok(made) => {
                 let copy = made.copy(alloc)?;
                 self.put_back(job, Ok(made));
@@ -38,5 +39,33 @@ impl<J: Job + Drop> Bench<'_, J> {
             }
             Err(Halt::NoMemory) => Err(NoMemory),
         }
+    }
+
+    // Drives a job over what the bench shows. The digests come from the table of the bench, which is no part of what it
+    // shows and so is taken out of it meanwhile.
+    fn drive(&mut self, alloc: Global, job: &mut J, runs: &mut Runs) -> Result<Made, Halt<Stuck>>
+        ensures bench { self.new ≡ self.old }
+        ensures name { J.name job.new ≡ J.name job.old }
+        ensures gave { Gave J.gives (seen_in (book_of self.old) (spots_of self.old)) (stops_in (book_of self.old) (spots_of self.old)) None None job.old job.new result }
+        ensures counted { Counted (J.name job.old) (J.started job.old) (J.started job.new) runs.old runs.new result }
+    {
+        let mut digests = mem::replace(&mut self.digests, Digests::new(self.alloc));
+        let driven = job.drive(alloc, &mut Snapshot::with(&*self, &mut digests), runs);
+        let driven = hashed(driven, &mut digests);
+        self.digests = digests;
+        driven
+    }
+}
+
+// The same, where what was made has its digest.
+fn hashed(driven: Result<Made, Halt<Stuck>>, digests: &mut Digests) -> Result<Made, Halt<Stuck>>
+    ensures { result ≡ driven }
+{
+    match driven {
+        Ok(mut made) => {
+            made.hash(digests);
+            Ok(made)
+        }
+        Err(halt) => Err(halt),
     }
 }
