@@ -3,6 +3,7 @@ pub mod Coding
 pub mod Forms
 pub mod Applying
 pub mod Answered
+pub mod Keeping
 pub mod State
 pub mod Mentions
 pub mod Tasks
