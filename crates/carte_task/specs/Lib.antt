@@ -1,6 +1,7 @@
 pub mod Code
 pub mod Coding
 pub mod Forms
+pub mod Wanting
 pub mod Applying
 pub mod Answered
 pub mod Keeping

@@ -6,7 +6,7 @@ ghost use Rattle.carte_value.specs.Truths.{NoneTwice};
 ghost use Rattle.carte_effect.specs.Effects.{SameStops, paired};
 ghost use Rattle.carte_task.specs.Answered.{Answered};
 
-use crate::code::{Instr, Next};
+use crate::code::{Instr, Next, Wanted};
 use crate::known::Known;
 use crate::{Effect, Halt, Hashed, execute};
 use carte_value::{Kind, Links, Name, Names, NoMemory, Value, Values};
@@ -17,7 +17,7 @@ use std::alloc::Global;
 pub(crate) struct Progress {
     pub(crate) at: usize,
     pub(crate) values: Vec<Value>,
-    pub(crate) names: Names,
+    pub(crate) wanted: Wanted,
     pub(crate) looked: usize,
     pub(crate) next: Next,
     pub(crate) answers: Known,
@@ -81,7 +81,7 @@ impl Progress {
         Progress {
             at: 0,
             values: Vec::new(alloc),
-            names: Names::new(alloc),
+            wanted: Wanted::Nothing,
             looked: 0,
             next: Next::Behind(0),
             answers,
@@ -109,11 +109,10 @@ impl Progress {
         ensures kept { (self.new.at ≡ self.old.at) × (self.new.next ≡ self.old.next) }
         ensures looked { Looked (E.truth effect.old) (E.stops effect.old) (E.log effect.old) (E.log effect.new) self.old self.new result }
     {
-        while self.looked < self.names.len() {
+        while let Some(name) = self.wanted.get(self.looked) {
             if let Err(_refused) = self.values.reserve(1) {
                 return Err(Halt::NoMemory);
             }
-            let name = &self.names.as_slice()[self.looked];
             let value = match answer(alloc, &mut self.answers, name, effect) {
                 Ok(value) => value,
                 Err(halt) => return Err(halt),
@@ -159,7 +158,7 @@ impl Progress {
         }
         let pending = execute::apply(alloc, kind, &code[self.at], &mut self.values)?;
         self.at += 1;
-        self.names = pending.names;
+        self.wanted = pending.wanted;
         self.looked = 0;
         self.next = pending.next;
         Ok(true)
