@@ -6,9 +6,6 @@ use Rattle.carte_value.specs.Asks.{Asks, ask}
 use Rattle.carte_value.specs.Once.{Answers, answer_in, once_on, once}
 use Rattle.carte_value.proofs.Once.{went_end, answers_end}
 use Rattle.carte_value.proofs.Laws.{answer_new}
-use Rattle.indexmap.specs.IndexMap.{insert_entry}
-use Rattle.indexmap.proofs.MapLemmas.{insert_entry-absent, absent_from_lookup}
-use Rattle.carte_value.specs.Names.{name_eq}
 use Rattle.carte_effect.specs.declared.effect.Halt.{Halt}
 use Rattle.carte_effect.specs.declared.effect.Halt.TheVariants.{Stop, NoMemory}
 use Rattle.carte_effect.specs.Effects.{more}
@@ -78,7 +75,6 @@ along_halts t own log0 log1 log a0 a1 a r0 k go P NoMemory way (inl (same, still
 along_halts t own log0 log1 log a0 a1 a r0 k go P NoMemory way (inr (v, is)) = (along_kept t log0 log1 log a0 a1 a r0 k v go way is, tt)
 
 -- a name without an answer was put behind the answers with its value
-pub is_new : (t : Truth) (log0 log : Option Answers) (a0 b a : Answers) (k own : List ℕ) (v w : Value) → answer_in a0 k ≡ None → b ≡ a0 → own ≡ k → a ≡ insert_entry name_eq b own v → t k ≡ Some v → log ≡ more log0 ((k, v) ∷ []) → w ≡ v → IsAnswer t log0 log a0 a k w
+pub is_new : (t : Truth) (log0 log : Option Answers) (a0 b a : Answers) (k own : List ℕ) (v w : Value) → answer_in a0 k ≡ None → b ≡ a0 → own ≡ k → a ≡ b ++ (own, v) ∷ [] → t k ≡ Some v → log ≡ more log0 ((k, v) ∷ []) → w ≡ v → IsAnswer t log0 log a0 a k w
 is_new t log0 log a0 b a k own v w none same named put is listed copied =
-    let added : insert_entry name_eq a0 k v ≡ a0 ++ (k, v) ∷ [] = insert_entry-absent name_eq k v a0 (absent_from_lookup (name_eq k) a0 none) in
-    inr (rw copied (none, is, put ∙ ap (λ c. insert_entry name_eq c own v) same ∙ ap (λ j. insert_entry name_eq a0 j v) named ∙ added, listed))
+    inr (rw copied (none, is, put ∙ ap (λ c. c ++ (own, v) ∷ []) same ∙ ap (λ j. a0 ++ (j, v) ∷ []) named, listed))

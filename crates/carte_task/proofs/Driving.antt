@@ -1,7 +1,10 @@
 -- A task on its way: names that are looked up, and instructions that are passed over.
-use Rattle.std.proofs.Common.{◌≡◌, ℕ, ◌+◌, ◌<◌, Bool, true, false, List, [], ◌∷◌, ◌++◌, Option, Result, Ok, Err, refl, ap, sym, ◌∙◌, subst, zero, suc, length, get_or, drop, add-one, append_assoc}
+use Rattle.std.proofs.Common.{◌≡◌, ℕ, ◌+◌, ◌<◌, Bool, true, false, List, [], ◌∷◌, ◌++◌, Option, Some, None, Result, Ok, Err, inl, inr, refl, ap, sym, ◌∙◌, subst, zero, suc, length, get_or, drop, add-one, append_assoc}
 use Rattle.std.specs.Result.{IsErr, IsErrAnd}
+use Rattle.std.specs.List.{slice_get}
 use Rattle.std.proofs.Math.Seq.{drop-cons, drop-nil}
+use Rattle.std.proofs.Math.ListN.{drop_of_length-le}
+use Rattle.std.proofs.lemmas.Option.{slice_get_cases}
 use Rattle.carte_value.specs.declared.kind.Kind.{Kind}
 use Rattle.carte_value.specs.declared.value.Value.{Value}
 use Rattle.carte_value.specs.Truths.{Truth}
@@ -25,6 +28,13 @@ use Rattle.carte_task.proofs.Answering.{along_answer, along_halts}
 -- the next of the names to be looked up
 next_of : (names : List (List ℕ)) (at : ℕ) (k : List ℕ) → at < length names → k ≡ get_or names at k → drop at names ≡ k ∷ drop (at + 1) names
 next_of names at k within is = drop-cons names at k within ∙ ap (λ j. j ∷ drop (suc at) names) (sym is) ∙ ap (λ n. k ∷ drop n names) (sym (add-one at))
+
+-- there is none
+pub none_left : {X : Type 0} (xs : List X) (at : ℕ) → slice_get xs at ≡ None → drop at xs ≡ []
+none_left xs at none = elim (slice_get_cases xs at).1 [
+  | inl (x, within, some, here) ↦ cc
+  | inr (past, same) ↦ drop_of_length-le xs past
+]
 
 -- it has an answer
 pub looking_on : (t u : Truth) (log0 log1 log : Option Answers) (a0 a1 a : Answers) (r0 : Asks Value) (names : List (List ℕ)) (at : ℕ) (vs ws : List Value) (k : List ℕ) (v : Value) (go : List Value → Asks Value) → u ≡ t → at < length names → k ≡ get_or names at k → ws ≡ vs ++ v ∷ [] → IsAnswer u log1 log a1 a k v → Along t log0 log1 a0 r0 a1 (once a1 (pushed (drop at names) vs go)) → Along t log0 log a0 r0 a (once a (pushed (drop (at + 1) names) ws go))

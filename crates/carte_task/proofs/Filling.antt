@@ -2,8 +2,6 @@
 use Rattle.std.proofs.Common.{◌≡◌, ℕ, ◌+◌, ◌<◌, Bool, true, false, not, cond, List, [], ◌∷◌, ◌++◌, Option, Some, None, Ok, length, drop, get_or, suc, add-one, refl, ap, sym, ◌∙◌, subst, append_assoc, append-nil, filter, inl, inr}
 use Rattle.std.proofs.Math.Seq.{drop-cons}
 use Rattle.std.specs.Cmp.Lexicographic.{bytes_decides, nat_list_eq_equiv}
-use Rattle.indexmap.specs.IndexMap.{insert_entry}
-use Rattle.indexmap.proofs.MapLemmas.{insert_entry-absent, absent_from_lookup}
 use Rattle.carte_value.specs.declared.value.Value.{Value}
 use Rattle.carte_value.specs.Names.{name_eq}
 use Rattle.carte_value.specs.Truths.{Truth, Among, NoneTwice}
@@ -72,18 +70,21 @@ absent ((i, u) ∷ es) k v rest (j ∷ ks) (w ∷ vs) (new, once) is =
       | false ↦ λ other. absent es k v rest ks vs once tail
     ] refl
 
--- the next name has its value
-pub fill_on : (names : List (List ℕ)) (vs left now : List Value) (at : ℕ) (k : List ℕ) (v : Value) (es new : Answers) → NoneTwice names → at < length names → k ≡ get_or names at k → now ≡ v ∷ left → es ++ paired (drop at names) now ≡ paired names vs → new ≡ insert_entry name_eq es k v → new ++ paired (drop (at + 1) names) left ≡ paired names vs
-fill_on names vs left now at k v es new once within is next before put =
-    let split : drop at names ≡ k ∷ drop (at + 1) names = drop-cons names at k within ∙ ap (λ j. j ∷ drop (suc at) names) (sym is) ∙ ap (λ n. k ∷ drop n names) (sym (add-one at)) in
-    let here : es ++ ((k, v) ∷ paired (drop (at + 1) names) left) ≡ paired names vs = ap (λ ks. es ++ paired ks (v ∷ left)) (sym split) ∙ ap (λ us. es ++ paired (drop at names) us) (sym next) ∙ before in
-    let none : answer_in es k ≡ None = absent es k v (paired (drop (at + 1) names) left) names vs once here in
-    ap (λ a. a ++ paired (drop (at + 1) names) left) (put ∙ insert_entry-absent name_eq k v es (absent_from_lookup (name_eq k) es none)) ∙ append_assoc es ((k, v) ∷ []) (paired (drop (at + 1) names) left) ∙ here
+-- what is left of the names begins with the next one
+here_of : (items names : List (List ℕ)) (vs left now : List Value) (at : ℕ) (k : List ℕ) (v : Value) (es : Answers) → at < length items → k ≡ get_or items at k → now ≡ v ∷ left → es ++ paired (drop at items) now ≡ paired names vs → es ++ ((k, v) ∷ paired (drop (at + 1) items) left) ≡ paired names vs
+here_of items names vs left now at k v es within is next before =
+    let split : drop at items ≡ k ∷ drop (at + 1) items = drop-cons items at k within ∙ ap (λ j. j ∷ drop (suc at) items) (sym is) ∙ ap (λ n. k ∷ drop n items) (sym (add-one at)) in
+    ap (λ ks. es ++ paired ks (v ∷ left)) (sym split) ∙ ap (λ us. es ++ paired (drop at items) us) (sym next) ∙ before
 
-pub fill_step : (items names : List (List ℕ)) (vs left now : List Value) (at : ℕ) (k : List ℕ) (v : Value) (es new : Answers) → items ≡ names → NoneTwice names → at < length items → k ≡ get_or items at k → now ≡ v ∷ left → es ++ paired (drop at items) now ≡ paired names vs → new ≡ insert_entry name_eq es k v → new ++ paired (drop (at + 1) items) left ≡ paired names vs
-fill_step items names vs left now at k v es new same once within is next before put =
-    let P : List (List ℕ) → Type 0 = λ js. at < length js → k ≡ get_or js at k → es ++ paired (drop at js) now ≡ paired names vs → new ++ paired (drop (at + 1) js) left ≡ paired names vs in
-    subst P (sym same) (λ inside here so_far. fill_on names vs left now at k v es new once inside here next so_far put) within is before
+-- it has no answer yet
+pub fill_new : (items names : List (List ℕ)) (vs left now : List Value) (at : ℕ) (k : List ℕ) (v : Value) (es : Answers) → NoneTwice names → at < length items → k ≡ get_or items at k → now ≡ v ∷ left → es ++ paired (drop at items) now ≡ paired names vs → answer_in es k ≡ None
+fill_new items names vs left now at k v es once within is next before =
+    absent es k v (paired (drop (at + 1) items) left) names vs once (here_of items names vs left now at k v es within is next before)
+
+-- it has its value
+pub fill_step : (items names : List (List ℕ)) (vs left now : List Value) (at : ℕ) (k : List ℕ) (v : Value) (es new : Answers) → at < length items → k ≡ get_or items at k → now ≡ v ∷ left → es ++ paired (drop at items) now ≡ paired names vs → new ≡ es ++ (k, v) ∷ [] → new ++ paired (drop (at + 1) items) left ≡ paired names vs
+fill_step items names vs left now at k v es new within is next before put =
+    ap (λ a. a ++ paired (drop (at + 1) items) left) put ∙ append_assoc es ((k, v) ∷ []) (paired (drop (at + 1) items) left) ∙ here_of items names vs left now at k v es within is next before
 
 no_values : (ks : List (List ℕ)) → paired ks [] ≡ []
 no_values [] = refl

@@ -5,6 +5,7 @@ pub mod Stack
 pub mod Coding
 pub mod Shapes
 pub mod Links
+pub mod Keeping
 pub mod Mentioning
 pub mod Stepping
 pub mod Linking

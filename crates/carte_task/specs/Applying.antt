@@ -8,6 +8,7 @@ use Rattle.carte_task.specs.declared.code.Instr.{Instr}
 use Rattle.carte_task.specs.declared.code.Next.{Next}
 use Rattle.carte_task.specs.declared.code.Next.TheVariants.{Behind, Joined}
 use Rattle.carte_task.specs.declared.code.Pending.{Pending}
+use Rattle.carte_task.specs.Wanting.{names_wanted}
 use Rattle.carte_task.specs.Code.{newest, put, pushed, done_by, exec}
 
 -- what goes on once the names are looked up
@@ -17,7 +18,7 @@ goes (Joined n) go ws = go 0 (put n ws (joined (newest n ws)))
 
 -- the instruction means to look these names up onto the new stack, and to go on so
 abbrev pub Applies : {E : Type 0} → Kind → Instr → List Value → List Value → Result Pending E → Type 0
-Applies kind c old new (Ok p) = (go : ℕ → List Value → Asks Value) → done_by kind c old go ≡ pushed p.names new (goes p.next go)
+Applies kind c old new (Ok p) = (go : ℕ → List Value → Asks Value) → done_by kind c old go ≡ pushed (names_wanted p.wanted) new (goes p.next go)
 Applies kind c old new (Err e) = new ≡ old
 
 -- what instructions ask for, once names are looked up

@@ -1,8 +1,10 @@
 pub mod Code
 pub mod Coding
 pub mod Forms
+pub mod Wanting
 pub mod Applying
 pub mod Answered
+pub mod Keeping
 pub mod State
 pub mod Mentions
 pub mod Tasks

@@ -8,6 +8,7 @@ use Rattle.carte_value.specs.Once.{Answers, once}
 use Rattle.carte_effect.specs.declared.effect.Halt.{Halt}
 use Rattle.carte_task.specs.declared.code.Instr.{Instr}
 use Rattle.carte_task.specs.declared.progress.Progress.{Progress}
+use Rattle.carte_task.specs.Wanting.{names_wanted}
 use Rattle.carte_task.specs.Code.{pushed, exec, top}
 use Rattle.carte_task.specs.Answered.{Along, Halted}
 use Rattle.carte_task.specs.Applying.{goes}
@@ -17,7 +18,7 @@ answers_in p = p.answers.entries
 
 -- the names that are still to be looked up first
 abbrev pub pending : Progress → List (List ℕ)
-pending p = drop p.looked p.names
+pending p = drop p.looked (names_wanted p.wanted)
 
 -- first these names, and then what goes on over the stack; each name once, and none that was answered
 abbrev pub waits : Progress → (List Value → Asks Value) → Asks Value

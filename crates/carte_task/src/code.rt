@@ -1,8 +1,9 @@
-ghost use Rattle.std.specs.Prelude.{◌≡◌, IfOk};
+ghost use Rattle.std.specs.Prelude.{◌≡◌, ◌<◌, ◌^◌, IfOk, IfSome, option_copied, slice_get};
+ghost use Rattle.carte_task.specs.Wanting.{names_wanted};
 
 use crate::range::Range;
 use carte_tree::{Func, Op};
-use carte_value::{Name, NoMemory, Value};
+use carte_value::{Name, Names, NoMemory, Value};
 use std::alloc::Global;
 
 /// One step of a formula that is written in postfix order. Values wait on a stack.
@@ -39,10 +40,36 @@ pub(crate) enum Next {
     Joined(usize),
 }
 
+/// Names to be looked up, in order. One name takes no memory.
+#[derive(Drop)]
+pub(crate) enum Wanted {
+    Nothing,
+    One(Name),
+    Many(Names),
+}
+
+impl Wanted {
+    /// The name at a place counted from 0.
+    pub(crate) fn get(&self, at: usize) -> Option<&Name>
+        ensures name { option_copied result ≡ slice_get (names_wanted self.now) at }
+        ensures bound { IfSome result (λ _. at < 2 ^ 32) }
+    {
+        match self {
+            Wanted::Nothing => None,
+            Wanted::One(name) => if at == 0 { Some(name) } else { None },
+            Wanted::Many(names) => if at < names.len() {
+                Some(&names.as_slice()[at])
+            } else {
+                None
+            },
+        }
+    }
+}
+
 /// Names to be looked up onto the stack, and how it goes on then.
 #[derive(Drop)]
 pub(crate) struct Pending {
-    pub(crate) names: carte_value::Names,
+    pub(crate) wanted: Wanted,
     pub(crate) next: Next,
 }
 

@@ -4,13 +4,14 @@ ghost use Rattle.std.specs.Prelude.{◌≡◌, ◌++◌, ◌∷◌, [], List, le
 ghost use Rattle.carte_tree.specs.Texts.{joined};
 ghost use Rattle.carte_task.specs.Code.{newest, below, put, top};
 ghost use Rattle.carte_task.specs.Applying.{Applies};
+ghost use Rattle.carte_task.specs.Wanting.{names_wanted};
 ghost use Rattle.carte_task.specs.declared.code.Instr.TheVariants as i;
 
-use crate::code::{Instr, Next, Pending};
+use crate::code::{Instr, Next, Pending, Wanted};
 use crate::range::Range;
 use carte_functions::{condition, name_in, names_in};
 use carte_tree::{Func, Op};
-use carte_value::{Kind, Name, Names, NoMemory, Value};
+use carte_value::{Kind, Name, NoMemory, Value};
 use std::alloc::Global;
 
 /// Does one instruction to the stack. Where it has no memory, the stack is as before.
@@ -30,19 +31,19 @@ pub(crate) fn apply(
         Instr::Apply(op) => operate(alloc, kind, *op, values),
         Instr::Call(func, count) => call(alloc, kind, *func, *count, values),
         Instr::Test(other, end) => test(alloc, kind, *other, *end, values),
-        Instr::Jump(count) => Ok(behind(alloc, *count)),
+        Instr::Jump(count) => Ok(behind(*count)),
         Instr::Indirect => indirect(alloc, kind, values),
         Instr::Gather => gather(alloc, kind, values),
     }
 }
 
 // Nothing to be looked up.
-fn behind(alloc: Global, count: usize) -> Pending
-    ensures names { result.names ≡ [] }
+fn behind(count: usize) -> Pending
+    ensures wanted { names_wanted result.wanted ≡ [] }
     ensures next { result.next ≡ Next.Behind count }
 {
     Pending {
-        names: Names::new(alloc),
+        wanted: Wanted::Nothing,
         next: Next::Behind(count),
     }
 }
@@ -79,17 +80,12 @@ pub(crate) fn top(alloc: Global, values: &Vec<Value>) -> Result<Value, NoMemory>
     }
 }
 
-fn put_behind(
-    alloc: Global,
-    values: &mut Vec<Value>,
-    count: usize,
-    value: Value,
-) -> Result<Pending, NoMemory>
-    ensures ok { IfOk result (λ p. (values.new.items ≡ put count values.old.items value) × (p.names ≡ []) × (p.next ≡ Next.Behind 0)) }
+fn put_behind(values: &mut Vec<Value>, count: usize, value: Value) -> Result<Pending, NoMemory>
+    ensures ok { IfOk result (λ p. (values.new.items ≡ put count values.old.items value) × (names_wanted p.wanted ≡ []) × (p.next ≡ Next.Behind 0)) }
     ensures err { OnErr result (values.new.items ≡ values.old.items) }
 {
     replace(values, count, value)?;
-    Ok(behind(alloc, 0))
+    Ok(behind(0))
 }
 
 fn push(
@@ -101,7 +97,7 @@ fn push(
     ensures { Applies kind (i.Push value.now) values.old.items values.new.items result }
 {
     match values.push(value.copy(alloc)?) {
-        Ok(()) => Ok(behind(alloc, 0)),
+        Ok(()) => Ok(behind(0)),
         Err(_) => Err(NoMemory),
     }
 }
@@ -109,10 +105,8 @@ fn push(
 fn look(alloc: Global, kind: Kind, name: &Name, values: &Vec<Value>) -> Result<Pending, NoMemory>
     ensures { Applies kind (i.Look name.now) values.now.items values.now.items result }
 {
-    let mut names = Names::new(alloc);
-    names.push(name.copy(alloc)?)?;
     Ok(Pending {
-        names,
+        wanted: Wanted::One(name.copy(alloc)?),
         next: Next::Behind(0),
     })
 }
@@ -121,7 +115,7 @@ fn cells(alloc: Global, kind: Kind, range: &Range, values: &Vec<Value>) -> Resul
     ensures { Applies kind (i.Cells range.now) values.now.items values.now.items result }
 {
     Ok(Pending {
-        names: range.names(alloc)?,
+        wanted: Wanted::Many(range.names(alloc)?),
         next: Next::Behind(0),
     })
 }
@@ -130,14 +124,14 @@ fn negate(alloc: Global, kind: Kind, values: &mut Vec<Value>) -> Result<Pending,
     ensures { Applies kind i.Negate values.old.items values.new.items result }
 {
     let value = carte_functions::negate(newest(values, 1));
-    put_behind(alloc, values, 1, value)
+    put_behind(values, 1, value)
 }
 
 fn operate(alloc: Global, kind: Kind, op: Op, values: &mut Vec<Value>) -> Result<Pending, NoMemory>
     ensures { Applies kind (i.Apply op) values.old.items values.new.items result }
 {
     let value = carte_functions::apply(alloc, op, newest(values, 2))?;
-    put_behind(alloc, values, 2, value)
+    put_behind(values, 2, value)
 }
 
 fn call(
@@ -154,7 +148,7 @@ fn call(
         return Err(NoMemory);
     }
     let value = carte_functions::call(alloc, func, args)?;
-    put_behind(alloc, values, count, value)
+    put_behind(values, count, value)
 }
 
 fn test(
@@ -168,23 +162,23 @@ fn test(
 {
     let value = top(alloc, values)?;
     match condition(&value) {
-        Ok(true) => Ok(drop_top(alloc, values, 0)),
-        Ok(false) => Ok(drop_top(alloc, values, other)),
+        Ok(true) => Ok(drop_top(values, 0)),
+        Ok(false) => Ok(drop_top(values, other)),
         Err(value) => {
             replace(values, 1, value)?;
-            Ok(behind(alloc, end))
+            Ok(behind(end))
         }
     }
 }
 
-fn drop_top(alloc: Global, values: &mut Vec<Value>, count: usize) -> Pending
+fn drop_top(values: &mut Vec<Value>, count: usize) -> Pending
     ensures values { values.new.items ≡ below 1 values.old.items }
-    ensures names { result.names ≡ [] }
+    ensures wanted { names_wanted result.wanted ≡ [] }
     ensures next { result.next ≡ Next.Behind count }
 {
     let len = values.len().saturating_sub(1);
     values.truncate(len);
-    behind(alloc, count)
+    behind(count)
 }
 
 fn indirect(alloc: Global, kind: Kind, values: &mut Vec<Value>) -> Result<Pending, NoMemory>
@@ -192,24 +186,23 @@ fn indirect(alloc: Global, kind: Kind, values: &mut Vec<Value>) -> Result<Pendin
 {
     let value = top(alloc, values)?;
     match name_in(alloc, kind, &value)? {
-        Ok(name) => one(alloc, name, values),
-        Err(value) => put_behind(alloc, values, 1, value),
+        Ok(name) => Ok(one(name, values)),
+        Err(value) => put_behind(values, 1, value),
     }
 }
 
 // One name to be looked up in the place of the newest value.
-fn one(alloc: Global, name: Name, values: &mut Vec<Value>) -> Result<Pending, NoMemory>
-    ensures ok { IfOk result (λ p. (values.new.items ≡ below 1 values.old.items) × (p.names ≡ name ∷ []) × (p.next ≡ Next.Behind 0)) }
-    ensures err { OnErr result (values.new.items ≡ values.old.items) }
+fn one(name: Name, values: &mut Vec<Value>) -> Pending
+    ensures values { values.new.items ≡ below 1 values.old.items }
+    ensures wanted { names_wanted result.wanted ≡ name ∷ [] }
+    ensures next { result.next ≡ Next.Behind 0 }
 {
-    let mut names = Names::new(alloc);
-    names.push(name)?;
     let len = values.len().saturating_sub(1);
     values.truncate(len);
-    Ok(Pending {
-        names,
+    Pending {
+        wanted: Wanted::One(name),
         next: Next::Behind(0),
-    })
+    }
 }
 
 fn gather(alloc: Global, kind: Kind, values: &mut Vec<Value>) -> Result<Pending, NoMemory>
@@ -222,11 +215,11 @@ fn gather(alloc: Global, kind: Kind, values: &mut Vec<Value>) -> Result<Pending,
             values.truncate(len);
             let count = names.len();
             Ok(Pending {
-                names,
+                wanted: Wanted::Many(names),
                 next: Next::Joined(count),
             })
         }
-        Err(value) => put_behind(alloc, values, 1, value),
+        Err(value) => put_behind(values, 1, value),
     }
 }
 

@@ -27,6 +27,7 @@ mod check;
 mod code;
 mod compile;
 mod execute;
+mod known;
 mod machine;
 mod machine_job;
 mod mentioned;

@@ -99,6 +99,6 @@ impl Machine {
         let key = self.task.key.copy(alloc)?;
         runs.end(alloc, &self.task.key)?;
         self.ended = true;
-        Ok(Ended::new(key, Hashed::of(value), links))
+        Ok(Ended::new(key, Hashed::unhashed(value), links))
     }
 }

@@ -1,16 +1,15 @@
-ghost use Rattle.std.specs.Prelude.{◌≡◌, ◌+◌, ◌<◌, ◌≤◌, ◌∷◌, [], List, length, IfOk, OnOk, drop};
+ghost use Rattle.std.specs.Prelude.{◌≡◌, ◌+◌, ◌<◌, ◌≤◌, ◌∷◌, ◌++◌, [], List, length, None, IfOk, OnOk, drop};
 ghost use Rattle.carte_value.specs.declared.kind.Kind.{Kind as SomeKind};
 ghost use Rattle.carte_task.specs.declared.code.Instr.{Instr};
-ghost use Rattle.indexmap.specs.IndexMap.{insert_entry};
-ghost use Rattle.carte_value.specs.Names.{name_eq};
+ghost use Rattle.carte_value.specs.Once.{answer_in};
 ghost use Rattle.carte_value.specs.Truths.{NoneTwice};
 ghost use Rattle.carte_effect.specs.Effects.{SameStops, paired};
 ghost use Rattle.carte_task.specs.Answered.{Answered};
 
-use crate::code::{Instr, Next};
+use crate::code::{Instr, Next, Wanted};
+use crate::known::Known;
 use crate::{Effect, Halt, Hashed, execute};
-use carte_value::{Kind, Link, Links, Name, Names, NoMemory, Value, Values};
-use indexmap::IndexMap;
+use carte_value::{Kind, Links, Name, Names, NoMemory, Value, Values};
 use std::alloc::Global;
 
 /// How far a task has come: the place in its code, the stack, the names to be looked up first, and the answers so far in order.
@@ -18,16 +17,16 @@ use std::alloc::Global;
 pub(crate) struct Progress {
     pub(crate) at: usize,
     pub(crate) values: Vec<Value>,
-    pub(crate) names: Names,
+    pub(crate) wanted: Wanted,
     pub(crate) looked: usize,
     pub(crate) next: Next,
-    pub(crate) answers: IndexMap<Name, Hashed>,
+    pub(crate) answers: Known,
 }
 
 // The value of a name: a second look-up takes the first answer.
 fn answer<E: Effect>(
     alloc: Global,
-    answers: &mut IndexMap<Name, Hashed>,
+    answers: &mut Known,
     name: &Name,
     effect: &mut E,
 ) -> Result<Value, Halt<E::Stop>>
@@ -35,25 +34,18 @@ fn answer<E: Effect>(
     ensures stops { SameStops (E.stops effect.old) (E.stops effect.new) }
     ensures answered { Answered (E.truth effect.old) (E.stops effect.old) (E.log effect.old) (E.log effect.new) answers.old.entries answers.new.entries name.now result }
 {
-    if let Some(value) = answers.get(name) {
+    if let Some(value) = answers.find(name) {
         return Ok(value.value().copy(alloc)?);
     }
     let own = name.copy(alloc)?;
-    if let Err(_refused) = answers.reserve(1) {
-        return Err(Halt::NoMemory);
-    }
+    answers.reserve()?;
     let value = match effect.fetch(alloc, name) {
         Ok(value) => value,
         Err(halt) => return Err(halt),
     };
     let copy = value.value().copy(alloc);
-    match answers.insert(own, value) {
-        Ok(_old) => match copy {
-            Ok(value) => Ok(value),
-            Err(_) => Err(Halt::NoMemory),
-        },
-        Err(_refused) => unreachable!(),
-    }
+    answers.put(own, value);
+    Ok(copy?)
 }
 
 impl Progress {
@@ -67,7 +59,7 @@ impl Progress {
         ensures answers { answers_in result ≡ [] }
         ensures rest { (kind : SomeKind) (code : List Instr) → rest_in kind code result ≡ once [] (exec kind 0 code []) }
     {
-        Progress::knowing(alloc, IndexMap::new(alloc))
+        Progress::knowing(alloc, Known::new(alloc))
     }
 
     /// At the start of its code, with values for these names.
@@ -76,20 +68,20 @@ impl Progress {
         ensures answers { IfOk result (λ p. answers_in p ≡ paired names.now values) }
         ensures rest { IfOk result (λ p. (kind : SomeKind) (code : List Instr) → rest_in kind code p ≡ once (answers_in p) (exec kind 0 code [])) }
     {
-        let mut answers = IndexMap::new(alloc);
+        let mut answers = Known::new(alloc);
         fill(alloc, names, values, &mut answers)?;
         Ok(Progress::knowing(alloc, answers))
     }
 
     // At the start of its code, with these answers.
-    fn knowing(alloc: Global, answers: IndexMap<Name, Hashed>) -> Progress
+    fn knowing(alloc: Global, answers: Known) -> Progress
         ensures answers { answers_in result ≡ answers.entries }
         ensures rest { (kind : SomeKind) (code : List Instr) → rest_in kind code result ≡ once answers.entries (exec kind 0 code []) }
     {
         Progress {
             at: 0,
             values: Vec::new(alloc),
-            names: Names::new(alloc),
+            wanted: Wanted::Nothing,
             looked: 0,
             next: Next::Behind(0),
             answers,
@@ -107,18 +99,7 @@ impl Progress {
     pub(crate) fn links(&self, alloc: Global) -> Result<Links, NoMemory>
         ensures { IfOk result (λ links. links ≡ links_of (answers_in self.now)) }
     {
-        let mut links = Links::new(alloc);
-        for at in 0..self.answers.len() {
-            let Some((name, value)) = self.answers.get_index(at) else {
-                unreachable!()
-            };
-            let name = name.copy(alloc)?;
-            links.push(Link {
-                name,
-                digest: value.digest(),
-            })?;
-        }
-        Ok(links)
+        self.answers.links(alloc)
     }
 
     /// Looks up the names that are to be looked up first, each onto the stack.
@@ -128,11 +109,10 @@ impl Progress {
         ensures kept { (self.new.at ≡ self.old.at) × (self.new.next ≡ self.old.next) }
         ensures looked { Looked (E.truth effect.old) (E.stops effect.old) (E.log effect.old) (E.log effect.new) self.old self.new result }
     {
-        while self.looked < self.names.len() {
+        while let Some(name) = self.wanted.get(self.looked) {
             if let Err(_refused) = self.values.reserve(1) {
                 return Err(Halt::NoMemory);
             }
-            let name = &self.names.as_slice()[self.looked];
             let value = match answer(alloc, &mut self.answers, name, effect) {
                 Ok(value) => value,
                 Err(halt) => return Err(halt),
@@ -178,7 +158,7 @@ impl Progress {
         }
         let pending = execute::apply(alloc, kind, &code[self.at], &mut self.values)?;
         self.at += 1;
-        self.names = pending.names;
+        self.wanted = pending.wanted;
         self.looked = 0;
         self.next = pending.next;
         Ok(true)
@@ -225,12 +205,7 @@ fn behind(at: usize, count: usize, len: usize) -> usize
 }
 
 // Answers for names, in order, as far as there are values.
-fn fill(
-    alloc: Global,
-    names: &Names,
-    values: Values,
-    answers: &mut IndexMap<Name, Hashed>,
-) -> Result<(), NoMemory>
+fn fill(alloc: Global, names: &Names, values: Values, answers: &mut Known) -> Result<(), NoMemory>
     requires names { NoneTwice names.now }
     requires answers { answers.old.entries ≡ [] }
     ensures { OnOk result (answers.new.entries ≡ paired names.now values) }
@@ -246,17 +221,12 @@ fn fill(
     Ok(())
 }
 
-fn put(
-    alloc: Global,
-    name: &Name,
-    value: Value,
-    answers: &mut IndexMap<Name, Hashed>,
-) -> Result<(), NoMemory>
-    ensures { OnOk result (answers.new.entries ≡ insert_entry name_eq answers.old.entries name.now value) }
+fn put(alloc: Global, name: &Name, value: Value, answers: &mut Known) -> Result<(), NoMemory>
+    requires { answer_in answers.old.entries name.now ≡ None }
+    ensures { OnOk result (answers.new.entries ≡ answers.old.entries ++ (name.now, value) ∷ []) }
 {
     let name = name.copy(alloc)?;
-    match answers.insert(name, Hashed::unhashed(value)) {
-        Ok(_) => Ok(()),
-        Err(_) => Err(NoMemory),
-    }
+    answers.reserve()?;
+    answers.put(name, Hashed::unhashed(value));
+    Ok(())
 }

@@ -67,7 +67,7 @@ impl StaticTask {
         let links = progress.links(alloc)?;
         let key = self.key.copy(alloc)?;
         count(alloc, &self.key, runs)?;
-        Ok(Ended::new(key, Hashed::of(value), links))
+        Ok(Ended::new(key, Hashed::unhashed(value), links))
     }
 
     // What a machine makes of these values, without asking.

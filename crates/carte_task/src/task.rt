@@ -36,7 +36,7 @@ impl Task {
     {
         static_runs();
         let key = key.copy(alloc)?;
-        let mut code = Vec::new(alloc);
+        let mut code = Vec::with_capacity(alloc, 8)?;
         compile::write(alloc, expr, &mut code)?;
         Ok(Task {
             key,
