@@ -1,44 +1,11 @@
-//! Sources, sinks and disks: what they pass on, where they fail, and what a crash leaves.
+//! Sources, sinks and files: what they pass on, and where they fail.
 
 use carte_io::{
-    Absent, Disk, FileDisk, MemDisk, MemSink, MemSource, NoMemory, Pick, ReadEnd, ReadSource, Sink,
-    Source, WriteSink, read_whole, write_all,
+    Disk, FileDisk, MemSink, MemSource, ReadEnd, ReadSource, Sink, WriteSink, read_whole, write_all,
 };
-use std::alloc::Global;
 use std::fs::OpenOptions;
-use std::io::{self, ErrorKind, Read, Write};
+use std::io::{self, ErrorKind, Write};
 use std::test::Fail;
-
-// A reader whose second call fails, and whose others give two bytes each.
-#[derive(Drop)]
-struct Flaky {
-    calls: u8,
-}
-
-impl Read for Flaky {
-    fn read(&mut self, buf: &mut [u8]) -> io::Result<usize> {
-        self.calls = self.calls.saturating_add(1);
-        if self.calls == 2 {
-            return Err(io::Error::from(ErrorKind::Other));
-        }
-        let count = buf.len().min(2);
-        Ok(count)
-    }
-}
-
-// A writer that takes nothing.
-#[derive(Drop)]
-struct Stuck;
-
-impl Write for Stuck {
-    fn write(&mut self, _buf: &[u8]) -> io::Result<usize> {
-        Ok(0)
-    }
-
-    fn flush(&mut self) -> io::Result<()> {
-        Ok(())
-    }
-}
 
 // A writer that takes all of it, and can't hand it on.
 #[derive(Drop)]
@@ -81,21 +48,6 @@ fn a_source_is_read_whole(rt: HostRuntime) -> Result<(), Fail> {
 }
 
 #[test]
-fn an_error_is_no_end(rt: HostRuntime) -> Result<(), Fail> {
-    let mut source = ReadSource::of(Flaky { calls: 0 });
-    let mut into = [0; 8];
-    assert_eq!(rt; source.read(&mut into).ok(), Some(2));
-    assert!(rt; source.read(&mut into).is_err());
-    assert_eq!(rt; source.read(&mut into).ok(), Some(2));
-    let mut absent = Absent::of();
-    assert!(rt; matches!(read_whole(rt.alloc(), &mut absent, 9), Err(ReadEnd::Failed)));
-    let mut stuck = WriteSink::of(Stuck);
-    assert!(rt; write_all(&mut stuck, b"ab").is_err());
-    assert!(rt; write_all(&mut stuck, b"").is_ok());
-    Ok(())
-}
-
-#[test]
 fn a_sink_takes_it_all(rt: HostRuntime) -> Result<(), Fail> {
     let mut sink = MemSink::new(rt.alloc(), 3, &[5])?;
     assert!(rt; write_all(&mut sink, b"abcdefgh").is_ok());
@@ -125,89 +77,6 @@ fn what_cannot_hand_on_fails(rt: HostRuntime) -> Result<(), Fail> {
     assert!(rt; disk.write_at(0, b"ab").is_ok());
     assert!(rt; disk.sync().is_err(), "a device that can't sync");
     assert!(rt; disk.len().is_err(), "a device has no length");
-    Ok(())
-}
-
-#[test]
-fn what_is_absent_fails(rt: HostRuntime) -> Result<(), Fail> {
-    let mut absent = Absent::of();
-    let mut into = [7; 1];
-    assert!(rt; absent.len().is_err());
-    assert!(rt; absent.read_at(0, &mut into).is_err());
-    assert!(rt; absent.write_at(0, b"a").is_err());
-    assert!(rt; absent.sync().is_err());
-    assert_eq!(rt; into, [7]);
-    Ok(())
-}
-
-// The image after some calls: `XY` at 1, a sync, and `Z` at 5, over `abcd`.
-fn crashed(alloc: Global, calls: u64, pick: Pick) -> Result<Vec<u8>, NoMemory> {
-    let mut disk = MemDisk::of(alloc, b"abcd", &[])?;
-    disk.stop_after(calls);
-    let _ = disk.write_at(1, b"XY");
-    let _ = disk.sync();
-    let _ = disk.write_at(5, b"Z");
-    let image = disk.crash(alloc, pick)?;
-    Ok(image.bytes().to_vec(alloc)?)
-}
-
-#[test]
-fn crashes_leave_what_is_picked(rt: HostRuntime) -> Result<(), Fail> {
-    let cases = [
-        (
-            0,
-            b"abcd".as_slice(),
-            b"abcd".as_slice(),
-            b"abcd".as_slice(),
-        ),
-        (
-            1,
-            b"abcd".as_slice(),
-            b"aXYd".as_slice(),
-            b"a..d".as_slice(),
-        ),
-        (
-            2,
-            b"aXYd".as_slice(),
-            b"aXYd".as_slice(),
-            b"aXYd".as_slice(),
-        ),
-        (
-            3,
-            b"aXYd".as_slice(),
-            b"aXYd\0Z".as_slice(),
-            b"aXYd..".as_slice(),
-        ),
-    ];
-    for (calls, lost, kept, filled) in cases {
-        assert_eq!(rt;
-            crashed(rt.alloc(), calls, Pick::Lost)?.as_slice(),
-            lost,
-            "lost at {calls}"
-        );
-        assert_eq!(rt;
-            crashed(rt.alloc(), calls, Pick::Kept)?.as_slice(),
-            kept,
-            "kept at {calls}"
-        );
-        assert_eq!(rt;
-            crashed(rt.alloc(), calls, Pick::Fill(b'.'))?.as_slice(),
-            filled,
-            "filled at {calls}"
-        );
-    }
-    Ok(())
-}
-
-#[test]
-fn a_disk_reads_and_fails_by_the_list(rt: HostRuntime) -> Result<(), Fail> {
-    let mut disk = MemDisk::of(rt.alloc(), b"abc", &[2])?;
-    assert_eq!(rt; disk.len().ok(), Some(3));
-    assert!(rt; disk.write_at(0, b"z").is_err(), "the second call fails");
-    let mut into = [0; 2];
-    assert!(rt; disk.read_at(1, &mut into).is_ok());
-    assert_eq!(rt; into, *b"bc");
-    assert_eq!(rt; disk.passed(), 0);
     Ok(())
 }
 

@@ -1,7 +1,7 @@
-//! Which bytes are a journal, what commits leave, and what crashes do to them.
+//! Which bytes are a journal, and what commits leave.
 
-use carte_io::{Disk, FileDisk, MemDisk, Pick};
-use carte_journal::{Body, CommitFault, Frame, Journal, LoadFault, commit_all};
+use carte_io::{Disk, FileDisk, MemDisk};
+use carte_journal::{Body, Frame, Journal, LoadFault, commit_all};
 use carte_value::NoMemory;
 use std::alloc::Global;
 use std::fs::OpenOptions;
@@ -74,18 +74,6 @@ fn damaged_files_load_by_the_format(rt: HostRuntime) -> Result<(), Fail> {
     Ok(())
 }
 
-#[test]
-fn a_load_ends_at_a_failing_call(rt: HostRuntime) -> Result<(), Fail> {
-    // The length, the header, three reads for each frame, and the closed gate byte.
-    for call in 1..14 {
-        let mut disk = MemDisk::of(rt.alloc(), &FILE, [call].as_slice())?;
-        let loaded = Journal::load(rt.alloc(), &mut disk, 1000);
-        let failed = matches!(loaded, Err(LoadFault::DiskFault));
-        assert_eq!(rt; failed, call <= 12, "call {call}");
-    }
-    Ok(())
-}
-
 // A file of one body, `ab`.
 const ONE: [u8; 16] = *b"CARTE01\n\x01\0\0\0\x02ab\0";
 
@@ -106,93 +94,6 @@ fn committed(
     Ok((disk, done && !journal.is_broken()))
 }
 
-// The number of bodies of a disk, and whether there is one more after one more commit.
-fn bodies_then(alloc: Global, disk: &mut MemDisk) -> Result<(usize, bool), NoMemory> {
-    let frame = Frame::of(alloc, b"cd")?;
-    let Ok((mut journal, bodies)) = Journal::load(alloc, disk, 1000) else {
-        return Ok((99, false));
-    };
-    let _ = journal.commit(disk, &frame);
-    match Journal::load(alloc, disk, 1000) {
-        Ok((_journal, more)) => Ok((bodies.len(), more.len() == bodies.len() + 1)),
-        Err(_) => Ok((bodies.len(), false)),
-    }
-}
-
-// The numbers of bodies after a crash, for Lost, Kept, Fill 0x77 and Fill 0x01; 99 where one more commit adds none.
-fn after_crash(alloc: Global, disk: &MemDisk) -> Result<[usize; 4], NoMemory> {
-    let picks = [Pick::Lost, Pick::Kept, Pick::Fill(0x77), Pick::Fill(0x01)];
-    let mut counts = [99; 4];
-    for (pick, count) in picks.iter().zip(counts.iter_mut()) {
-        let mut image = disk.crash(alloc, *pick)?;
-        if let (bodies, true) = bodies_then(alloc, &mut image)? {
-            *count = bodies;
-        }
-    }
-    Ok(counts)
-}
-
-#[test]
-fn crashes_of_a_first_and_a_later_commit(rt: HostRuntime) -> Result<(), Fail> {
-    let first = [
-        (0, [0, 0, 0, 0]),
-        (1, [0, 0, 0, 0]),
-        (2, [0, 0, 0, 0]),
-        (3, [0, 0, 0, 0]),
-        (4, [0, 0, 0, 0]),
-        (5, [0, 1, 0, 1]),
-        (6, [1, 1, 1, 1]),
-    ];
-    for (calls, want) in first {
-        let (disk, done) = committed(rt.alloc(), b"", &[], calls)?;
-        assert_eq!(rt; done, calls == 6);
-        assert_eq!(rt; after_crash(rt.alloc(), &disk)?, want, "{calls} calls");
-    }
-    let later = [
-        (0, [1, 1, 1, 1]),
-        (1, [1, 1, 1, 1]),
-        (2, [1, 1, 1, 1]),
-        (3, [1, 2, 1, 2]),
-        (4, [2, 2, 2, 2]),
-    ];
-    for (calls, want) in later {
-        let (disk, done) = committed(rt.alloc(), &ONE, &[], calls)?;
-        assert_eq!(rt; done, calls == 4);
-        assert_eq!(rt;
-            after_crash(rt.alloc(), &disk)?,
-            want,
-            "{calls} later calls"
-        );
-    }
-    Ok(())
-}
-
-#[test]
-fn each_call_fails_in_turn(rt: HostRuntime) -> Result<(), Fail> {
-    // The length, three writes with a sync each, and none.
-    let cases = [
-        (1, 0),
-        (2, 0),
-        (3, 0),
-        (4, 0),
-        (5, 0),
-        (6, 0),
-        (7, 1),
-        (8, 1),
-    ];
-    for (call, want) in cases {
-        let (disk, done) = committed(rt.alloc(), b"", [call].as_slice(), 100)?;
-        assert_eq!(rt; done, call == 8);
-        let mut image = disk.crash(rt.alloc(), Pick::Kept)?;
-        assert_eq!(rt;
-            bodies_then(rt.alloc(), &mut image)?,
-            (want, true),
-            "call {call}"
-        );
-    }
-    Ok(())
-}
-
 #[test]
 fn a_commit_has_its_bytes(rt: HostRuntime) -> Result<(), Fail> {
     let (mut disk, done) = committed(rt.alloc(), b"", &[], 100)?;
@@ -211,34 +112,6 @@ fn a_commit_has_its_bytes(rt: HostRuntime) -> Result<(), Fail> {
     }
     assert_eq!(rt; copy.as_slice().len(), 2);
     assert!(rt; copy.get(2).is_none());
-    Ok(())
-}
-
-#[test]
-fn full_is_exact(rt: HostRuntime) -> Result<(), Fail> {
-    let frame = Frame::of(rt.alloc(), b"ab")?;
-    let mut disk = MemDisk::of(rt.alloc(), b"", &[])?;
-    let Ok((mut small, _bodies)) = Journal::load(rt.alloc(), &mut disk, 15) else {
-        return Err(Fail::from("it loads"));
-    };
-    let full = small.commit(&mut disk, &frame);
-    assert!(rt;
-        matches!(
-            full,
-            Err(CommitFault::Full {
-                needed: 16,
-                limit: 15
-            })
-        )
-    );
-    assert_eq!(rt;
-        (disk.passed(), small.needed(2), small.limit()),
-        (0, 16, 15)
-    );
-    let Ok((mut large, _bodies)) = Journal::load(rt.alloc(), &mut disk, 16) else {
-        return Err(Fail::from("it loads"));
-    };
-    assert!(rt; large.commit(&mut disk, &frame).is_ok());
     Ok(())
 }
 

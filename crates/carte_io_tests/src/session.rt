@@ -65,18 +65,3 @@ fn lines_are_answered(rt: HostRuntime) -> Result<(), Fail> {
     }
     Ok(())
 }
-
-#[test]
-fn faults_end_a_session(rt: HostRuntime) -> Result<(), Fail> {
-    let mut source = MemSource::of(rt.alloc(), b"a\nb", &[2])?;
-    let mut sink = MemSink::new(rt.alloc(), 3, &[])?;
-    let read = run_session(rt.alloc(), &mut source, &mut Echo, &mut (), &mut sink, 9);
-    assert_eq!(rt; read.err(), Some(SessionEnd::ReadFault));
-    assert_eq!(rt; sink.bytes(), b"1a".as_slice());
-    let mut source = MemSource::of(rt.alloc(), b"a\nb", &[])?;
-    let mut sink = MemSink::new(rt.alloc(), 3, &[3])?;
-    let written = run_session(rt.alloc(), &mut source, &mut Echo, &mut (), &mut sink, 9);
-    assert_eq!(rt; written.err(), Some(SessionEnd::WriteFault));
-    assert_eq!(rt; sink.bytes(), b"1a".as_slice());
-    Ok(())
-}
