@@ -1,4 +1,5 @@
 pub mod Ready
+pub mod Marking
 pub mod Stopping
 pub mod Paths
 pub mod Walking

@@ -1,21 +1,16 @@
 -- What is ready, as more rules are done.
 use Rattle.std.proofs.Common.{◌≡◌, ℕ, zero, suc, ◌+◌, Bool, true, false, cond, ◌||◌, List, [], ◌∷◌, ◌++◌, take, slice_get, Option, Some, None, refl, ap, sym, ◌∙◌, inl, inr, ◌⊎◌, add-one}
-use Rattle.std.specs.Ordering.{eq_by_cmp}
-use Rattle.std.specs.BTreeSet.{contains}
-use Rattle.std.specs.Cmp.{eq_by_cmp_equiv}
 use Rattle.std.specs.Cmp.Lexicographic.{bytes_decides, nat_list_eq_equiv}
-use Rattle.std.proofs.lemmas.Cmp.{nat_list_cmp_total}
-use Rattle.indexmap.specs.IndexSet.{insert_key}
 use Rattle.carte_value.specs.declared.value.Value.{Value}
-use Rattle.carte_value.specs.Names.{name_cmp, name_eq}
+use Rattle.carte_value.specs.Names.{name_eq}
 use Rattle.carte_value.specs.Truths.{Extends, Among, NoneTwice}
 use Rattle.carte_tree.specs.InTurn.{Each}
 use Rattle.carte_book.specs.Book.{Item, input, rule, Book, content, clean}
 use Rattle.carte_book.specs.Needs.{IsRule}
 use Rattle.carte_book.specs.Reason.{IsClean}
-use Rattle.carte_book.proofs.Clean.{clean_input, tied_name}
+use Rattle.carte_book.proofs.Clean.{clean_input}
 use Rattle.carte_topo.specs.Orders.{IsReady}
-use Rattle.carte_topo.specs.Walk.{Unvisited, Done, Takes, has, ready_at, is_ready, part}
+use Rattle.carte_topo.specs.Walk.{Done, has, ready_at, is_ready, part}
 
 -- what holds of each name, and follows from it
 pub each_map : (P Q : List ℕ → Type 0) (ks : List (List ℕ)) → ((k : List ℕ) → P k → Q k) → Each P ks → Each Q ks
@@ -100,10 +95,6 @@ once_end (j ∷ js) k once apart = (
   once_end js k once.1 (λ among. apart (inr among)),
 )
 
--- a name that isn't done goes behind the others
-pub put_end : (done done' : Done) (k : List ℕ) → ¬ (Among done k) → done' ≡ insert_key name_eq done k → done' ≡ done ++ k ∷ []
-put_end done done' k apart puts = puts ∙ ap (λ b. cond b done (done ++ k ∷ [])) (not_has done k apart)
-
 pub ready_is : (b : Book) (done : Done) (k : List ℕ) → is_ready b done k ≡ true → IsReady b done k
 ready_is b done k = at (content b k) refl
   where
@@ -155,29 +146,3 @@ pub part_has : (b : Book) (done : Done) (k : List ℕ) → ((q : List ℕ) → A
 part_has b done k finished ready =
     let value = ready_clean b done k finished (ready_is b done k ready) in
     (value.0, ap (λ r. cond r (clean b k) None) ready ∙ value.1)
-
-pub tied_itself : (k : List ℕ) → eq_by_cmp name_cmp k k ≡ true
-tied_itself k = (eq_by_cmp_equiv nat_list_cmp_total).refl k
-
--- a name is the one that was put, or another
-pub same_or_not : (k q : List ℕ) → (q ≡ k) ⊎ (¬ (q ≡ k))
-same_or_not k q = elim (eq_by_cmp name_cmp k q) as (λ b. eq_by_cmp name_cmp k q ≡ b → (q ≡ k) ⊎ (¬ (q ≡ k))) [
-  | true ↦ λ tied. inl (sym (tied_name k q tied))
-  | false ↦ λ e. inr (λ same. let tied : eq_by_cmp name_cmp k k ≡ true = tied_itself k in let other : eq_by_cmp name_cmp k k ≡ false = rw same at e in cc)
-] refl
-
-pub taken_here : (unvisited unvisited' : Unvisited) (k : List ℕ) → Takes unvisited unvisited' k → contains name_cmp unvisited' k ≡ false
-taken_here unvisited unvisited' k takes = takes k ∙ ap (λ b. cond b false (contains name_cmp unvisited k)) (tied_itself k)
-
-pub taken_elsewhere : (unvisited unvisited' : Unvisited) (k q : List ℕ) → Takes unvisited unvisited' k → ¬ (q ≡ k) → contains name_cmp unvisited' q ≡ contains name_cmp unvisited q
-taken_elsewhere unvisited unvisited' k q takes apart = takes q ∙ elim (eq_by_cmp name_cmp k q) as (λ b. eq_by_cmp name_cmp k q ≡ b → cond b false (contains name_cmp unvisited q) ≡ contains name_cmp unvisited q) [
-  | true ↦ λ tied. absurd (apart (sym (tied_name k q tied)))
-  | false ↦ λ e. refl
-] refl
-
--- what is unvisited still was unvisited before, and is another name
-pub still_unvisited : (unvisited unvisited' : Unvisited) (k q : List ℕ) → Takes unvisited unvisited' k → contains name_cmp unvisited' q ≡ true → (¬ (q ≡ k)) × (contains name_cmp unvisited q ≡ true)
-still_unvisited unvisited unvisited' k q takes holds = elim (same_or_not k q) [
-  | inl same ↦ absurd (let here : contains name_cmp unvisited' k ≡ false = taken_here unvisited unvisited' k takes in let there : contains name_cmp unvisited' k ≡ true = rw same at holds in cc)
-  | inr other ↦ (other, sym (taken_elsewhere unvisited unvisited' k q takes other) ∙ holds)
-]

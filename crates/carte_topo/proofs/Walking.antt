@@ -11,12 +11,14 @@ use Rattle.carte_book.specs.Needs.{Reaches}
 use Rattle.carte_book.specs.Reason.{IsClean}
 use Rattle.carte_book.proofs.Clean.{clean_rule}
 use Rattle.carte_topo.specs.declared.walk.Frame.{Frame}
+use Rattle.carte_topo.specs.declared.walk.Stage.TheVariants.{OnPath, Passed}
 use Rattle.carte_topo.specs.Orders.{IsReady, IsNext, InOrder}
-use Rattle.carte_topo.specs.Walk.{Unvisited, Path, Done, names, is_ready, part, Entered, Stands, Finishes, Waits}
+use Rattle.carte_topo.specs.Walk.{Seen, Path, Done, names, is_ready, part, Marks, Entered, Stands, Finishes, Waits}
 use Rattle.carte_topo.specs.Between.{Finished, StopsAt, StopsInTurn, Linked, AllStand, EndsWith, IsWalk}
 use Rattle.carte_tree.proofs.StaticRuns.{static_ends}
 use Rattle.carte_topo.proofs.Stopping.{stops_there}
-use Rattle.carte_topo.proofs.Ready.{each_map, each_none, among_end, end_among, once_end, put_end, ready_is, ready_kept, is_ready_kept, ready_clean, part_clean, part_open, part_has, same_or_not, taken_elsewhere, still_unvisited}
+use Rattle.carte_topo.proofs.Ready.{each_map, each_none, among_end, end_among, once_end, ready_is, ready_kept, is_ready_kept, ready_clean, part_clean, part_open, part_has}
+use Rattle.carte_topo.proofs.Marking.{marked_here, marked_elsewhere, met_now, met_apart}
 
 pub in_order_end : (b : Book) (before ks : List (List ℕ)) (k : List ℕ) → InOrder b before ks → IsNext b (before ++ ks) k → InOrder b before (ks ++ k ∷ [])
 in_order_end b before [] k in_order next = ((rw append-nil at next), tt)
@@ -45,12 +47,12 @@ all_stand_kept b done done' [] more stand = tt
 all_stand_kept b done done' (f ∷ fs) more stand = (stands_kept b done done' f more stand.0, all_stand_kept b done done' fs more stand.1)
 
 module _ (b : Book) (ts : List (List ℕ)) (goal : List ℕ) where
-  pub done_clean : (unvisited : Unvisited) (path : Path) (done : Done) → IsWalk b ts goal unvisited path done → (q : List ℕ) → Among done q → IsClean b q
-  done_clean unvisited path done w q among = (w.finished q among).has_value
+  pub done_clean : (seen : Seen) (path : Path) (done : Done) → IsWalk b ts goal seen path done → (q : List ℕ) → Among done q → IsClean b q
+  done_clean seen path done w q among = (w.finished q among).has_value
 
   -- a rule that waits for a name stops there over what is ready
-  pub waits_stops : (unvisited : Unvisited) (path : Path) (done : Done) (f : Frame) (at : ℕ) (k : List ℕ) → IsWalk b ts goal unvisited path done → Waits b done f at k → StopsAt b f.name k
-  waits_stops unvisited path done f at k w s = record {
+  pub waits_stops : (seen : Seen) (path : Path) (done : Done) (f : Frame) (at : ℕ) (k : List ℕ) → IsWalk b ts goal seen path done → Waits b done f at k → StopsAt b f.name k
+  waits_stops seen path done f at k w s = record {
     formula = s.formula;
     is_rule = s.is_rule;
     is_static = s.is_static;
@@ -66,34 +68,34 @@ module _ (b : Book) (ts : List (List ℕ)) (goal : List ℕ) where
       found (j ∷ js) (suc at) here = inr (found js at here)
 
       has_before : HasAll (part b done) (take at f.refs)
-      has_before = each_map (λ q. is_ready b done q ≡ true) (λ q. (v : Value) × (part b done q ≡ Some v)) (take at f.refs) (λ q. part_has b done q (done_clean unvisited path done w)) s.opens.before
+      has_before = each_map (λ q. is_ready b done q ≡ true) (λ q. (v : Value) × (part b done q ≡ Some v)) (take at f.refs) (λ q. part_has b done q (done_clean seen path done w)) s.opens.before
 
-  pub entered : (unvisited unvisited' : Unvisited) (path path' : Path) (done : Done) (k : List ℕ) → IsWalk b ts goal unvisited path done → Entered b unvisited unvisited' path path' k → StopsInTurn b k (names path) → Reaches b ts k → EndsWith goal (k ∷ names path) → IsWalk b ts goal unvisited' path' done
-  entered unvisited unvisited' path path' done k w e chain reached ends = subst (λ (p : Path). IsWalk b ts goal unvisited' p done) (sym e.on_path) (record {
+  pub entered : (seen seen' : Seen) (path path' : Path) (done : Done) (k : List ℕ) → IsWalk b ts goal seen path done → Entered b seen seen' path path' k → StopsInTurn b k (names path) → Reaches b ts k → EndsWith goal (k ∷ names path) → IsWalk b ts goal seen' path' done
+  entered seen seen' path path' done k w e chain reached ends = subst (λ (p : Path). IsWalk b ts goal seen' p done) (sym e.on_path) (record {
     in_order = w.in_order;
     once = w.once;
     finished = w.finished;
-    unvisited_rule = λ q h. w.unvisited_rule q (still_unvisited unvisited unvisited' k q e.takes h).1;
-    unvisited_apart = λ q h among. elim among [
-      | inl same ↦ (still_unvisited unvisited unvisited' k q e.takes h).0 same
-      | inr later ↦ w.unvisited_apart q (still_unvisited unvisited unvisited' k q e.takes h).1 later
+    waits = λ q among. elim among [
+      | inl same ↦ rw same (marked_here seen seen' k OnPath e.marks)
+      | inr later ↦ marked_elsewhere seen seen' k q OnPath e.marks (met_apart seen k q OnPath e.unmet (w.waits q later)) ∙ w.waits q later
     ];
-    unvisited_open = λ q h. w.unvisited_open q (still_unvisited unvisited unvisited' k q e.takes h).1;
-    whole = λ q is_rule. elim (w.whole q is_rule) [
-      | inl is_unvisited ↦ elim (same_or_not k q) [
-        | inl same ↦ inr (inl (inl same))
-        | inr other ↦ inl (taken_elsewhere unvisited unvisited' k q e.takes other ∙ is_unvisited)
-      ]
-      | inr other ↦ elim other [
-        | inl among ↦ inr (inl (inr among))
-        | inr is_done ↦ inr (inr is_done)
+    passed = λ q among. marked_elsewhere seen seen' k q OnPath e.marks (met_apart seen k q Passed e.unmet (w.passed q among)) ∙ w.passed q among;
+    met_rule = λ q stage met. elim (met_now seen seen' k q OnPath stage e.marks met) [
+      | inl same ↦ rw same (e.formula, e.is_rule)
+      | inr before ↦ w.met_rule q stage before.1
+    ];
+    met_only = λ q stage met. elim (met_now seen seen' k q OnPath stage e.marks met) [
+      | inl same ↦ inl (inl same)
+      | inr before ↦ elim (w.met_only q stage before.1) [
+        | inl among ↦ inl (inr among)
+        | inr is_done ↦ inr is_done
       ]
     ];
     stand = (record { formula = e.formula; is_rule = e.is_rule; is_static = e.is_static; of_formula = refl; within = omega arith; before = each_none (λ q. is_ready b done q ≡ true) (refs_of e.formula) }, w.stand);
     linked = chain;
-    path_once = (w.unvisited_apart k e.was_unvisited, w.path_once);
+    path_once = ((λ among. met_apart seen k k OnPath e.unmet (w.waits k among) refl), w.path_once);
     path_open = λ q among. elim among [
-      | inl same ↦ λ there. w.unvisited_open k e.was_unvisited (rw same at there)
+      | inl same ↦ λ there. met_apart seen k q Passed e.unmet (w.passed q there) same
       | inr later ↦ w.path_open q later
     ];
     path_reached = λ q among. elim among [
@@ -104,15 +106,15 @@ module _ (b : Book) (ts : List (List ℕ)) (goal : List ℕ) where
   })
 
   -- the newest frame moves on to the reference for which it waits
-  pub moved_on : (unvisited : Unvisited) (rest : Path) (done : Done) (f : Frame) (at : ℕ) (k : List ℕ) → IsWalk b ts goal unvisited (f ∷ rest) done → Waits b done f at k → IsWalk b ts goal unvisited (record { name = f.name; refs = f.refs; at = at } ∷ rest) done
-  moved_on unvisited rest done f at k w s = record {
+  pub moved_on : (seen : Seen) (rest : Path) (done : Done) (f : Frame) (at : ℕ) (k : List ℕ) → IsWalk b ts goal seen (f ∷ rest) done → Waits b done f at k → IsWalk b ts goal seen (record { name = f.name; refs = f.refs; at = at } ∷ rest) done
+  moved_on seen rest done f at k w s = record {
     in_order = w.in_order;
     once = w.once;
     finished = w.finished;
-    unvisited_rule = w.unvisited_rule;
-    unvisited_apart = w.unvisited_apart;
-    unvisited_open = w.unvisited_open;
-    whole = w.whole;
+    waits = w.waits;
+    passed = w.passed;
+    met_rule = w.met_rule;
+    met_only = w.met_only;
     stand = (record { formula = s.formula; is_rule = s.is_rule; is_static = s.is_static; of_formula = s.of_formula; within = s.opens.within; before = s.opens.before }, w.stand.1);
     linked = w.linked;
     path_once = w.path_once;
@@ -129,31 +131,31 @@ module _ (b : Book) (ts : List (List ℕ)) (goal : List ℕ) where
   rest_ends j [] ends = tt
   rest_ends j (k ∷ ks) ends = ends
 
-  pub done_end : (unvisited : Unvisited) (rest : Path) (done done' : Done) (f : Frame) → IsWalk b ts goal unvisited (f ∷ rest) done → Finishes b done done' f → done' ≡ done ++ f.name ∷ []
-  done_end unvisited rest done done' f w fin = put_end done done' f.name (w.path_open f.name (inl refl)) fin.puts
-
-  pub finishing : (unvisited : Unvisited) (rest : Path) (done : Done) (f : Frame) → IsWalk b ts goal unvisited (f ∷ rest) done → IsNext b done f.name → IsWalk b ts goal unvisited rest (done ++ f.name ∷ [])
-  finishing unvisited rest done f w next = record {
+  pub finishing : (seen seen' : Seen) (rest : Path) (done : Done) (f : Frame) → IsWalk b ts goal seen (f ∷ rest) done → IsNext b done f.name → Marks seen seen' f.name Passed → IsWalk b ts goal seen' rest (done ++ f.name ∷ [])
+  finishing seen seen' rest done f w next marks = record {
     in_order = in_order_end b [] done f.name w.in_order next;
     once = once_end done f.name w.once (w.path_open f.name (inl refl));
     finished = λ k among. elim (among_end done f.name k among) [
       | inl before ↦ kept k (w.finished k before)
       | inr same ↦ subst (λ (q : List ℕ). Finished b ts (done ++ f.name ∷ []) q) (sym same) the_new
     ];
-    unvisited_rule = w.unvisited_rule;
-    unvisited_apart = λ k h among. w.unvisited_apart k h (inr among);
-    unvisited_open = λ k h among. elim (among_end done f.name k among) [
-      | inl before ↦ w.unvisited_open k h before
-      | inr same ↦ w.unvisited_apart k h (inl same)
+    waits = λ k among. marked_elsewhere seen seen' f.name k Passed marks (λ same. w.path_once.0 (rw same at among)) ∙ w.waits k (inr among);
+    passed = λ k among. elim (among_end done f.name k among) [
+      | inl before ↦ marked_elsewhere seen seen' f.name k Passed marks (λ same. w.path_open k (inl same) before) ∙ w.passed k before
+      | inr same ↦ rw same (marked_here seen seen' f.name Passed marks)
     ];
-    whole = λ k is_rule. elim (w.whole k is_rule) [
-      | inl is_unvisited ↦ inl is_unvisited
-      | inr other ↦ elim other [
+    met_rule = λ k stage met. elim (met_now seen seen' f.name k Passed stage marks met) [
+      | inl same ↦ rw same (next.formula, next.is_rule)
+      | inr before ↦ w.met_rule k stage before.1
+    ];
+    met_only = λ k stage met. elim (met_now seen seen' f.name k Passed stage marks met) [
+      | inl same ↦ inr (end_among done f.name k (inr same))
+      | inr before ↦ elim (w.met_only k stage before.1) [
         | inl among ↦ elim among [
-          | inl same ↦ inr (inr (end_among done f.name k (inr same)))
-          | inr later ↦ inr (inl later)
+          | inl same ↦ absurd (before.0 same)
+          | inr later ↦ inl later
         ]
-        | inr is_done ↦ inr (inr (end_among done f.name k (inl is_done)))
+        | inr is_done ↦ inr (end_among done f.name k (inl is_done))
       ]
     ];
     stand = all_stand_kept b done (done ++ f.name ∷ []) rest more w.stand.1;
@@ -174,7 +176,7 @@ module _ (b : Book) (ts : List (List ℕ)) (goal : List ℕ) where
       kept k o = record { next = next_kept b done (done ++ f.name ∷ []) k more o.next; has_value = o.has_value; reached = o.reached }
 
       has_refs : HasAll (clean b) (refs_of next.formula)
-      has_refs = each_map (IsReady b done) (IsClean b) (refs_of next.formula) (λ q. ready_clean b done q (done_clean unvisited (f ∷ rest) done w)) next.ready
+      has_refs = each_map (IsReady b done) (IsClean b) (refs_of next.formula) (λ q. ready_clean b done q (done_clean seen (f ∷ rest) done w)) next.ready
 
       ends : (v : Value) × (eval b.kind (clean b) next.formula ≡ Ok v)
       ends = static_ends b.kind (clean b) next.formula next.is_static has_refs
@@ -187,8 +189,8 @@ module _ (b : Book) (ts : List (List ℕ)) (goal : List ℕ) where
       }
 
   -- the newest rule, whose references are ready, is next
-  pub is_next : (done done' : Done) (f : Frame) → Finishes b done done' f → IsNext b done f.name
-  is_next done done' f fin = record {
+  pub is_next : (seen seen' : Seen) (done done' : Done) (f : Frame) → Finishes b seen seen' done done' f → IsNext b done f.name
+  is_next seen seen' done done' f fin = record {
     formula = fin.formula;
     is_rule = fin.is_rule;
     is_static = fin.is_static;

@@ -1,8 +1,5 @@
 -- What holds of the walk between its turns, and what it has made at its end.
 use Rattle.std.specs.Prelude.{ℕ, ◌≡◌, ◌⊎◌, true, List, [], ◌∷◌, Some, None, Result, Ok, Err}
-use Rattle.std.specs.BTreeSet.{contains}
-use Rattle.indexmap.specs.IndexSet.{IndexSet}
-use Rattle.carte_value.specs.Names.{name_cmp}
 use Rattle.carte_value.specs.Truths.{Truth, Extends, Among, NoneTwice}
 use Rattle.carte_tree.specs.Tree.{Tree}
 use Rattle.carte_tree.specs.Formula.{refs_of, is_static_tree}
@@ -13,10 +10,12 @@ use Rattle.carte_book.specs.Reason.{IsReason, IsClean, GoesRound, GoesAstray}
 use Rattle.carte_book.specs.Dynamic.{IsDynamicPath}
 use Rattle.carte_book.specs.declared.reason.Reason.{Reason}
 use Rattle.carte_book.specs.declared.reason.Reason.TheVariants.{Cycle, Missing, Dynamic}
+use Rattle.carte_topo.specs.declared.walk.Stage.{Stage}
+use Rattle.carte_topo.specs.declared.walk.Stage.TheVariants.{OnPath, Passed}
 use Rattle.carte_topo.specs.declared.walk.Stop.{Stop}
 use Rattle.carte_topo.specs.declared.walk.Stop.TheVariants.{Refused, NoMemory, Dynamic as MetDynamic}
 use Rattle.carte_topo.specs.Orders.{IsReady, IsNext, InOrder, IsOrder}
-use Rattle.carte_topo.specs.Walk.{Unvisited, Path, Done, names, Stands}
+use Rattle.carte_topo.specs.Walk.{Seen, Path, Done, names, Stands}
 
 -- a rule that is done: its references are ready, it has a clean value, and the targets reach it
 pub record Finished (b : Book) (targets : List (List ℕ)) (done : Done) (k : List ℕ) : Type 0 where
@@ -54,14 +53,14 @@ EndsWith goal [] = Unit {0}
 EndsWith goal (k ∷ []) = k ≡ goal
 EndsWith goal (j ∷ k ∷ ks) = EndsWith goal (k ∷ ks)
 
-pub record IsWalk (b : Book) (targets : List (List ℕ)) (goal : List ℕ) (unvisited : Unvisited) (path : Path) (done : Done) : Type 0 where
+pub record IsWalk (b : Book) (targets : List (List ℕ)) (goal : List ℕ) (seen : Seen) (path : Path) (done : Done) : Type 0 where
   pub in_order : InOrder b [] done
   pub once : NoneTwice done
   pub finished : (k : List ℕ) → Among done k → Finished b targets done k
-  pub unvisited_rule : (k : List ℕ) → contains name_cmp unvisited k ≡ true → IsRule b k
-  pub unvisited_apart : (k : List ℕ) → contains name_cmp unvisited k ≡ true → ¬ (Among (names path) k)
-  pub unvisited_open : (k : List ℕ) → contains name_cmp unvisited k ≡ true → ¬ (Among done k)
-  pub whole : (k : List ℕ) → IsRule b k → (contains name_cmp unvisited k ≡ true) ⊎ (Among (names path) k ⊎ Among done k)
+  pub waits : (k : List ℕ) → Among (names path) k → seen k ≡ Some OnPath
+  pub passed : (k : List ℕ) → Among done k → seen k ≡ Some Passed
+  pub met_rule : (k : List ℕ) (stage : Stage) → seen k ≡ Some stage → IsRule b k
+  pub met_only : (k : List ℕ) (stage : Stage) → seen k ≡ Some stage → Among (names path) k ⊎ Among done k
   pub stand : AllStand b done path
   pub linked : Linked b (names path)
   pub path_once : NoneTwice (names path)
@@ -79,21 +78,21 @@ abbrev pub MeetsDynamic : Book → List (List ℕ) → Type 0
 MeetsDynamic b targets = (path : List (List ℕ)) × IsDynamicPath b targets path
 
 -- between two targets: nothing is on the path
-pub record IsBetween (b : Book) (targets : List (List ℕ)) (unvisited : Unvisited) (path : Path) (done : Done) : Type 0 where
+pub record IsBetween (b : Book) (targets : List (List ℕ)) (seen : Seen) (path : Path) (done : Done) : Type 0 where
   pub empty : path ≡ []
-  pub walk : (goal : List ℕ) → IsWalk b targets goal unvisited [] done
+  pub walk : (goal : List ℕ) → IsWalk b targets goal seen [] done
 
 -- a target was reached
-pub record Reached (b : Book) (targets : List (List ℕ)) (goal : List ℕ) (unvisited' : Unvisited) (path' : Path) (done done' : Done) : Type 0 where
-  pub between : IsBetween b targets unvisited' path' done'
+pub record Reached (b : Book) (targets : List (List ℕ)) (goal : List ℕ) (seen' : Seen) (path' : Path) (done done' : Done) : Type 0 where
+  pub between : IsBetween b targets seen' path' done'
   pub more : (k : List ℕ) → Among done k → Among done' k
   pub known : IsReady b done' goal
 
-abbrev pub Reaching : Book → List (List ℕ) → List ℕ → Unvisited → Path → Done → Done → Result (Unit {0}) Stop → Type 0
-Reaching b targets goal unvisited' path' done done' (Ok u) = Reached b targets goal unvisited' path' done done'
-Reaching b targets goal unvisited' path' done done' (Err NoMemory) = Unit {0}
-Reaching b targets goal unvisited' path' done done' (Err MetDynamic) = MeetsDynamic b targets
-Reaching b targets goal unvisited' path' done done' (Err (Refused reason)) = IsPathFrom b goal reason
+abbrev pub Reaching : Book → List (List ℕ) → List ℕ → Seen → Path → Done → Done → Result (Unit {0}) Stop → Type 0
+Reaching b targets goal seen' path' done done' (Ok u) = Reached b targets goal seen' path' done done'
+Reaching b targets goal seen' path' done done' (Err NoMemory) = Unit {0}
+Reaching b targets goal seen' path' done done' (Err MetDynamic) = MeetsDynamic b targets
+Reaching b targets goal seen' path' done done' (Err (Refused reason)) = IsPathFrom b goal reason
 
 -- why a walk ended early
 abbrev pub IsStop : Book → List (List ℕ) → Stop → Type 0
@@ -101,6 +100,6 @@ IsStop b targets NoMemory = Unit {0}
 IsStop b targets MetDynamic = MeetsDynamic b targets
 IsStop b targets (Refused reason) = IsReason b targets reason
 
-abbrev pub Walks : {S : Type 0} → Book → List (List ℕ) → Result (IndexSet (List ℕ) S) Stop → Type 0
-Walks b targets (Ok done) = IsOrder b targets done.keys
+abbrev pub Walks : Book → List (List ℕ) → Result (List (List ℕ)) Stop → Type 0
+Walks b targets (Ok done) = IsOrder b targets done
 Walks b targets (Err stop) = IsStop b targets stop

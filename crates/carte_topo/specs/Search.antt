@@ -1,13 +1,16 @@
 -- The search for a dynamic rule: what it has met, by which paths, and what it answers.
 use Rattle.std.specs.Prelude.{ℕ, ◌≡◌, ◌≤◌, ◌+◌, ◌++◌, ◌⊎◌, true, false, List, [], ◌∷◌, length, map, slice_get, slice_index_or, Option, Some, None, if◌then◌else◌}
-use Rattle.std.specs.BTreeSet.{contains, IsOrdered}
+use Rattle.std.specs.BTreeSet.{BTreeSet, contains, IsOrdered}
 use Rattle.std.specs.Ordering.{eq_by_cmp}
 use Rattle.carte_value.specs.Names.{name_cmp}
 use Rattle.carte_value.specs.Truths.{Among}
 use Rattle.carte_book.specs.Book.{Book}
 use Rattle.carte_book.specs.Dynamic.{refs, IsStaticRule, IsDynamicRule, NoDynamicPath, IsFirstDynamicPath}
 use Rattle.carte_topo.specs.declared.search.Met.{Met}
-pub use Rattle.carte_topo.specs.Walk.{Unvisited, unwound}
+pub use Rattle.carte_topo.specs.Walk.{unwound}
+
+abbrev pub Unvisited : Type 0
+Unvisited = BTreeSet (List ℕ)
 
 abbrev pub IsDynamicAnswer : Book → List (List ℕ) → Option (List (List ℕ)) → Type 0
 IsDynamicAnswer b targets (Some path) = IsFirstDynamicPath b targets path

@@ -1,10 +1,8 @@
 -- The ordering walk: its state, and what one turn does to it.
-use Rattle.std.specs.Prelude.{ℕ, ◌≡◌, ◌≤◌, ◌+◌, ◌⊎◌, Bool, true, false, List, [], ◌∷◌, map, length, take, slice_get, Option, Some, None, Result, Ok, Err, if◌then◌else◌}
+use Rattle.std.specs.Prelude.{ℕ, ◌≡◌, ◌≤◌, ◌⊎◌, Bool, true, false, List, [], ◌∷◌, ◌++◌, map, length, take, slice_get, Option, Some, None, Result, Ok, Err, if◌then◌else◌}
 use Rattle.std.specs.List.{list_any}
-use Rattle.std.specs.BTreeSet.{BTreeSet, contains}
-use Rattle.std.specs.Ordering.{eq_by_cmp}
-use Rattle.indexmap.specs.IndexSet.{insert_key}
-use Rattle.carte_value.specs.Names.{name_cmp, name_eq}
+use Rattle.indexmap.specs.IndexMap.{IndexMap, get}
+use Rattle.carte_value.specs.Names.{name_eq}
 use Rattle.carte_value.specs.Truths.{Truth}
 use Rattle.carte_tree.specs.Tree.{Tree}
 use Rattle.carte_tree.specs.Formula.{refs_of, is_static_tree}
@@ -12,14 +10,19 @@ use Rattle.carte_tree.specs.InTurn.{Each}
 use Rattle.carte_book.specs.declared.reason.Reason.{Reason}
 use Rattle.carte_book.specs.declared.reason.Reason.TheVariants.{Cycle, Missing, Dynamic}
 use Rattle.carte_book.specs.Book.{Item, input, rule, Book, content, clean}
-use Rattle.carte_book.specs.Needs.{IsRule}
 use Rattle.carte_book.specs.Dynamic.{IsDynamicRule}
 use Rattle.carte_topo.specs.declared.walk.Frame.{Frame}
+use Rattle.carte_topo.specs.declared.walk.Stage.{Stage}
+use Rattle.carte_topo.specs.declared.walk.Stage.TheVariants.{OnPath, Passed}
 use Rattle.carte_topo.specs.declared.walk.Stop.{Stop}
 use Rattle.carte_topo.specs.declared.walk.Stop.TheVariants.{Refused, NoMemory, Dynamic as MetDynamic}
 
-abbrev pub Unvisited : Type 0
-Unvisited = BTreeSet (List ℕ)
+-- how far the walk is with each rule that it has met
+abbrev pub Seen : Type 0
+Seen = List ℕ → Option Stage
+
+abbrev pub seen_in : {S : Type 0} → IndexMap (List ℕ) Stage S → Seen
+seen_in m k = get name_eq m k
 
 -- the newest first
 abbrev pub Path : Type 0
@@ -62,30 +65,36 @@ abbrev pub unwound : List (List ℕ) → List (List ℕ) → List (List ℕ)
 unwound [] ks = ks
 unwound (j ∷ js) ks = unwound js (j ∷ ks)
 
-abbrev pub Takes : Unvisited → Unvisited → List ℕ → Type 0
-Takes old new k = (q : List ℕ) → contains name_cmp new q ≡ (if eq_by_cmp name_cmp k q then false else contains name_cmp old q)
+-- this rule has come to this stage
+abbrev pub Marks : Seen → Seen → List ℕ → Stage → Type 0
+Marks old new k stage = (q : List ℕ) → new q ≡ (if name_eq k q then Some stage else old q)
+
+-- what was met tells of rules whether they are ready
+pub record Tells (b : Book) (seen : Seen) (done : Done) : Type 0 where
+  pub passed : (k : List ℕ) → seen k ≡ Some Passed → is_ready b done k ≡ true
+  pub on_path : (k : List ℕ) → seen k ≡ Some OnPath → is_ready b done k ≡ false
+  pub unmet : (k : List ℕ) → seen k ≡ None → has done k ≡ false
 
 -- a static rule that wasn't met before is put on the path
-pub record Entered (b : Book) (unvisited unvisited' : Unvisited) (path path' : Path) (k : List ℕ) : Type 0 where
+pub record Entered (b : Book) (seen seen' : Seen) (path path' : Path) (k : List ℕ) : Type 0 where
   pub formula : Tree
   pub is_rule : content b k ≡ Some (rule formula)
   pub is_static : is_static_tree formula ≡ true
-  pub was_unvisited : contains name_cmp unvisited k ≡ true
-  pub takes : Takes unvisited unvisited' k
-  pub fewer : length unvisited'.keys + 1 ≡ length unvisited.keys
+  pub unmet : seen k ≡ None
+  pub marks : Marks seen seen' k OnPath
   pub on_path : path' ≡ record { name = k; refs = refs_of formula; at = 0 } ∷ path
 
--- a name with nothing, or a rule that is neither unvisited nor done, ends the walk
-abbrev pub Closes : Book → Unvisited → List (List ℕ) → List ℕ → Reason → Type 0
-Closes b unvisited js k (Missing path) = (content b k ≡ None) × (path ≡ unwound js (k ∷ []))
-Closes b unvisited js k (Cycle path) = IsRule b k × (contains name_cmp unvisited k ≡ false) × (path ≡ unwound js (k ∷ []))
-Closes b unvisited js k (Dynamic path) = ⊥
+-- a name with nothing, or one that was met before, ends the walk
+abbrev pub Closes : Book → Seen → List (List ℕ) → List ℕ → Reason → Type 0
+Closes b seen js k (Missing path) = (content b k ≡ None) × (path ≡ unwound js (k ∷ []))
+Closes b seen js k (Cycle path) = (stage : Stage) × (seen k ≡ Some stage) × (path ≡ unwound js (k ∷ []))
+Closes b seen js k (Dynamic path) = ⊥
 
-abbrev pub Enters : Book → Unvisited → Unvisited → Path → Path → List ℕ → Result (Unit {0}) Stop → Type 0
-Enters b unvisited unvisited' path path' k (Ok u) = Entered b unvisited unvisited' path path' k
-Enters b unvisited unvisited' path path' k (Err NoMemory) = Unit {0}
-Enters b unvisited unvisited' path path' k (Err MetDynamic) = IsDynamicRule b k
-Enters b unvisited unvisited' path path' k (Err (Refused reason)) = Closes b unvisited (names path) k reason
+abbrev pub Enters : Book → Seen → Seen → Path → Path → List ℕ → Result (Unit {0}) Stop → Type 0
+Enters b seen seen' path path' k (Ok u) = Entered b seen seen' path path' k
+Enters b seen seen' path path' k (Err NoMemory) = Unit {0}
+Enters b seen seen' path path' k (Err MetDynamic) = IsDynamicRule b k
+Enters b seen seen' path path' k (Err (Refused reason)) = Closes b seen (names path) k reason
 
 -- a frame's static rule, whose references before its place are ready
 pub record Stands (b : Book) (done : Done) (f : Frame) : Type 0 where
@@ -97,12 +106,13 @@ pub record Stands (b : Book) (done : Done) (f : Frame) : Type 0 where
   pub before : AllReady b done (take f.at f.refs)
 
 -- the newest rule is done
-pub record Finishes (b : Book) (done done' : Done) (f : Frame) : Type 0 where
+pub record Finishes (b : Book) (seen seen' : Seen) (done done' : Done) (f : Frame) : Type 0 where
   pub formula : Tree
   pub is_rule : content b f.name ≡ Some (rule formula)
   pub is_static : is_static_tree formula ≡ true
   pub ready : AllReady b done (refs_of formula)
-  pub puts : done' ≡ insert_key name_eq done f.name
+  pub marks : Marks seen seen' f.name Passed
+  pub puts : done' ≡ done ++ f.name ∷ []
 
 -- the newest rule waits for its first reference that isn't ready
 pub record Waits (b : Book) (done : Done) (f : Frame) (at : ℕ) (k : List ℕ) : Type 0 where
@@ -114,16 +124,16 @@ pub record Waits (b : Book) (done : Done) (f : Frame) (at : ℕ) (k : List ℕ) 
   pub here : slice_get f.refs at ≡ Some k
 
 -- either it is done, or the rule for which it waits is entered
-abbrev pub Turned : Book → Unvisited → Unvisited → Path → Path → Done → Done → Frame → Type 0
-Turned b unvisited unvisited' rest path' done done' f =
-    (Finishes b done done' f × (path' ≡ rest) × (unvisited' ≡ unvisited))
-    ⊎ ((at : ℕ) × (k : List ℕ) × Waits b done f at k × Entered b unvisited unvisited' (record { name = f.name; refs = f.refs; at = at } ∷ rest) path' k × (done' ≡ done))
+abbrev pub Turned : Book → Seen → Seen → Path → Path → Done → Done → Frame → Type 0
+Turned b seen seen' rest path' done done' f =
+    (Finishes b seen seen' done done' f × (path' ≡ rest))
+    ⊎ ((at : ℕ) × (k : List ℕ) × Waits b done f at k × Entered b seen seen' (record { name = f.name; refs = f.refs; at = at } ∷ rest) path' k × (done' ≡ done))
 
-abbrev pub Turns : Book → Unvisited → Unvisited → Path → Path → Done → Done → Frame → Result (Unit {0}) Stop → Type 0
-Turns b unvisited unvisited' rest path' done done' f (Ok u) = Turned b unvisited unvisited' rest path' done done' f
-Turns b unvisited unvisited' rest path' done done' f (Err NoMemory) = Unit {0}
-Turns b unvisited unvisited' rest path' done done' f (Err MetDynamic) = (at : ℕ) × (k : List ℕ) × Waits b done f at k × IsDynamicRule b k
-Turns b unvisited unvisited' rest path' done done' f (Err (Refused reason)) = (at : ℕ) × (k : List ℕ) × Waits b done f at k × Closes b unvisited (f.name ∷ names rest) k reason
+abbrev pub Turns : Book → Seen → Seen → Path → Path → Done → Done → Frame → Result (Unit {0}) Stop → Type 0
+Turns b seen seen' rest path' done done' f (Ok u) = Turned b seen seen' rest path' done done' f
+Turns b seen seen' rest path' done done' f (Err NoMemory) = Unit {0}
+Turns b seen seen' rest path' done done' f (Err MetDynamic) = (at : ℕ) × (k : List ℕ) × Waits b done f at k × IsDynamicRule b k
+Turns b seen seen' rest path' done done' f (Err (Refused reason)) = (at : ℕ) × (k : List ℕ) × Waits b done f at k × Closes b seen (f.name ∷ names rest) k reason
 
 -- a stop for a reason has one that is so, and a stop at a dynamic rule comes only where this holds
 abbrev pub Refuses : Stop → Type 0 → (Reason → Type 0) → Type 0

@@ -1,4 +1,3 @@
-ghost use Rattle.std.specs.Prelude.{◌≡◌, IfOk};
 ghost use Rattle.carte_book.specs.Book.{book_view};
 ghost use Rattle.carte_topo.specs.Orders.{Orders};
 ghost use Rattle.carte_topo.specs.Between.{Walks, IsStop};
@@ -7,8 +6,8 @@ use crate::dynamic_paths::dynamic_path;
 use crate::walk::{Stop, Walk};
 use carte_book::{Book, Reason};
 use carte_rebuild::PlanFault;
-use carte_value::{Name, Names, NoMemory};
-use indexmap::IndexSet;
+use carte_value::{Name, Names};
+use indexmap::IndexMap;
 use std::alloc::Global;
 use std::collections::VecDeque;
 
@@ -18,7 +17,7 @@ pub fn order(alloc: Global, book: &Book, targets: &Names) -> Result<Names, PlanF
     ensures { Orders (book_view book.now) targets.now result }
 {
     match walk(alloc, book, targets.as_slice()) {
-        Ok(done) => Ok(listed(alloc, done.as_slice())?),
+        Ok(names) => Ok(names),
         Err(stop) => Err(fault(alloc, book, targets.as_slice(), stop)),
     }
 }
@@ -43,26 +42,16 @@ fn fault(alloc: Global, book: &Book, targets: &[Name], stop: Stop) -> PlanFault
 }
 
 // The rules that the targets reach, in order, or why the walk ended early.
-fn walk(alloc: Global, book: &Book, targets: &[Name]) -> Result<IndexSet<Name>, Stop>
+fn walk(alloc: Global, book: &Book, targets: &[Name]) -> Result<Names, Stop>
     ensures { Walks (book_view book.now) targets.now result }
 {
     let mut walk = Walk {
-        unvisited: book.rule_names(alloc)?,
+        stages: IndexMap::new(alloc),
         path: VecDeque::new(alloc),
-        done: IndexSet::new(alloc),
+        done: Names::new(alloc),
     };
     for at in 0..targets.len() {
         walk.reach(alloc, book, targets, at)?;
     }
     Ok(walk.done)
-}
-
-fn listed(alloc: Global, done: &[Name]) -> Result<Names, NoMemory>
-    ensures { IfOk result (λ ks. ks ≡ done.now) }
-{
-    let mut names = Names::new(alloc);
-    for name in done {
-        names.push(name.copy(alloc)?)?;
-    }
-    Ok(names)
 }

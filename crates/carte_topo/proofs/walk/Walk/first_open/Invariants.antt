@@ -4,4 +4,4 @@ use Rattle.carte_topo.specs.Walk.{AllReady}
 use Rattle.carte_topo.proofs.walk.Walk.first_open.Given as goal
 
 abbrev pub invariant-loop-at : goal.invariant-loop-at
-invariant-loop-at l = AllReady (book_view l.book) l.self.done.keys (take l.at l.refs)
+invariant-loop-at l = AllReady (book_view l.book) l.self.done (take l.at l.refs)
