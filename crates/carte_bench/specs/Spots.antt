@@ -54,6 +54,11 @@ abbrev pub Takes : {J : Type 0} → Spots J → Spots J → List ℕ → Option 
 Takes old new k None = (is_ready old (old k) ≡ false) × IsSame old new
 Takes old new k (Some j) = (is_ready old (old k) ≡ true) × (job_in (old k) ≡ Some j) × PutAt old new k Out
 
+-- what stood at the key is given out, and it is out
+abbrev pub TakenOut : {J : Type 0} → Spots J → Spots J → List ℕ → Option (Slot J) → Type 0
+TakenOut old new k None = (old k ≡ None) × IsSame old new
+TakenOut old new k (Some x) = (old k ≡ Some x) × PutAt old new k Out
+
 abbrev pub name_of : Stuck → List ℕ
 name_of (stuck.NotDone n) = n
 name_of (stuck.Missing n) = n

@@ -1,7 +1,7 @@
-ghost use Rattle.std.specs.Prelude.{◌≡◌, Some, None, OnOk, OnErr, IfOk};
+ghost use Rattle.std.specs.Prelude.{◌≡◌, Some, None, IsSome, OnOk, OnErr, IfOk};
 ghost use Rattle.carte_book.specs.Book.{book_view};
 ghost use Rattle.carte_bench.specs.Held.{spots_of, book_of};
-ghost use Rattle.carte_bench.specs.Spots.{PutAt, IsSame, Takes, place_of, slot_after};
+ghost use Rattle.carte_bench.specs.Spots.{PutAt, IsSame, Takes, TakenOut, place_of, slot_after};
 ghost use Rattle.carte_bench.specs.declared.slot.Slot.TheVariants as slot;
 
 use crate::{Place, Slot};
@@ -74,16 +74,42 @@ impl<'b, J: Job + Drop> Bench<'b, J> {
         ensures takes { Takes (spots_of self.old) (spots_of self.new) name.now result }
         ensures book { book_of self.new ≡ book_of self.old }
     {
-        if !self.is_ready(name) {
-            return None;
+        match self.take_slot(name) {
+            Some(Slot::Ready(job)) => Some(job),
+            Some(Slot::Stopped(job, at)) => {
+                if self.is_done(&at) {
+                    return Some(job);
+                }
+                self.put_slot(name, Slot::Stopped(job, at));
+                None
+            }
+            Some(Slot::Done(made)) => {
+                self.put_slot(name, Slot::Done(made));
+                None
+            }
+            Some(Slot::Out) | None => None,
         }
+    }
+
+    // Takes what stands at a name, and leaves `Out` there.
+    fn take_slot(&mut self, name: &Name) -> Option<Slot<J>>
+        ensures taken { TakenOut (spots_of self.old) (spots_of self.new) name.now result }
+        ensures book { book_of self.new ≡ book_of self.old }
+    {
         match self.slots.get_mut(name) {
-            Some(slot) => match mem::replace(slot, Slot::Out) {
-                Slot::Ready(job) => Some(job),
-                Slot::Stopped(job, _) => Some(job),
-                _ => unreachable!(),
-            },
-            None => unreachable!(),
+            Some(slot) => Some(mem::replace(slot, Slot::Out)),
+            None => None,
+        }
+    }
+
+    // Puts something in the place of what stands at a name.
+    fn put_slot(&mut self, name: &Name, slot: Slot<J>)
+        requires known { IsSome (spots_of self.old name.now) }
+        ensures put { PutAt (spots_of self.old) (spots_of self.new) name.now slot }
+        ensures book { book_of self.new ≡ book_of self.old }
+    {
+        if let Some(stands) = self.slots.get_mut(name) {
+            *stands = slot;
         }
     }
 

@@ -1,6 +1,6 @@
 ghost use Rattle.std.specs.Prelude.{◌≡◌};
 ghost use Rattle.carte_bench.specs.Held.{spots_of, book_of};
-ghost use Rattle.carte_bench.specs.Spots.{is_done, is_ready, sight_in};
+ghost use Rattle.carte_bench.specs.Spots.{is_done, sight_in};
 
 use crate::{Bench, Slot};
 use carte_book::Looked;
@@ -13,16 +13,6 @@ impl<J> Bench<'_, J> {
         ensures { result ≡ is_done (spots_of self.now name.now) }
     {
         matches!(self.slots.get(name), Some(Slot::Done(_)))
-    }
-
-    pub(crate) fn is_ready(&self, name: &Name) -> bool
-        ensures { result ≡ is_ready (spots_of self.now) (spots_of self.now name.now) }
-    {
-        match self.slots.get(name) {
-            Some(Slot::Ready(_)) => true,
-            Some(Slot::Stopped(_, at)) => self.is_done(at),
-            _ => false,
-        }
     }
 }
 
