@@ -4,15 +4,16 @@ use Rattle.std.specs.Result.{IsErr, IsErrAnd}
 use Rattle.std.specs.List.{slice_get}
 use Rattle.std.proofs.Math.Seq.{drop-cons, drop-nil}
 use Rattle.std.proofs.Math.ListN.{drop_of_length-le}
-use Rattle.std.proofs.lemmas.Option.{slice_get_cases}
+use Rattle.std.proofs.lemmas.Option.{slice_get_cases, slice_get_within, get_or_from_slice_get}
 use Rattle.carte_value.specs.declared.kind.Kind.{Kind}
 use Rattle.carte_value.specs.declared.value.Value.{Value}
 use Rattle.carte_value.specs.Truths.{Truth}
-use Rattle.carte_value.specs.Asks.{Asks, done}
+use Rattle.carte_value.specs.Asks.{Asks, done, ask}
 use Rattle.carte_value.specs.Once.{Answers, once}
 use Rattle.carte_effect.specs.declared.effect.Halt.{Halt}
 use Rattle.carte_effect.specs.declared.effect.Halt.TheVariants.{Stop, NoMemory}
 use Rattle.carte_task.specs.declared.code.Instr.{Instr}
+use Rattle.carte_task.specs.declared.code.Instr.TheVariants as i
 use Rattle.carte_task.specs.declared.code.Next.{Next}
 use Rattle.carte_task.specs.declared.code.Next.TheVariants.{Behind}
 use Rattle.carte_effect.specs.Effects.{more, SameStops}
@@ -21,13 +22,13 @@ use Rattle.carte_task.specs.Code.{pushed, exec, top}
 use Rattle.carte_task.specs.Applying.{goes}
 use Rattle.carte_value.proofs.Once.{went_on, answers_on}
 use Rattle.carte_task.specs.declared.progress.Progress.{Progress}
-use Rattle.carte_task.specs.State.{answers_in, pending, waits, rest_in, Looked, Proceeds, Stepped}
+use Rattle.carte_task.specs.State.{answers_in, pending, waits, rest_in, Looked, Proceeds, Stepped, Goes}
 use Rattle.carte_effect.proofs.More.{more_more}
-use Rattle.carte_task.proofs.Answering.{along_answer, along_halts}
+use Rattle.carte_task.proofs.Answering.{along_answer, along_halts, along_same, along_start}
 
 -- the next of the names to be looked up
-next_of : (names : List (List ℕ)) (at : ℕ) (k : List ℕ) → at < length names → k ≡ get_or names at k → drop at names ≡ k ∷ drop (at + 1) names
-next_of names at k within is = drop-cons names at k within ∙ ap (λ j. j ∷ drop (suc at) names) (sym is) ∙ ap (λ n. k ∷ drop n names) (sym (add-one at))
+next_of : {X : Type 0} (xs : List X) (at : ℕ) (x : X) → at < length xs → x ≡ get_or xs at x → drop at xs ≡ x ∷ drop (at + 1) xs
+next_of xs at x within is = drop-cons xs at x within ∙ ap (λ y. y ∷ drop (suc at) xs) (sym is) ∙ ap (λ n. x ∷ drop n xs) (sym (add-one at))
 
 -- there is none
 pub none_left : {X : Type 0} (xs : List X) (at : ℕ) → slice_get xs at ≡ None → drop at xs ≡ []
@@ -108,6 +109,51 @@ looking_stops {S = S} kind code t u own other log0 log1 log p0 p q h same stops 
 pub stepped_end : (kind : Kind) (code : List Instr) (p q : Progress) (b : Bool) → b ≡ false → Stepped kind code p q b → rest_in kind code q ≡ done (top q.values.items)
 stepped_end kind code p q true never stepped = absurd (cc)
 stepped_end kind code p q false is stepped = stepped
+
+-- what a look asks
+asks_look : (kind : Kind) (code : List Instr) (a : Answers) (at : ℕ) (vs : List Value) (k : List ℕ) → slice_get code at ≡ Some (i.Look k) → once a (exec kind 0 (drop at code) vs) ≡ once a (ask k (λ v. exec kind 0 (drop (at + 1) code) (vs ++ v ∷ [])))
+asks_look kind code a at vs k is =
+    ap (λ cs. once a (exec kind 0 cs vs)) (next_of code at (i.Look k) (slice_get_within code at (i.Look k) is) (sym (get_or_from_slice_get code at (i.Look k) (i.Look k) is)))
+
+look_at : (kind : Kind) (code : List Instr) (t : Truth) (log : Option Answers) (a : Answers) (at : ℕ) (vs : List Value) (k : List ℕ) → slice_get code at ≡ Some (i.Look k) → Along t log log a (once a (exec kind 0 (drop at code) vs)) a (once a (ask k (λ v. exec kind 0 (drop (at + 1) code) (vs ++ v ∷ []))))
+look_at kind code t log a at vs k is =
+    let here : Asks Value = once a (exec kind 0 (drop at code) vs) in
+    along_same t log log a a a here here (once a (ask k (λ v. exec kind 0 (drop (at + 1) code) (vs ++ v ∷ [])))) refl (asks_look kind code a at vs k is) (along_start t log a here)
+
+-- a look has its answer
+pub look_on : (kind : Kind) (code : List Instr) (t : Truth) (log0 log : Option Answers) (a0 a : Answers) (ks : List (List ℕ)) (next : Next) (at : ℕ) (vs ws : List Value) (k : List ℕ) (v : Value) → ks ≡ [] → next ≡ Behind 0 → slice_get code at ≡ Some (i.Look k) → IsAnswer t log0 log a0 a k v → ws ≡ vs ++ v ∷ [] → Along t log0 log a0 (once a0 (pushed ks vs (goes next (λ n us. exec kind n (drop at code) us)))) a (once a (pushed ks ws (goes next (λ n us. exec kind n (drop (at + 1) code) us))))
+look_on kind code t log0 log a0 a ks next at vs ws k v none behind is answer new =
+    rw (none, behind, new) (along_answer t log0 log0 log a0 a0 a (once a0 (exec kind 0 (drop at code) vs)) k v (λ w. exec kind 0 (drop (at + 1) code) (vs ++ w ∷ [])) (look_at kind code t log0 a0 at vs k is) answer)
+
+-- a look halts
+pub look_halts : {B S : Type 0} (kind : Kind) (code : List Instr) (t : Truth) (own : List ℕ → S → Type 0) (log0 log : Option Answers) (a0 a : Answers) (ks : List (List ℕ)) (next : Next) (at : ℕ) (vs ws : List Value) (k : List ℕ) (P : B → Type 0) (h : Halt S) → ks ≡ [] → next ≡ Behind 0 → slice_get code at ≡ Some (i.Look k) → Answered t own log0 log a0 a k (Err h) → ws ≡ vs → Along t log0 log a0 (once a0 (pushed ks vs (goes next (λ n us. exec kind n (drop at code) us)))) a (once a (pushed ks ws (goes next (λ n us. exec kind n (drop at code) us)))) × Halted t own (once a (pushed ks ws (goes next (λ n us. exec kind n (drop at code) us)))) P (Err h)
+look_halts {B = B} kind code t own log0 log a0 a ks next at vs ws k P h none behind is answer still =
+    let go : Value → Asks Value = λ w. exec kind 0 (drop (at + 1) code) (vs ++ w ∷ []) in
+    let here = once a0 (exec kind 0 (drop at code) vs) in
+    let Q : Asks Value → Type 0 = λ r. Along t log0 log a0 here a r × Halted {B = B} t own r P (Err h) in
+    let going : ℕ → List Value → Asks Value = λ n us. exec kind n (drop at code) us in
+    let before : once a0 (pushed ks vs (goes next going)) ≡ here = rw (none, behind) refl in
+    let after : once a (pushed ks ws (goes next going)) ≡ once a (exec kind 0 (drop at code) vs) = rw (none, behind, still) refl in
+    let R : Asks Value → Type 0 = λ r. Along t log0 log a0 r a (once a (exec kind 0 (drop at code) vs)) × Halted {B = B} t own (once a (exec kind 0 (drop at code) vs)) P (Err h) in
+    let V : Asks Value → Type 0 = λ r. Along t log0 log a0 (once a0 (pushed ks vs (goes next going))) a r × Halted {B = B} t own r P (Err h) in
+    subst V (sym after) (subst R (sym before) (subst Q (sym (asks_look kind code a at vs k is)) (along_halts t own log0 log0 log a0 a0 a here k go P h (look_at kind code t log0 a0 at vs k is) answer)))
+
+-- nothing was asked
+pub stays : (kind : Kind) (code : List Instr) (t : Truth) (log : Option Answers) (p q : Progress) → answers_in q ≡ answers_in p → rest_in kind code q ≡ rest_in kind code p → Along t log log (answers_in p) (rest_in kind code p) (answers_in q) (rest_in kind code q)
+stays kind code t log p q answers rest = along_same t log log (answers_in p) (answers_in p) (answers_in q) (rest_in kind code p) (rest_in kind code p) (rest_in kind code q) answers (sym rest) (along_start t log (answers_in p) (rest_in kind code p))
+
+-- a step on the way
+pub stepped_on : {S : Type 0} (kind : Kind) (code : List Instr) (t u : Truth) (own other : List ℕ → S → Type 0) (log0 log1 log : Option Answers) (p0 p q : Progress) (result : Result Bool (Halt S)) → u ≡ t → SameStops own other → Along t log0 log1 (answers_in p0) (rest_in kind code p0) (answers_in p) (rest_in kind code p) → Goes kind code u other log1 log p q result → Along t log0 log (answers_in p0) (rest_in kind code p0) (answers_in q) (rest_in kind code q) × Halted {B = Bool} t own (rest_in kind code q) (Stepped kind code p q) result
+stepped_on {S = S} kind code t u own other log0 log1 log p0 p q result same stops way goes_further =
+    let P : Truth → Type 0 = λ w. Along w log1 log (answers_in p) (rest_in kind code p) (answers_in q) (rest_in kind code q) × Halted {B = Bool} w other (rest_in kind code q) (Stepped kind code p q) result in
+    let here = subst P same goes_further in
+    (along_on t log0 log1 log (answers_in p0) (answers_in p) (answers_in q) (rest_in kind code p0) (rest_in kind code p) (rest_in kind code q) way here.0, own_halts t own other (rest_in kind code q) (Stepped kind code p q) result stops here.1)
+
+-- a step halts on the way
+pub step_stops : {S : Type 0} (kind : Kind) (code : List Instr) (t u : Truth) (own other : List ℕ → S → Type 0) (log0 log1 log : Option Answers) (p0 p q : Progress) (h : Halt S) → u ≡ t → SameStops own other → Along t log0 log1 (answers_in p0) (rest_in kind code p0) (answers_in p) (rest_in kind code p) → Goes kind code u other log1 log p q (Err h) → Proceeds kind code t own log0 log p0 q (Err h)
+step_stops kind code t u own other log0 log1 log p0 p q h same stops way goes_further =
+    let here = stepped_on kind code t u own other log0 log1 log p0 p q (Err h) same stops way goes_further in
+    (here.0, halts_alike t own (rest_in kind code q) (Stepped kind code p q) (λ x. rest_in kind code q ≡ done (top q.values.items)) h here.1)
 
 -- it halts for want of memory
 pub starves : {A B S : Type 0} (t : Truth) (own : List ℕ → S → Type 0) (r : Asks A) (P : B → Type 0) (result : Result B (Halt S)) → IsErr result → IsErrAnd result (λ h. h ≡ NoMemory) → Halted t own r P result

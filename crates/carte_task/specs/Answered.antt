@@ -17,6 +17,11 @@ Answered t own log0 log a0 a k (Ok v) = IsAnswer t log0 log a0 a k v
 Answered t own log0 log a0 a k (Err (Stop s)) = (answer_in a0 k ≡ None) × (t k ≡ None) × own k s × (a ≡ a0) × (log ≡ log0)
 Answered t own log0 log a0 a k (Err NoMemory) = ((a ≡ a0) × (log ≡ log0)) ⊎ ((v : Value) × IsAnswer t log0 log a0 a k v)
 
+-- such an answer was put on the stack; where there is none, the stack is as before
+abbrev pub AnsweredOnto : {S : Type 0} → Truth → (List ℕ → S → Type 0) → Option Answers → Option Answers → Answers → Answers → List ℕ → List Value → List Value → Result (Unit {0}) (Halt S) → Type 0
+AnsweredOnto t own log0 log a0 a k vs ws (Ok u) = (v : Value) × IsAnswer t log0 log a0 a k v × (ws ≡ vs ++ v ∷ [])
+AnsweredOnto t own log0 log a0 a k vs ws (Err h) = Answered t own log0 log a0 a k (Err h) × (ws ≡ vs)
+
 -- answers of the truth, listed in the log, lead from one computation to what is left of it
 pub record Led {A : Type 0} (t : Truth) (log0 log : Option Answers) (r0 : Asks A) (further : Answers) (r : Asks A) : Type 0 where
   pub known : AnswersOf t further

@@ -32,6 +32,10 @@ abbrev pub Stepped : Kind → List Instr → Progress → Progress → Bool → 
 Stepped kind code p q true = (p.at < length code) × (q.at ≡ p.at + 1)
 Stepped kind code p q false = rest_in kind code q ≡ done (top q.values.items)
 
+-- one instruction further, or before a name that halted it
+abbrev pub Goes : {S : Type 0} → Kind → List Instr → Truth → (List ℕ → S → Type 0) → Option Answers → Option Answers → Progress → Progress → Result Bool (Halt S) → Type 0
+Goes kind code t own log0 log p q result = Along t log0 log (answers_in p) (rest_in kind code p) (answers_in q) (rest_in kind code q) × Halted {B = Bool} t own (rest_in kind code q) (Stepped kind code p q) result
+
 -- names were looked up, whatever comes then
 abbrev pub Looked : {S : Type 0} → Truth → (List ℕ → S → Type 0) → Option Answers → Option Answers → Progress → Progress → Result (Unit {0}) (Halt S) → Type 0
 Looked t own log0 log p q result = (go : List Value → Asks Value) → Along t log0 log (answers_in p) (waits p go) (answers_in q) (waits q go) × Halted {B = Unit {0}} t own (waits q go) (λ u. pending q ≡ []) result

@@ -15,6 +15,7 @@ use carte_tree::{Arg, Args, Chain, Expr, Func, Rest};
 use carte_value::{NoMemory, Value};
 use std::alloc::Global;
 
+#[inline(always)]
 fn put(code: &mut Vec<Instr>, instr: Instr) -> Result<(), NoMemory>
     ensures { OnOk result (code.new.items ≡ code.old.items ++ instr ∷ []) }
 {

@@ -1,4 +1,4 @@
-//! What each instruction does to the stack. None of them fetches: they say which names are to be looked up.
+//! What each instruction does to the stack. Nothing is fetched here: it is said which names are to be looked up.
 
 ghost use Rattle.std.specs.Prelude.{◌≡◌, ◌++◌, ◌∷◌, [], List, length, IfOk, OnErr, OnOk};
 ghost use Rattle.carte_tree.specs.Texts.{joined};

@@ -55,6 +55,9 @@ impl Known {
                 return Some(value);
             }
         }
+        if self.more.len() == 0 {
+            return None;
+        }
         self.more.get(name)
     }
 

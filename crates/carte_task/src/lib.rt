@@ -5,10 +5,10 @@
 //! `FetchList` for all of its references at once, so over `RefsOnly` it tells them without any value. A `Check` compares the digests of an
 //! earlier run in place of running, a `Job` is either, and `Runs` counts what was started and what ended.
 //!
-//! The form chosen: a formula is flat code in postfix order with jumps for IF, and values wait on a stack (`compile`, `code`, `execute`). No
-//! instruction fetches. It says which names are to be looked up and how it goes on then, and one place looks names up (`progress`), so
-//! that "each name once" and "a stop changes nothing" are proved once. A stopped machine is a place in the code, a stack and the answers so far,
-//! and goes on at the fetch that stopped it, for the cost of what is left.
+//! The form chosen: a formula is flat code in postfix order with jumps for IF, and values wait on a stack (`compile`, `code`, `execute`).
+//! An instruction says which names are to be looked up and how it goes on then, and one place looks names up (`progress`), so that "each name
+//! once" and "a stop changes nothing" are proved once. The first few answers are searched one by one, the others by an index (`known`). A
+//! stopped machine is a place in the code, a stack and the answers so far, and goes on at the fetch that stopped it, for the cost of what is left.
 //!
 //! The meaning of a machine is its residual computation: what it still asks, and goes on with (`specs/State.antt`). A drive's contract says which
 //! answers lead from the residual before it to the one after it, for every effect. What that is for the formula, over any number of

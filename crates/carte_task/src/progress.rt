@@ -4,7 +4,7 @@ ghost use Rattle.carte_task.specs.declared.code.Instr.{Instr};
 ghost use Rattle.carte_value.specs.Once.{answer_in};
 ghost use Rattle.carte_value.specs.Truths.{NoneTwice};
 ghost use Rattle.carte_effect.specs.Effects.{SameStops, paired};
-ghost use Rattle.carte_task.specs.Answered.{Answered};
+ghost use Rattle.carte_task.specs.Answered.{Answered, AnsweredOnto};
 
 use crate::code::{Instr, Next, Wanted};
 use crate::known::Known;
@@ -48,8 +48,32 @@ fn answer<E: Effect>(
     Ok(copy?)
 }
 
+// Looks a name up onto the stack.
+fn look_onto<E: Effect>(
+    alloc: Global,
+    answers: &mut Known,
+    name: &Name,
+    values: &mut Vec<Value>,
+    effect: &mut E,
+) -> Result<(), Halt<E::Stop>>
+    ensures truth { E.truth effect.new ≡ E.truth effect.old }
+    ensures stops { SameStops (E.stops effect.old) (E.stops effect.new) }
+    ensures pushed { AnsweredOnto (E.truth effect.old) (E.stops effect.old) (E.log effect.old) (E.log effect.new) answers.old.entries answers.new.entries name.now values.old.items values.new.items result }
+{
+    if let Err(_refused) = values.reserve(1) {
+        return Err(Halt::NoMemory);
+    }
+    match answer(alloc, answers, name, effect) {
+        Ok(value) => {
+            values.push_reserved(value);
+            Ok(())
+        }
+        Err(halt) => Err(halt),
+    }
+}
+
 impl Progress {
-    ghost use Rattle.carte_task.specs.State.{answers_in, pending, rest_in, Looked, Proceeds, Stepped};
+    ghost use Rattle.carte_task.specs.State.{answers_in, pending, rest_in, Looked, Proceeds, Stepped, Goes};
     ghost use Rattle.carte_value.specs.Once.{once};
     ghost use Rattle.carte_task.specs.Code.{exec, top};
     ghost use Rattle.carte_effect.specs.Outcomes.{links_of};
@@ -110,14 +134,10 @@ impl Progress {
         ensures looked { Looked (E.truth effect.old) (E.stops effect.old) (E.log effect.old) (E.log effect.new) self.old self.new result }
     {
         while let Some(name) = self.wanted.get(self.looked) {
-            if let Err(_refused) = self.values.reserve(1) {
-                return Err(Halt::NoMemory);
-            }
-            let value = match answer(alloc, &mut self.answers, name, effect) {
-                Ok(value) => value,
+            match look_onto(alloc, &mut self.answers, name, &mut self.values, effect) {
+                Ok(()) => {}
                 Err(halt) => return Err(halt),
-            };
-            self.values.push_reserved(value);
+            }
             self.looked += 1;
         }
         Ok(())
@@ -145,8 +165,35 @@ impl Progress {
         }
     }
 
-    /// Does one instruction; false where there is none left.
-    fn step(&mut self, alloc: Global, kind: Kind, code: &[Instr]) -> Result<bool, NoMemory>
+    /// Does one instruction; false where there is none left. A name alone is looked up at once, with nothing kept for it.
+    fn step<E: Effect>(
+        &mut self,
+        alloc: Global,
+        kind: Kind,
+        code: &[Instr],
+        effect: &mut E,
+    ) -> Result<bool, Halt<E::Stop>>
+        requires names { pending self.old ≡ [] }
+        requires next { self.old.next ≡ Next.Behind 0 }
+        ensures truth { E.truth effect.new ≡ E.truth effect.old }
+        ensures stops { SameStops (E.stops effect.old) (E.stops effect.new) }
+        ensures goes { Goes kind code.now (E.truth effect.old) (E.stops effect.old) (E.log effect.old) (E.log effect.new) self.old self.new result }
+    {
+        match code.get(self.at) {
+            Some(Instr::Look(name)) => {
+                match look_onto(alloc, &mut self.answers, name, &mut self.values, effect) {
+                    Ok(()) => {}
+                    Err(halt) => return Err(halt),
+                }
+                self.at += 1;
+                Ok(true)
+            }
+            _ => Ok(self.act(alloc, kind, code)?),
+        }
+    }
+
+    // Does one instruction, with the names that it wants left to be looked up; false where there is none left.
+    fn act(&mut self, alloc: Global, kind: Kind, code: &[Instr]) -> Result<bool, NoMemory>
         requires names { pending self.old ≡ [] }
         requires next { self.old.next ≡ Next.Behind 0 }
         ensures answers { answers_in self.new ≡ answers_in self.old }
@@ -182,8 +229,10 @@ impl Progress {
                 Err(halt) => return Err(halt),
             }
             self.settle(alloc, code.len())?;
-            if !self.step(alloc, kind, code)? {
-                return Ok(());
+            match self.step(alloc, kind, code, effect) {
+                Ok(true) => {}
+                Ok(false) => return Ok(()),
+                Err(halt) => return Err(halt),
             }
         }
     }
