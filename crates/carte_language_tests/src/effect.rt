@@ -3,8 +3,11 @@
 use crate::rows::{Told, rows_hold};
 use crate::shown::Shown;
 use crate::texts::{named, stop_text};
-use carte_effect::{Answers, Each, Effect, FetchList, RefsOnly, Snapshot, Stuck, Tracked};
-use carte_value::{Name, Names, NoMemory};
+use carte_effect::{
+    Answers, Digests, Each, Effect, Ended, FetchList, Hashed, Made, RefsOnly, Snapshot, Stuck,
+    Tracked,
+};
+use carte_value::{Links, Name, Names, NoMemory};
 use std::alloc::Global;
 use std::test::Fail;
 
@@ -12,7 +15,9 @@ use std::test::Fail;
 const EFFECTS: &str = "each b a b -> 3 values
 each a B2 A1 -> not done B2
 tracked b A1 a b -> 3 values b a b
-alone b A1 a -> withheld b A1 a";
+alone b A1 a -> withheld b A1 a
+hashed a b a -> digests 86 111 86
+hashed a B2 b -> not done B2";
 
 // The names of rules each have a value, and cells have none yet.
 fn look_of(alloc: Global) -> Result<Shown, Fail> {
@@ -61,6 +66,42 @@ fn alone(alloc: Global, names: &Names) -> Result<String, NoMemory> {
     }
 }
 
+// The first byte of a value's digest, or 0 where its digests differ.
+fn first_byte(
+    alloc: Global,
+    name: &Name,
+    value: &Hashed,
+    digests: &mut Digests,
+) -> Result<u8, NoMemory> {
+    let of = digests.of(value.value());
+    let hashed = digests.hashed(value.value().copy(alloc)?);
+    let unhashed = Hashed::unhashed(value.value().copy(alloc)?);
+    let mut made = Made::Ran(Ended::new(name.copy(alloc)?, unhashed, Links::new(alloc)));
+    made.hash(digests);
+    let all = [value.digest(), hashed.digest(), made.hashed().digest()];
+    Ok(if all.iter().all(|digest| *digest == of) {
+        of.0[0]
+    } else {
+        0
+    })
+}
+
+// The first bytes of SHA-256 of the values' spellings: of 7 this is 86, and of 4 it is 111.
+fn hashed(alloc: Global, shown: &Shown, names: &Names) -> Result<String, NoMemory> {
+    let mut digests = Digests::new(alloc);
+    let mut text = String::from_str(alloc, "digests")?;
+    for name in names.as_slice() {
+        let value = match Snapshot::with(shown, &mut digests).fetch(alloc, name) {
+            Ok(value) => value,
+            Err(halt) => return stop_text(alloc, &halt),
+        };
+        let first = first_byte(alloc, name, &value, &mut digests)?;
+        let word = format!(in alloc; " {first}")?;
+        text.push_str(word.as_str())?;
+    }
+    Ok(text)
+}
+
 // Effects over a look.
 #[derive(Drop)]
 struct Seeing {
@@ -74,6 +115,7 @@ impl Told for Seeing {
         match word {
             "each" => fetched(alloc, &mut Each::of(Snapshot::of(&self.look)), &names),
             "tracked" => tracked(alloc, &self.look, &names),
+            "hashed" => hashed(alloc, &self.look, &names),
             _ => alone(alloc, &names),
         }
     }
@@ -84,6 +126,6 @@ fn effects(rt: HostRuntime) -> Result<(), Fail> {
     let alloc = rt.alloc();
     let look = look_of(alloc)?;
     let count = rows_hold(alloc, &Seeing { look }, EFFECTS)?;
-    assert_eq!(rt; count, 4);
+    assert_eq!(rt; count, 6);
     Ok(())
 }
