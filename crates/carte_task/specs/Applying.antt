@@ -1,5 +1,5 @@
 -- What one instruction does to the stack.
-use Rattle.std.specs.Prelude.{ℕ, List, ◌≡◌, Result, Ok, Err}
+use Rattle.std.specs.Prelude.{ℕ, List, ◌≡◌, Option, Some, None, Result, Ok, Err}
 use Rattle.carte_value.specs.declared.kind.Kind.{Kind}
 use Rattle.carte_value.specs.declared.value.Value.{Value}
 use Rattle.carte_value.specs.Asks.{Asks}
@@ -16,9 +16,10 @@ abbrev pub goes : Next → (ℕ → List Value → Asks Value) → List Value �
 goes (Behind n) go ws = go n ws
 goes (Joined n) go ws = go 0 (put n ws (joined (newest n ws)))
 
--- the instruction means to look these names up onto the new stack, and to go on so
-abbrev pub Applies : {E : Type 0} → Kind → Instr → List Value → List Value → Result Pending E → Type 0
-Applies kind c old new (Ok p) = (go : ℕ → List Value → Asks Value) → done_by kind c old go ≡ pushed (names_wanted p.wanted) new (goes p.next go)
+-- the instruction means to look these names up onto the new stack, and to go on so; or to go on with the next one
+abbrev pub Applies : {E : Type 0} → Kind → Instr → List Value → List Value → Result (Option Pending) E → Type 0
+Applies kind c old new (Ok (Some p)) = (go : ℕ → List Value → Asks Value) → done_by kind c old go ≡ pushed (names_wanted p.wanted) new (goes p.next go)
+Applies kind c old new (Ok None) = (go : ℕ → List Value → Asks Value) → done_by kind c old go ≡ go 0 new
 Applies kind c old new (Err e) = new ≡ old
 
 -- what instructions ask for, once names are looked up

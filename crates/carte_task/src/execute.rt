@@ -14,13 +14,13 @@ use carte_tree::{Func, Op};
 use carte_value::{Kind, Name, NoMemory, Value};
 use std::alloc::Global;
 
-/// Does one instruction to the stack. Where it has no memory, the stack is as before.
+/// Does one instruction to the stack. None where it goes on with the next one; where it has no memory, the stack is as before.
 pub(crate) fn apply(
     alloc: Global,
     kind: Kind,
     instr: &Instr,
     values: &mut Vec<Value>,
-) -> Result<Pending, NoMemory>
+) -> Result<Option<Pending>, NoMemory>
     ensures { Applies kind instr.now values.old.items values.new.items result }
 {
     match instr {
@@ -31,7 +31,7 @@ pub(crate) fn apply(
         Instr::Apply(op) => operate(alloc, kind, *op, values),
         Instr::Call(func, count) => call(alloc, kind, *func, *count, values),
         Instr::Test(other, end) => test(alloc, kind, *other, *end, values),
-        Instr::Jump(count) => Ok(behind(*count)),
+        Instr::Jump(count) => Ok(Some(behind(*count))),
         Instr::Indirect => indirect(alloc, kind, values),
         Instr::Gather => gather(alloc, kind, values),
     }
@@ -80,58 +80,67 @@ pub(crate) fn top(alloc: Global, values: &Vec<Value>) -> Result<Value, NoMemory>
     }
 }
 
-fn put_behind(values: &mut Vec<Value>, count: usize, value: Value) -> Result<Pending, NoMemory>
-    ensures ok { IfOk result (λ p. (values.new.items ≡ put count values.old.items value) × (names_wanted p.wanted ≡ []) × (p.next ≡ Next.Behind 0)) }
-    ensures err { OnErr result (values.new.items ≡ values.old.items) }
-{
-    replace(values, count, value)?;
-    Ok(behind(0))
-}
-
 fn push(
     alloc: Global,
     kind: Kind,
     value: &Value,
     values: &mut Vec<Value>,
-) -> Result<Pending, NoMemory>
+) -> Result<Option<Pending>, NoMemory>
     ensures { Applies kind (i.Push value.now) values.old.items values.new.items result }
 {
     match values.push(value.copy(alloc)?) {
-        Ok(()) => Ok(behind(0)),
+        Ok(()) => Ok(None),
         Err(_) => Err(NoMemory),
     }
 }
 
-fn look(alloc: Global, kind: Kind, name: &Name, values: &Vec<Value>) -> Result<Pending, NoMemory>
+fn look(
+    alloc: Global,
+    kind: Kind,
+    name: &Name,
+    values: &Vec<Value>,
+) -> Result<Option<Pending>, NoMemory>
     ensures { Applies kind (i.Look name.now) values.now.items values.now.items result }
 {
-    Ok(Pending {
+    Ok(Some(Pending {
         wanted: Wanted::One(name.copy(alloc)?),
         next: Next::Behind(0),
-    })
+    }))
 }
 
-fn cells(alloc: Global, kind: Kind, range: &Range, values: &Vec<Value>) -> Result<Pending, NoMemory>
+fn cells(
+    alloc: Global,
+    kind: Kind,
+    range: &Range,
+    values: &Vec<Value>,
+) -> Result<Option<Pending>, NoMemory>
     ensures { Applies kind (i.Cells range.now) values.now.items values.now.items result }
 {
-    Ok(Pending {
+    Ok(Some(Pending {
         wanted: Wanted::Many(range.names(alloc)?),
         next: Next::Behind(0),
-    })
+    }))
 }
 
-fn negate(alloc: Global, kind: Kind, values: &mut Vec<Value>) -> Result<Pending, NoMemory>
+fn negate(alloc: Global, kind: Kind, values: &mut Vec<Value>) -> Result<Option<Pending>, NoMemory>
     ensures { Applies kind i.Negate values.old.items values.new.items result }
 {
     let value = carte_functions::negate(newest(values, 1));
-    put_behind(values, 1, value)
+    replace(values, 1, value)?;
+    Ok(None)
 }
 
-fn operate(alloc: Global, kind: Kind, op: Op, values: &mut Vec<Value>) -> Result<Pending, NoMemory>
+fn operate(
+    alloc: Global,
+    kind: Kind,
+    op: Op,
+    values: &mut Vec<Value>,
+) -> Result<Option<Pending>, NoMemory>
     ensures { Applies kind (i.Apply op) values.old.items values.new.items result }
 {
     let value = carte_functions::apply(alloc, op, newest(values, 2))?;
-    put_behind(values, 2, value)
+    replace(values, 2, value)?;
+    Ok(None)
 }
 
 fn call(
@@ -140,7 +149,7 @@ fn call(
     func: Func,
     count: usize,
     values: &mut Vec<Value>,
-) -> Result<Pending, NoMemory>
+) -> Result<Option<Pending>, NoMemory>
     ensures { Applies kind (i.Call func count) values.old.items values.new.items result }
 {
     let args = newest(values, count);
@@ -148,7 +157,8 @@ fn call(
         return Err(NoMemory);
     }
     let value = carte_functions::call(alloc, func, args)?;
-    put_behind(values, count, value)
+    replace(values, count, value)?;
+    Ok(None)
 }
 
 fn test(
@@ -157,16 +167,16 @@ fn test(
     other: usize,
     end: usize,
     values: &mut Vec<Value>,
-) -> Result<Pending, NoMemory>
+) -> Result<Option<Pending>, NoMemory>
     ensures { Applies kind (i.Test other end) values.old.items values.new.items result }
 {
     let value = top(alloc, values)?;
     match condition(&value) {
-        Ok(true) => Ok(drop_top(values, 0)),
-        Ok(false) => Ok(drop_top(values, other)),
+        Ok(true) => Ok(Some(drop_top(values, 0))),
+        Ok(false) => Ok(Some(drop_top(values, other))),
         Err(value) => {
             replace(values, 1, value)?;
-            Ok(behind(end))
+            Ok(Some(behind(end)))
         }
     }
 }
@@ -181,13 +191,16 @@ fn drop_top(values: &mut Vec<Value>, count: usize) -> Pending
     behind(count)
 }
 
-fn indirect(alloc: Global, kind: Kind, values: &mut Vec<Value>) -> Result<Pending, NoMemory>
+fn indirect(alloc: Global, kind: Kind, values: &mut Vec<Value>) -> Result<Option<Pending>, NoMemory>
     ensures { Applies kind i.Indirect values.old.items values.new.items result }
 {
     let value = top(alloc, values)?;
     match name_in(alloc, kind, &value)? {
-        Ok(name) => Ok(one(name, values)),
-        Err(value) => put_behind(values, 1, value),
+        Ok(name) => Ok(Some(one(name, values))),
+        Err(value) => {
+            replace(values, 1, value)?;
+            Ok(None)
+        }
     }
 }
 
@@ -205,7 +218,7 @@ fn one(name: Name, values: &mut Vec<Value>) -> Pending
     }
 }
 
-fn gather(alloc: Global, kind: Kind, values: &mut Vec<Value>) -> Result<Pending, NoMemory>
+fn gather(alloc: Global, kind: Kind, values: &mut Vec<Value>) -> Result<Option<Pending>, NoMemory>
     ensures { Applies kind i.Gather values.old.items values.new.items result }
 {
     let value = top(alloc, values)?;
@@ -214,12 +227,15 @@ fn gather(alloc: Global, kind: Kind, values: &mut Vec<Value>) -> Result<Pending,
             let len = values.len().saturating_sub(1);
             values.truncate(len);
             let count = names.len();
-            Ok(Pending {
+            Ok(Some(Pending {
                 wanted: Wanted::Many(names),
                 next: Next::Joined(count),
-            })
+            }))
         }
-        Err(value) => put_behind(values, 1, value),
+        Err(value) => {
+            replace(values, 1, value)?;
+            Ok(None)
+        }
     }
 }
 

@@ -49,6 +49,7 @@ fn answer<E: Effect>(
 }
 
 // Looks a name up onto the stack.
+#[inline(always)]
 fn look_onto<E: Effect>(
     alloc: Global,
     answers: &mut Known,
@@ -203,12 +204,19 @@ impl Progress {
         if self.at >= code.len() {
             return Ok(false);
         }
-        let pending = execute::apply(alloc, kind, &code[self.at], &mut self.values)?;
-        self.at += 1;
-        self.wanted = pending.wanted;
-        self.looked = 0;
-        self.next = pending.next;
-        Ok(true)
+        match execute::apply(alloc, kind, &code[self.at], &mut self.values)? {
+            None => {
+                self.at += 1;
+                Ok(true)
+            }
+            Some(pending) => {
+                self.at += 1;
+                self.wanted = pending.wanted;
+                self.looked = 0;
+                self.next = pending.next;
+                Ok(true)
+            }
+        }
     }
 
     /// Goes on to the end, or to a name without an answer.
