@@ -11,6 +11,7 @@
 //! The set holds the changed names beside the keys that are reached, so that a need is looked up once. A changed name may
 //! have an entry without leading to a change; once the set is closed, the keys that lead to one are those whose entries
 //! need a name of the set, so this is asked again of each that is to be marked. The marks are sorted once, at the end.
+//! A digest costs more than all else that is asked of an input, so that of a number is worked out once: many have the same.
 //!
 //! The contract is exact for any kept information, sound or not: marks are the list of what `IsMarked` says, in name
 //! order. Nothing is marked here: whoever builds puts the marks on what is kept, where it stands, and takes them off when
@@ -23,6 +24,7 @@
 
 mod base;
 mod changed;
+mod digests;
 mod marking;
 mod pass;
 mod reach;
