@@ -61,7 +61,7 @@ fn foreseen_of<R: Rebuilder>(
     rebuilder: &R,
     targets: &Names,
 ) -> Result<usize, Fail> {
-    let engine = Engine::load(alloc, disk, 65536)?;
+    let mut engine = Engine::load(alloc, disk, 65536)?;
     Ok(
         engine
             .preview(alloc, book, rebuilder, targets)?

@@ -4,7 +4,7 @@ use Rattle.std.specs.Prelude.{IfOk}
 use Rattle.carte_book.specs.Book.{Book}
 use Rattle.carte_record.specs.Kept.{SomeKept}
 use Rattle.carte_mark.specs.declared.base.Begun.{Begun}
-use Rattle.carte_mark.specs.Bases.{BeginsWith, base_view}
+use Rattle.carte_mark.specs.Bases.{BeginsWith}
 use Rattle.carte_sound.specs.Base.{HasDistinctDigests}
 use Rattle.carte_sound.specs.Begun.{begin}
 use Rattle.carte_sound.specs.Held.{How}
@@ -16,13 +16,13 @@ use Rattle.carte_rebuild.specs.Ends.{EndsSuspending}
 use Rattle.carte_engine.specs.Previews.{IsForeseen, IsPreview}
 use Rattle.carte_engine.proofs.Planning.{given}
 
-module _ (h : How) (K : SomeKept) (b : Book) (targets : List (List ℕ)) (x : Begun) (begins : BeginsWith K b x) (H : List Book) (sound : IsSound K H) (distinct : HasDistinctDigests (H ++ b ∷ [])) where
+module _ (h : How) (K : SomeKept) (b : Book) (targets : List (List ℕ)) (x : Begun) (M : SomeKept) (begins : BeginsWith K b x M) (H : List Book) (sound : IsSound K H) (distinct : HasDistinctDigests (H ++ b ∷ [])) where
   foreseen : (end : WorkEnd) → EndsSuspending h (begin K b x.marks) b targets end → IsForeseen h K b targets end
   foreseen (All w) ends =
-      let worked = ends.1 (given h K b targets x begins H sound distinct) in
+      let worked = ends.1 (given h K b targets x M begins H sound distinct) in
       record { marks = x.marks; marked = begins.marked; work = worked.1; none_given_up = worked.2; clean = worked.0 }
-  foreseen (Refused w reason) ends = (ends.1 (given h K b targets x begins H sound distinct)).0
+  foreseen (Refused w reason) ends = (ends.1 (given h K b targets x M begins H sound distinct)).0
 
-  pub foresees : {E : Type 0} (r : Result WorkEnd E) → IfOk r (EndsSuspending h (base_view x.base) b targets) → IfOk r (IsForeseen h K b targets)
+  pub foresees : {E : Type 0} (r : Result WorkEnd E) → IfOk r (EndsSuspending h M b targets) → IfOk r (IsForeseen h K b targets)
   foresees (Ok end) ends = foreseen end (subst (λ L. EndsSuspending h L b targets end) begins.base ends)
   foresees (Err e) ends = tt

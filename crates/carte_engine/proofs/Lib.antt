@@ -1,5 +1,6 @@
 pub mod Sorting
 pub mod Running
+pub mod Marking
 pub mod Succeeding
 pub mod Planning
 pub mod Keeping

@@ -8,7 +8,7 @@ use Rattle.carte_record.specs.declared.batch.Batch.{Batch}
 use Rattle.carte_record.specs.declared.entry.Entry.{Entry}
 use Rattle.carte_record.specs.Kept.{SomeKept}
 use Rattle.carte_mark.specs.declared.base.Begun.{Begun}
-use Rattle.carte_mark.specs.Bases.{BeginsWith, base_view}
+use Rattle.carte_mark.specs.Bases.{BeginsWith}
 use Rattle.carte_sound.specs.Base.{HasDistinctDigests, IsBase}
 use Rattle.carte_sound.specs.Begun.{begin}
 use Rattle.carte_sound.specs.Held.{How}
@@ -34,7 +34,7 @@ pub each_unmarked : (es : List Entry) → AreUnmarked es → EachFits IsUnmarked
 each_unmarked [] unmarked = tt
 each_unmarked (e ∷ es) unmarked = (unmarked e (inl refl), each_unmarked es (λ f there. unmarked f (inr there)))
 
-module _ (h : How) (K : SomeKept) (b : Book) (targets : List (List ℕ)) (x : Begun) (begins : BeginsWith K b x) (H : List Book) (sound : IsSound K H) (distinct : HasDistinctDigests (H ++ b ∷ [])) where
+module _ (h : How) (K : SomeKept) (b : Book) (targets : List (List ℕ)) (x : Begun) (M : SomeKept) (begins : BeginsWith K b x M) (H : List Book) (sound : IsSound K H) (distinct : HasDistinctDigests (H ++ b ∷ [])) where
   base : IsBase (begin K b x.marks) b (H ++ b ∷ [])
   base = begun_base K b (H ++ b ∷ []) x.marks (behind_sound K H (b ∷ []) sound) (has_last H b) distinct begins.marked
 
@@ -52,7 +52,7 @@ module _ (h : How) (K : SomeKept) (b : Book) (targets : List (List ℕ)) (x : Be
   })
 
   -- all targets have their values
-  pub all_by : (s : Scheduler) (w : Work) (B : Batch) (built : Built) → EndsBy s h (base_view x.base) b targets (All w) → Plans h K b x.marks w.finished B → IsReckoned b targets w built
+  pub all_by : (s : Scheduler) (w : Work) (B : Batch) (built : Built) → EndsBy s h M b targets (All w) → Plans h K b x.marks w.finished B → IsReckoned b targets w built
       → IsPlan s h K b targets (record { batch = B; answer = answer.Built built })
   all_by Topological w B built ends plans reckoned =
       let end = subst (λ L. EndsInOrder h L b targets (All w)) begins.base ends in
@@ -70,7 +70,7 @@ module _ (h : How) (K : SomeKept) (b : Book) (targets : List (List ℕ)) (x : Be
       }
 
   -- some target has none
-  pub refused_by : (s : Scheduler) (w : Work) (reason : Reason) (B : Batch) → EndsBy s h (base_view x.base) b targets (Refused w reason) → Plans h K b x.marks w.finished B
+  pub refused_by : (s : Scheduler) (w : Work) (reason : Reason) (B : Batch) → EndsBy s h M b targets (Refused w reason) → Plans h K b x.marks w.finished B
       → IsPlan s h K b targets (record { batch = B; answer = answer.Refused reason })
   refused_by Topological w reason B ends plans =
       let end = subst (λ L. EndsInOrder h L b targets (Refused w reason)) begins.base ends in

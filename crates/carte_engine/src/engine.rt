@@ -15,7 +15,7 @@ ghost use Rattle.carte_engine.specs.Answers.{IsPlan, Under};
 ghost use Rattle.carte_engine.specs.Clearing.{clearing};
 
 use crate::clear::clearing;
-use crate::planned::{planned, run};
+use crate::planned::plan_over;
 use crate::{Plan, Scheduler};
 use carte_book::Book;
 use carte_io::Disk;
@@ -31,7 +31,7 @@ use std::marker::Model;
 /// for the disk that the engine was loaded from, as its own calls left it.
 #[derive(Drop)]
 pub struct Engine {
-    state: State,
+    pub(crate) state: State,
 }
 
 impl Model for Engine {
@@ -74,16 +74,17 @@ impl Engine {
     /// Works out a build of the targets: what it answers, and the batch that it brings to the state. Nothing is changed,
     /// and no call of a disk is made. What is known of it holds where what is kept is sound, for whatever history.
     pub fn plan<R: Rebuilder>(
-        &self,
+        &mut self,
         alloc: Global,
         book: &Book,
         rebuilder: &R,
         scheduler: Scheduler,
         targets: &Names,
     ) -> Result<Plan, NoMemory>
+        ensures kept { self.new ≡ self.old }
         ensures unmarked { IfOk result (λ p. EachFits IsUnmarked p.batch.entries) }
-        ensures plans { Under (kept_in self.now) (book_view book.now)
-            (IfOk result (IsPlan scheduler (R.how rebuilder.now) (kept_in self.now) (book_view book.now) targets.now)) }
+        ensures plans { Under (kept_in self.old) (book_view book.now)
+            (IfOk result (IsPlan scheduler (R.how rebuilder.now) (kept_in self.old) (book_view book.now) targets.now)) }
     {
         let rules = book.rules_digest(alloc)?;
         self.plan_under(alloc, book, &rules, rebuilder, scheduler, targets)
@@ -91,7 +92,7 @@ impl Engine {
 
     /// The same for whoever has the digest of the book's rules. It is worked out over all rules, and no input changes it.
     pub fn plan_under<R: Rebuilder>(
-        &self,
+        &mut self,
         alloc: Global,
         book: &Book,
         rules: &Digest,
@@ -100,20 +101,31 @@ impl Engine {
         targets: &Names,
     ) -> Result<Plan, NoMemory>
         requires { rules.now ≡ rules_digest_of (book_view book.now) }
+        ensures kept { self.new ≡ self.old }
         ensures unmarked { IfOk result (λ p. EachFits IsUnmarked p.batch.entries) }
-        ensures plans { Under (kept_in self.now) (book_view book.now)
-            (IfOk result (IsPlan scheduler (R.how rebuilder.now) (kept_in self.now) (book_view book.now) targets.now)) }
+        ensures plans { Under (kept_in self.old) (book_view book.now)
+            (IfOk result (IsPlan scheduler (R.how rebuilder.now) (kept_in self.old) (book_view book.now) targets.now)) }
     {
         let begun = begin(alloc, self.state.kept(), book, rules)?;
-        let end = run(
+        if !begun.same {
+            let nothing = Kept::empty(alloc);
+            return plan_over(
+                alloc, rebuilder, &begun, &nothing, *rules, book, scheduler, targets,
+            );
+        }
+        self.state.mark(&begun.marks);
+        let plan = plan_over(
             alloc,
             rebuilder,
-            begun.base.kept(),
+            &begun,
+            self.state.kept(),
+            *rules,
             book,
             scheduler,
             targets,
-        )?;
-        planned(alloc, rebuilder, &begun, *rules, book, targets, end)
+        );
+        self.state.unmark(&begun.marks);
+        plan
     }
 
     /// Commits the batch of a plan, as `State::apply` does: in one step, whole or not at all, whatever crash comes.

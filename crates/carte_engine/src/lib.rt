@@ -1,8 +1,9 @@
 //! The engine: builds over a state, each with a scheduler and a rebuilder that are chosen for it alone.
 //!
-//! A build is a plan and its commit. The plan is pure: it takes the digest of the book's rules, begins with what is kept
-//! under these rules, its stale entries marked, lets the scheduler work over that, and makes of what was finished an
-//! answer and a batch. It has no disk and changes nothing, and all that is told of what is kept stands in its contract.
+//! A build is a plan and its commit. The plan takes the digest of the book's rules, begins with what is kept under these
+//! rules, its stale entries marked, lets the scheduler work over that, and makes of what was finished an answer and a
+//! batch. The marks are put on where the entries stand, and taken off again whatever comes of the work: a plan has no disk
+//! and leaves all as it was, list for list, and what is told of what is kept stands in its contract.
 //! The commit puts the batch into the state, whole or not at all; an empty batch makes no call. So a build that finds
 //! nothing changed writes nothing, and a refused one keeps what it finished and marked. `clean` commits a batch that
 //! clears the state.
@@ -12,12 +13,13 @@
 //! any history, and a commit keeps it so for the history with one book more (`plan_is_sound`, `history_is_right`).
 //! Over kept information of another origin a build still ends, with no promise; a target without a value is empty then.
 //!
-//! The values of the targets come from the book and the finished keys by look-ups, those that ran go through a sorted
-//! set, and each other list is gone through once: no step grows faster than n log n.
+//! The values of the targets come from the book and the finished keys by look-ups, those that ran are sorted once, and
+//! each other list is gone through once: no step grows faster than n log n.
 //!
 //! Turned down: a build that commits each key as it is finished, since a crash would then leave a part of a build, of
 //! which the laws of soundness would have to speak; a plan that holds the state, so that no other one could be made
-//! before its commit; and a scheduler or a rebuilder as part of the engine's type, as each build may choose anew.
+//! before its commit; a marked copy of what is kept; and a scheduler or a rebuilder as part of the engine's type, as each
+//! build may choose anew.
 #![tactic(auto)]
 
 mod answer;

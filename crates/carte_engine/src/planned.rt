@@ -3,7 +3,7 @@ ghost use Rattle.std.specs.Prelude.{◌≡◌, IfOk};
 ghost use Rattle.carte_book.specs.Book.{book_view};
 ghost use Rattle.carte_book.specs.Digest.{rules_digest_of};
 ghost use Rattle.carte_codec.specs.Each.{EachFits};
-ghost use Rattle.carte_mark.specs.Bases.{BeginsWith, base_view};
+ghost use Rattle.carte_mark.specs.Bases.{BeginsWith};
 ghost use Rattle.carte_record.specs.Bodies.{IsUnmarked};
 ghost use Rattle.carte_record.specs.Kept.{SomeKept, kept_view};
 ghost use Rattle.carte_engine.specs.declared.scheduler.Scheduler.{Scheduler as SomeScheduler};
@@ -20,8 +20,28 @@ use carte_record::Kept;
 use carte_value::{Digest, Names, NoMemory};
 use std::alloc::Global;
 
-/// The build that the scheduler makes.
-pub(crate) fn run<R: Rebuilder>(
+/// The plan of a build that begins so, over what it begins with. `rules` is the digest of the book's rules.
+pub(crate) fn plan_over<R: Rebuilder>(
+    alloc: Global,
+    rebuilder: &R,
+    begun: &Begun,
+    base: &Kept,
+    rules: Digest,
+    book: &Book,
+    scheduler: Scheduler,
+    targets: &Names,
+) -> Result<Plan, NoMemory>
+    requires { rules ≡ rules_digest_of (book_view book.now) }
+    ensures unmarked { IfOk result (λ p. EachFits IsUnmarked p.batch.entries) }
+    ensures plans { let h = R.how rebuilder.now in let b = book_view book.now in (K : SomeKept) → BeginsWith K b begun.now (kept_view base.now)
+        → Under K b (IfOk result (IsPlan scheduler h K b targets.now)) }
+{
+    let end = run(alloc, rebuilder, base, book, scheduler, targets)?;
+    planned(alloc, rebuilder, begun, base, rules, book, targets, end)
+}
+
+// The build that the scheduler makes.
+fn run<R: Rebuilder>(
     alloc: Global,
     rebuilder: &R,
     kept: &Kept,
@@ -37,11 +57,12 @@ pub(crate) fn run<R: Rebuilder>(
     }
 }
 
-/// The plan of a build that came to such an end. `rules` is the digest of the book's rules.
-pub(crate) fn planned<R: Rebuilder>(
+// The plan of a build that came to such an end.
+fn planned<R: Rebuilder>(
     alloc: Global,
     rebuilder: &R,
-    begun: &Begun<'_>,
+    begun: &Begun,
+    base: &Kept,
     rules: Digest,
     book: &Book,
     targets: &Names,
@@ -49,12 +70,12 @@ pub(crate) fn planned<R: Rebuilder>(
 ) -> Result<Plan, NoMemory>
     requires { rules ≡ rules_digest_of (book_view book.now) }
     ensures unmarked { IfOk result (λ p. EachFits IsUnmarked p.batch.entries) }
-    ensures plans { let h = R.how rebuilder.now in let b = book_view book.now in (s : SomeScheduler) (K : SomeKept) → BeginsWith K b begun.now
-        → EndsBy s h (base_view begun.now.base) b targets.now end → Under K b (IfOk result (IsPlan s h K b targets.now)) }
+    ensures plans { let h = R.how rebuilder.now in let b = book_view book.now in (s : SomeScheduler) (K : SomeKept) → BeginsWith K b begun.now (kept_view base.now)
+        → EndsBy s h (kept_view base.now) b targets.now end → Under K b (IfOk result (IsPlan s h K b targets.now)) }
 {
     match end {
         WorkEnd::All(work) => {
-            let batch = plan(alloc, rebuilder, begun, rules, book, &work.finished)?;
+            let batch = plan(alloc, rebuilder, begun, base, rules, book, &work.finished)?;
             let built = reckon(alloc, book, targets, &work)?;
             Ok(Plan {
                 batch,
@@ -62,7 +83,7 @@ pub(crate) fn planned<R: Rebuilder>(
             })
         }
         WorkEnd::Refused(work, reason) => {
-            let batch = plan(alloc, rebuilder, begun, rules, book, &work.finished)?;
+            let batch = plan(alloc, rebuilder, begun, base, rules, book, &work.finished)?;
             Ok(Plan {
                 batch,
                 answer: Answer::Refused(reason),

@@ -11,6 +11,7 @@ use crate::Engine;
 use carte_book::Book;
 use carte_mark::begin;
 use carte_rebuild::{PlanFault, Rebuilder, Work, WorkEnd};
+use carte_record::Kept;
 use carte_value::{Digest, Names, NoMemory};
 use std::alloc::Global;
 
@@ -18,16 +19,18 @@ impl Engine {
     /// What a build of the targets would do where keys wait for what they need. Nothing is changed and nothing committed:
     /// it takes the work of such a build, and leaves out the batch. Refused where a target has no value.
     pub fn preview<R: Rebuilder>(
-        &self,
+        &mut self,
         alloc: Global,
         book: &Book,
         rebuilder: &R,
         targets: &Names,
     ) -> Result<Work, PlanFault>
+        ensures kept { self.new ≡ self.old }
+
         // Under whatever history what is kept is sound for.
-        ensures served { Under (kept_in self.now) (book_view book.now)
-            (IfOk result (IsPreview (R.how rebuilder.now) (kept_in self.now) (book_view book.now) targets.now)) }
-        ensures refused { Under (kept_in self.now) (book_view book.now)
+        ensures served { Under (kept_in self.old) (book_view book.now)
+            (IfOk result (IsPreview (R.how rebuilder.now) (kept_in self.old) (book_view book.now) targets.now)) }
+        ensures refused { Under (kept_in self.old) (book_view book.now)
             ((reason : SomeReason) → result ≡ Err (PlanFault.Refused reason) → IsReason (book_view book.now) targets.now reason) }
     {
         let rules = book.rules_digest(alloc)?;
@@ -36,7 +39,7 @@ impl Engine {
 
     /// The same for whoever has the digest of the book's rules.
     pub fn preview_under<R: Rebuilder>(
-        &self,
+        &mut self,
         alloc: Global,
         book: &Book,
         rules: &Digest,
@@ -44,9 +47,10 @@ impl Engine {
         targets: &Names,
     ) -> Result<Work, PlanFault>
         requires { rules.now ≡ rules_digest_of (book_view book.now) }
-        ensures served { Under (kept_in self.now) (book_view book.now)
-            (IfOk result (IsPreview (R.how rebuilder.now) (kept_in self.now) (book_view book.now) targets.now)) }
-        ensures refused { Under (kept_in self.now) (book_view book.now)
+        ensures kept { self.new ≡ self.old }
+        ensures served { Under (kept_in self.old) (book_view book.now)
+            (IfOk result (IsPreview (R.how rebuilder.now) (kept_in self.old) (book_view book.now) targets.now)) }
+        ensures refused { Under (kept_in self.old) (book_view book.now)
             ((reason : SomeReason) → result ≡ Err (PlanFault.Refused reason) → IsReason (book_view book.now) targets.now reason) }
     {
         match self.foresee(alloc, book, rules, rebuilder, targets)? {
@@ -56,7 +60,7 @@ impl Engine {
     }
 
     fn foresee<R: Rebuilder>(
-        &self,
+        &mut self,
         alloc: Global,
         book: &Book,
         rules: &Digest,
@@ -64,10 +68,18 @@ impl Engine {
         targets: &Names,
     ) -> Result<WorkEnd, NoMemory>
         requires { rules.now ≡ rules_digest_of (book_view book.now) }
-        ensures { Under (kept_in self.now) (book_view book.now)
-            (IfOk result (IsForeseen (R.how rebuilder.now) (kept_in self.now) (book_view book.now) targets.now)) }
+        ensures kept { self.new ≡ self.old }
+        ensures foreseen { Under (kept_in self.old) (book_view book.now)
+            (IfOk result (IsForeseen (R.how rebuilder.now) (kept_in self.old) (book_view book.now) targets.now)) }
     {
-        let begun = begin(alloc, self.kept(), book, rules)?;
-        carte_suspend::build(alloc, rebuilder, begun.base.kept(), book, targets)
+        let begun = begin(alloc, self.state.kept(), book, rules)?;
+        if !begun.same {
+            let nothing = Kept::empty(alloc);
+            return carte_suspend::build(alloc, rebuilder, &nothing, book, targets);
+        }
+        self.state.mark(&begun.marks);
+        let end = carte_suspend::build(alloc, rebuilder, self.state.kept(), book, targets);
+        self.state.unmark(&begun.marks);
+        end
     }
 }

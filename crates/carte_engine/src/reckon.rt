@@ -1,10 +1,7 @@
 // From the end of a build to what it has made.
-ghost use Rattle.std.specs.Prelude.{◌≡◌, true, map, IfOk, OnOk};
-ghost use Rattle.std.specs.BTreeSet.{IsOrdered};
-ghost use Rattle.carte_value.specs.Names.{name_cmp};
+ghost use Rattle.std.specs.Prelude.{◌≡◌, ◌++◌, ◌∷◌, [], map, IfOk, OnOk, if◌then◌else◌};
 ghost use Rattle.carte_value.specs.Truths.{Among, IsListOf};
 ghost use Rattle.carte_book.specs.Book.{book_view};
-ghost use Rattle.carte_mark.specs.Marking.{PutsIf};
 ghost use Rattle.carte_note.specs.Lists.{finished_of};
 ghost use Rattle.carte_note.specs.Right.{has_run, key_of, ran_in};
 ghost use Rattle.carte_engine.specs.Reckoned.{IsReckoned, value_found, value_made};
@@ -16,7 +13,6 @@ use carte_note::{Finished, FinishedList};
 use carte_rebuild::Work;
 use carte_value::{Name, Names, NoMemory, Value, Values};
 use std::alloc::Global;
-use std::collections::BTreeSet;
 
 /// What the work has made of the targets.
 pub(crate) fn reckon(
@@ -84,40 +80,44 @@ fn made(alloc: Global, finished: &FinishedList, name: &Name) -> Result<Value, No
 fn ran(alloc: Global, finished: &[Finished]) -> Result<Names, NoMemory>
     ensures { IfOk result (IsListOf (Among (ran_in finished.now))) }
 {
-    let mut names = BTreeSet::new(alloc);
-    for one in finished {
-        put_ran(alloc, one, &mut names)?;
-    }
-    listed(alloc, names)
+    let mut keys = keys_that_ran(alloc, finished)?;
+    keys.sort_unstable();
+    keys.dedup();
+    listed(alloc, keys)
 }
 
-fn put_ran(alloc: Global, one: &Finished, names: &mut BTreeSet<Name>) -> Result<(), NoMemory>
-    ensures puts { OnOk result (PutsIf (has_run one.now.made) names.old names.new (key_of one.now)) }
-    ensures rising { IsOrdered name_cmp names.old → IsOrdered name_cmp names.new }
+fn keys_that_ran(alloc: Global, finished: &[Finished]) -> Result<Vec<Name>, NoMemory>
+    ensures { IfOk result (λ keys. keys.items ≡ ran_in finished.now) }
+{
+    let mut keys = Vec::with_capacity(alloc, finished.len())?;
+    for one in finished {
+        push_ran(alloc, one, &mut keys)?;
+    }
+    Ok(keys)
+}
+
+fn push_ran(alloc: Global, one: &Finished, keys: &mut Vec<Name>) -> Result<(), NoMemory>
+    ensures { OnOk result (keys.new.items ≡ keys.old.items ++ (if has_run one.now.made then key_of one.now ∷ [] else [])) }
 {
     match &one.made {
-        Made::Ran(end) => put(alloc, end.key(), names),
+        Made::Ran(end) => push(alloc, end.key(), keys),
         Made::Reused(_) => Ok(()),
     }
 }
 
-fn put(alloc: Global, key: &Name, names: &mut BTreeSet<Name>) -> Result<(), NoMemory>
-    ensures puts { OnOk result (PutsIf true names.old names.new key.now) }
-    ensures rising { IsOrdered name_cmp names.old → IsOrdered name_cmp names.new }
+fn push(alloc: Global, key: &Name, keys: &mut Vec<Name>) -> Result<(), NoMemory>
+    ensures { OnOk result (keys.new.items ≡ keys.old.items ++ key.now ∷ []) }
 {
-    let key = key.copy(alloc)?;
-    match names.insert(key) {
-        Ok(_) => Ok(()),
-        Err(_) => Err(NoMemory),
-    }
+    keys.push(key.copy(alloc)?)?;
+    Ok(())
 }
 
-fn listed(alloc: Global, mut set: BTreeSet<Name>) -> Result<Names, NoMemory>
-    ensures { IfOk result (λ names. names ≡ set.keys) }
+fn listed(alloc: Global, keys: Vec<Name>) -> Result<Names, NoMemory>
+    ensures { IfOk result (λ names. names ≡ keys.items) }
 {
-    let mut names = Names::new(alloc);
-    while let Some(name) = set.pop_first() {
-        names.push(name)?;
+    let mut names = Names::with_room(alloc, keys.len())?;
+    for key in keys {
+        names.push(key)?;
     }
     Ok(names)
 }

@@ -73,7 +73,7 @@ pub record IsInOrder (ms sorted listed : List (List ℕ)) : Type 0 where
   pub rising : IsSorted name_cmp sorted
   pub once : IsFiltered (DiffersFromLast name_eq) [] sorted listed
 
-in_order : (ms sorted listed : List (List ℕ)) → IsInOrder ms sorted listed → IsListOf (Among ms) listed
+pub in_order : (ms sorted listed : List (List ℕ)) → IsInOrder ms sorted listed → IsListOf (Among ms) listed
 in_order ms sorted listed o = let is = dedup_is name_eq sorted listed o.once in subst (IsListOf (Among ms)) (sym is) (record {
   rising = IsStrictlySortedBy-dedup nat_list_cmp_total texts_ties sorted o.rising;
   only = λ k among. contains_among ms k (Contains-permutation sorted ms k (IsPermutation-sym ms sorted o.permutation) (Contains-from_dedup name_eq sorted k (among_contains (dedup name_eq sorted) k among)));

@@ -6,6 +6,7 @@ ghost use Rattle.carte_sound.specs.Begun.{is_digest};
 ghost use Rattle.carte_sound.specs.Marks.{present};
 ghost use Rattle.carte_mark.specs.Reached.{has_changed, AreChanged, AddsChanged};
 
+use crate::digests::Digests;
 use crate::set::put;
 use carte_book::{Book, Looked};
 use carte_record::{Kept, Seen};
@@ -17,9 +18,10 @@ use std::alloc::Global;
 pub(crate) fn changed(alloc: Global, kept: &Kept, book: &Book) -> Result<IndexSet<Name>, NoMemory>
     ensures { IfOk result (λ names. AreChanged (kept_view kept.now) (book_view book.now) names.keys) }
 {
+    let mut digests = Digests::new(alloc);
     let mut names = IndexSet::new(alloc);
     for link in kept.seen.as_slice() {
-        add_changed(alloc, kept, book, link, &mut names)?;
+        add_changed(alloc, kept, book, link, &mut digests, &mut names)?;
     }
     Ok(names)
 }
@@ -30,30 +32,33 @@ fn add_changed(
     kept: &Kept,
     book: &Book,
     link: &Link,
+    digests: &mut Digests,
     names: &mut IndexSet<Name>,
 ) -> Result<(), NoMemory>
     ensures { OnOk result (AddsChanged (kept_view kept.now) (book_view book.now) link.now names.old.keys names.new.keys) }
 {
-    if is_present(book, &link.name, &link.digest) || !has_changed(&kept.seen, book, &link.name) {
+    if is_present(book, &link.name, &link.digest, digests)
+        || !has_changed(&kept.seen, book, &link.name, digests)
+    {
         return Ok(());
     }
     put(alloc, &link.name, names)
 }
 
-fn has_changed(seen: &Seen, book: &Book, name: &Name) -> bool
+fn has_changed(seen: &Seen, book: &Book, name: &Name, digests: &mut Digests) -> bool
     ensures { result ≡ has_changed (first_link seen.now name.now) (present (book_view book.now) name.now) }
 {
     match seen.find(name) {
-        Some(digest) => !is_present(book, name, digest),
+        Some(digest) => !is_present(book, name, digest, digests),
         None => false,
     }
 }
 
-fn is_present(book: &Book, name: &Name, digest: &Digest) -> bool
+fn is_present(book: &Book, name: &Name, digest: &Digest, digests: &mut Digests) -> bool
     ensures { result ≡ is_digest (present (book_view book.now) name.now) digest.now }
 {
     match book.lookup(name) {
-        Looked::Input(value) => value.digest() == *digest,
+        Looked::Input(value) => digests.of(value) == *digest,
         Looked::Rule(_) => false,
         Looked::None => false,
     }

@@ -11,18 +11,20 @@
 //! The set holds the changed names beside the keys that are reached, so that a need is looked up once. A changed name may
 //! have an entry without leading to a change; once the set is closed, the keys that lead to one are those whose entries
 //! need a name of the set, so this is asked again of each that is to be marked. The marks are sorted once, at the end.
+//! A digest costs more than all else that is asked of an input, so that of a number is worked out once: many have the same.
 //!
 //! The contract is exact for any kept information, sound or not: marks are the list of what `IsMarked` says, in name
-//! order. What a build begins with is lent where nothing is marked, so a build that finds nothing changed copies nothing.
-//! Under other rules it begins with nothing, and nothing is marked.
+//! order. Nothing is marked here: whoever builds puts the marks on what is kept, where it stands, and takes them off when
+//! the build is worked out. Under other rules a build begins with nothing, and nothing is to be marked.
 //!
 //! Turned down: the table from the start, which costs several times the passes; a walk from each entry down to its inputs,
-//! which goes over shared needs again and again; a tree of the marks, dearer than one sort; and marks kept beside the
-//! entries, which every reader of an entry would have to look at.
+//! which goes over shared needs again and again; a tree of the marks, dearer than one sort; marks kept beside the entries,
+//! which every reader of an entry would have to look at; and a marked copy of what is kept, dearer than the marking.
 #![tactic(auto)]
 
 mod base;
 mod changed;
+mod digests;
 mod marking;
 mod pass;
 mod reach;
@@ -30,5 +32,5 @@ mod set;
 mod users;
 mod walk;
 
-pub use base::{Base, Begun, begin};
+pub use base::{Begun, begin};
 pub use marking::mark;

@@ -71,7 +71,7 @@ fn is_to_mark(entries: &Entries, reached: &IndexSet<Name>, name: &Name) -> bool
 fn listed(alloc: Global, marks: Vec<Name>) -> Result<Names, NoMemory>
     ensures { IfOk result (λ names. names ≡ marks.items) }
 {
-    let mut names = Names::new(alloc);
+    let mut names = Names::with_room(alloc, marks.len())?;
     for name in marks {
         names.push(name)?;
     }

@@ -25,7 +25,7 @@ use Rattle.carte_note.specs.Notes.{AreUnmarked}
 use Rattle.carte_note.specs.Right.{finishes_of}
 use Rattle.carte_plan.specs.Planned.{AreGiven, IsBuilt, IsPlanOf, NotesAll, Plans, opening}
 use Rattle.carte_mark.specs.declared.base.Begun.{Begun}
-use Rattle.carte_mark.specs.Bases.{base_view, BeginsWith}
+use Rattle.carte_mark.specs.Bases.{BeginsWith}
 use Rattle.carte_plan.proofs.Lists.{both, empty_is, keys_same, no_items}
 
 pub opened_is : (B : Batch) (s t : Start) (ms ns : List (List ℕ)) → is_empty B ≡ true → s ≡ t → ms ≡ ns → record B { start = s; stale = ms } ≡ opening t ns
@@ -89,15 +89,15 @@ off true h = cc
 off false h = refl
 
 -- under other rules, where nothing was finished
-pub nothing_planned : (h : How) (K : SomeKept) (b : Book) (x : Begun) (fs : List Finished) (B : Batch) → BeginsWith K b x → (not x.same && (length fs == 0)) ≡ true → is_empty B ≡ true → Plans h K b x.marks fs B
-nothing_planned h K b x fs B begins test empty =
+pub nothing_planned : (h : How) (K M : SomeKept) (b : Book) (x : Begun) (fs : List Finished) (B : Batch) → BeginsWith K b x M → (not x.same && (length fs == 0)) ≡ true → is_empty B ≡ true → Plans h K b x.marks fs B
+nothing_planned h K M b x fs B begins test empty =
     let tests = both (not x.same) (length fs == 0) test in
     inl (sym begins.same ∙ off x.same tests.0, no_items fs tests.1, empty_is B empty)
 
 -- and else
-pub all_planned : (h : How) (K M : SomeKept) (b : Book) (rules : Digest) (x : Begun) (fs : List Finished) (old B : Batch) → BeginsWith K b x → rules ≡ rules_digest_of b → (not x.same && (length fs == 0)) ≡ false → M ≡ base_view x.base
+pub all_planned : (h : How) (K M : SomeKept) (b : Book) (rules : Digest) (x : Begun) (fs : List Finished) (old B : Batch) → BeginsWith K b x M → rules ≡ rules_digest_of b → (not x.same && (length fs == 0)) ≡ false
     → old ≡ opening (if x.same then GoOn else Anew rules) (marks_left (finishes_of fs) x.marks) → NotesAll h M b fs old B → Plans h K b x.marks fs B
-all_planned h K M b rules x fs old B begins digest test base is notes = inr (something, plan)
+all_planned h K M b rules x fs old B begins digest test is notes = inr (something, plan)
   where
     something : has_rules_of K b ≡ false → ¬ (fs ≡ [])
     something other none =
@@ -107,7 +107,7 @@ all_planned h K M b rules x fs old B begins digest test base is notes = inr (som
         cc
 
     plan : IsPlanOf h K b x.marks fs B
-    plan = planned h K M b x.marks (marks_left (finishes_of fs) x.marks) x.same (if x.same then GoOn else Anew rules) fs old B begins.same (base ∙ begins.base) (ap (λ d. if x.same then GoOn else Anew d) digest) refl is notes
+    plan = planned h K M b x.marks (marks_left (finishes_of fs) x.marks) x.same (if x.same then GoOn else Anew rules) fs old B begins.same begins.base (ap (λ d. if x.same then GoOn else Anew d) digest) refl is notes
 
 pub nothing_unmarked : (B : Batch) → is_empty B ≡ true → AreUnmarked B.entries
 nothing_unmarked B empty = subst (λ (C : Batch). AreUnmarked C.entries) (sym (empty_is B empty)) (λ e nowhere. absurd nowhere)

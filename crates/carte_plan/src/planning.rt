@@ -20,55 +20,50 @@ use carte_record::{Batch, Kept, Start};
 use carte_value::{Digest, Name, Names, NoMemory};
 use std::alloc::Global;
 
-/// The batch of a build. `rules` is the digest of the book's rules.
+/// The batch of a build. `base` is what it began with, and `rules` the digest of the book's rules.
 pub fn plan<R: Rebuilder>(
     alloc: Global,
     rebuilder: &R,
-    begun: &Begun<'_>,
+    begun: &Begun,
+    base: &Kept,
     rules: Digest,
     book: &Book,
     finished: &FinishedList,
 ) -> Result<Batch, NoMemory>
     requires { rules ≡ rules_digest_of (book_view book.now) }
     ensures unmarked { IfOk result (λ batch. AreUnmarked batch.entries) }
-    ensures in_order { let b = book_view book.now in let h = R.how rebuilder.now in (K : SomeKept) (targets : List (List ℕ)) → BeginsWith K b begun.now → IsBuilt h K b begun.now.marks (IsDoneInOrder b targets) finished.now → IfOk result (LeadsInOrder h K b targets) }
-    ensures suspending { let b = book_view book.now in let h = R.how rebuilder.now in (K : SomeKept) (targets : List (List ℕ)) → BeginsWith K b begun.now → IsBuilt h K b begun.now.marks (IsDoneSuspending h (begin K b begun.now.marks) b targets) finished.now → IfOk result (LeadsSuspending h K b targets) }
-    ensures refused { let b = book_view book.now in let h = R.how rebuilder.now in (K : SomeKept) → BeginsWith K b begun.now → IsBuilt h K b begun.now.marks (λ k. ⊥) finished.now → IfOk result (LeadsRefused h K b) }
+    ensures in_order { let b = book_view book.now in let h = R.how rebuilder.now in (K : SomeKept) (targets : List (List ℕ)) → BeginsWith K b begun.now (kept_view base.now) → IsBuilt h K b begun.now.marks (IsDoneInOrder b targets) finished.now → IfOk result (LeadsInOrder h K b targets) }
+    ensures suspending { let b = book_view book.now in let h = R.how rebuilder.now in (K : SomeKept) (targets : List (List ℕ)) → BeginsWith K b begun.now (kept_view base.now) → IsBuilt h K b begun.now.marks (IsDoneSuspending h (begin K b begun.now.marks) b targets) finished.now → IfOk result (LeadsSuspending h K b targets) }
+    ensures refused { let b = book_view book.now in let h = R.how rebuilder.now in (K : SomeKept) → BeginsWith K b begun.now (kept_view base.now) → IsBuilt h K b begun.now.marks (λ k. ⊥) finished.now → IfOk result (LeadsRefused h K b) }
     // The same for whatever else may be done, as lemmas go on from it.
-    ensures plans { let b = book_view book.now in let h = R.how rebuilder.now in (K : SomeKept) → BeginsWith K b begun.now → IfOk result (Plans h K b begun.now.marks finished.now) }
+    ensures plans { let b = book_view book.now in let h = R.how rebuilder.now in (K : SomeKept) → BeginsWith K b begun.now (kept_view base.now) → IfOk result (Plans h K b begun.now.marks finished.now) }
 {
-    made(alloc, rebuilder, begun, rules, book, finished)
+    made(alloc, rebuilder, begun, base, rules, book, finished)
 }
 
 fn made<R: Rebuilder>(
     alloc: Global,
     rebuilder: &R,
-    begun: &Begun<'_>,
+    begun: &Begun,
+    base: &Kept,
     rules: Digest,
     book: &Book,
     finished: &FinishedList,
 ) -> Result<Batch, NoMemory>
     requires { rules ≡ rules_digest_of (book_view book.now) }
     ensures unmarked { IfOk result (λ batch. AreUnmarked batch.entries) }
-    ensures plans { let b = book_view book.now in let h = R.how rebuilder.now in (K : SomeKept) → BeginsWith K b begun.now → IfOk result (Plans h K b begun.now.marks finished.now) }
+    ensures plans { let b = book_view book.now in let h = R.how rebuilder.now in (K : SomeKept) → BeginsWith K b begun.now (kept_view base.now) → IfOk result (Plans h K b begun.now.marks finished.now) }
 {
     if brings_nothing(begun, finished) {
         return Ok(Batch::new(alloc));
     }
     let mut batch = opened(alloc, begun, rules, finished)?;
-    note_all(
-        alloc,
-        rebuilder,
-        begun.base.kept(),
-        book,
-        finished,
-        &mut batch,
-    )?;
+    note_all(alloc, rebuilder, base, book, finished, &mut batch)?;
     Ok(batch)
 }
 
 /// Whether nothing was finished under other rules.
-fn brings_nothing(begun: &Begun<'_>, finished: &FinishedList) -> bool
+fn brings_nothing(begun: &Begun, finished: &FinishedList) -> bool
     ensures { result ≡ (not begun.now.same && (length finished.now == 0)) }
 {
     !begun.same && finished.is_empty()
@@ -77,7 +72,7 @@ fn brings_nothing(begun: &Begun<'_>, finished: &FinishedList) -> bool
 /// The batch with its start and its marks.
 fn opened(
     alloc: Global,
-    begun: &Begun<'_>,
+    begun: &Begun,
     rules: Digest,
     finished: &FinishedList,
 ) -> Result<Batch, NoMemory>

@@ -11,3 +11,4 @@ pub mod Marks
 pub mod Growing
 pub mod Empties
 pub mod Looked
+pub mod Unmarking

@@ -9,3 +9,4 @@ pub mod Bodies
 pub mod BodyLaws
 pub mod Empty
 pub mod Growth
+pub mod Marked

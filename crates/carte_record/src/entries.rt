@@ -1,6 +1,7 @@
-ghost use Rattle.std.specs.Prelude.{◌≡◌, ◌<◌, ◌^◌, ◌∷◌, ◌++◌, [], List, length, slice_get, option_copied, ◌==◌, is_ok, take, IfOk, OnOk, OnErr, IsTrue, ℕ, Bool, true, option_map, if◌then◌else◌};
+ghost use Rattle.std.specs.Prelude.{◌≡◌, ◌<◌, ◌^◌, ◌∷◌, ◌++◌, [], List, length, slice_get, option_copied, ◌==◌, is_ok, take, IfOk, OnOk, OnErr, IsTrue, ℕ, Bool, option_map, if◌then◌else◌};
 ghost use Rattle.carte_record.specs.Lookups.{first_entry, is_entry_of};
 ghost use Rattle.carte_record.specs.Kept.{staled};
+ghost use Rattle.carte_record.specs.Marked.{all_marked, marked_as};
 ghost use Rattle.carte_record.specs.Places.{first_place};
 ghost use Rattle.carte_record.specs.Changes.{change_first, front};
 ghost use Rattle.carte_record.specs.Folds.{is_among};
@@ -92,21 +93,27 @@ impl Entries {
         set(&mut self.entries, at, entry);
     }
 
-    /// Marks the first entry of a key stale, where there is one.
-    pub(crate) fn mark(&mut self, key: &Name)
-        ensures { self.new ≡ change_first (is_entry_of key.now) (staled true) self.old }
-    {
-        let at = place(&self.places, key);
-        mark(&mut self.entries, at);
-    }
-
     /// Marks the first entry of each of these keys stale, where there is one.
     pub(crate) fn mark_all(&mut self, keys: &Names)
         ensures { (k : List ℕ) → first_entry self.new k ≡ option_map (staled (is_among keys.now k)) (first_entry self.old k) }
     {
+        self.mark_each(keys, true);
+    }
+
+    /// Marks the first entry of each of these keys, one after the other, or takes its mark off.
+    pub(crate) fn mark_each(&mut self, keys: &Names, stale: bool)
+        ensures { self.new ≡ all_marked stale self.old keys.now }
+    {
         for key in keys.as_slice() {
-            self.mark(key);
+            self.mark(key, stale);
         }
+    }
+
+    fn mark(&mut self, key: &Name, stale: bool)
+        ensures { self.new ≡ change_first (is_entry_of key.now) (marked_as stale) self.old }
+    {
+        let at = place(&self.places, key);
+        mark(&mut self.entries, at, stale);
     }
 
     /// Makes ready to take a later list in, which then can't fail. Where there is no room, some entries more may stand there.
@@ -215,12 +222,12 @@ impl Entries {
     }
 }
 
-fn mark(entries: &mut Vec<Entry>, at: Option<usize>)
-    ensures { (p : SomeEntry → Bool) → at ≡ first_place p entries.old.items → entries.new.items ≡ change_first p (staled true) entries.old.items }
+fn mark(entries: &mut Vec<Entry>, at: Option<usize>, stale: bool)
+    ensures { (p : SomeEntry → Bool) → at ≡ first_place p entries.old.items → entries.new.items ≡ change_first p (marked_as stale) entries.old.items }
 {
     if let Some(at) = at {
         if let Some(entry) = entries.get_mut(at) {
-            entry.stale = true;
+            entry.stale = stale;
         }
     }
 }

@@ -1,6 +1,8 @@
 ghost use Rattle.std.specs.Prelude.{◌≡◌, IfOk};
 ghost use Rattle.carte_record.specs.Kept.{kept_view, kept_traces, nothing_kept};
 ghost use Rattle.carte_record.specs.Folds.{with_marks};
+ghost use Rattle.carte_record.specs.Marked.{CanBeMarked, lists_marked};
+ghost use Rattle.carte_record.specs.declared.kept.Kept.{Kept as SomeLists};
 
 use crate::{Entries, Seen, Store, Traces, Way};
 use carte_value::{Digest, Names, NoMemory};
@@ -55,11 +57,19 @@ impl Kept {
         }
     }
 
-    /// Marks the entries of these keys stale. It takes no memory.
+    /// Marks the entries of these keys stale, where they stand. It takes no memory.
     pub fn mark(&mut self, keys: &Names)
-        ensures { kept_view self.new ≡ with_marks (kept_view self.old) keys.now }
+        ensures view { kept_view self.new ≡ with_marks (kept_view self.old) keys.now }
+        ensures lists { self.new ≡ lists_marked self.old keys.now }
     {
-        self.entries.mark_all(keys);
+        self.entries.mark_each(keys, true);
+    }
+
+    /// Takes the marks off again, so that all is list for list what it was before these keys were marked. It takes no memory.
+    pub fn unmark(&mut self, keys: &Names)
+        ensures { (lists : SomeLists) → CanBeMarked lists keys.now → self.old ≡ lists_marked lists keys.now → self.new ≡ lists }
+    {
+        self.entries.mark_each(keys, false);
     }
 
     /// A second, equal one.

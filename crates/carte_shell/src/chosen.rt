@@ -29,13 +29,14 @@ use std::alloc::Global;
 pub fn plan(
     alloc: Global,
     choices: Choices,
-    engine: &Engine,
+    engine: &mut Engine,
     book: &Book,
     targets: &Names,
 ) -> Result<Plan, NoMemory>
+    ensures kept { engine.new ≡ engine.old }
     ensures unmarked { IfOk result (λ p. EachFits IsUnmarked p.batch.entries) }
-    ensures plans { Under (kept_in engine.now) (book_view book.now)
-        (IfOk result (IsPlan (scheduler_of choices.scheduler) (how_of choices.rebuilder) (kept_in engine.now) (book_view book.now) targets.now)) }
+    ensures plans { Under (kept_in engine.old) (book_view book.now)
+        (IfOk result (IsPlan (scheduler_of choices.scheduler) (how_of choices.rebuilder) (kept_in engine.old) (book_view book.now) targets.now)) }
 {
     let rules = book.rules_digest(alloc)?;
     plan_under(alloc, choices, engine, book, &rules, targets)
@@ -45,15 +46,16 @@ pub fn plan(
 pub(crate) fn plan_under(
     alloc: Global,
     choices: Choices,
-    engine: &Engine,
+    engine: &mut Engine,
     book: &Book,
     rules: &Digest,
     targets: &Names,
 ) -> Result<Plan, NoMemory>
     requires { rules.now ≡ rules_digest_of (book_view book.now) }
+    ensures kept { engine.new ≡ engine.old }
     ensures unmarked { IfOk result (λ p. EachFits IsUnmarked p.batch.entries) }
-    ensures plans { Under (kept_in engine.now) (book_view book.now)
-        (IfOk result (IsPlan (scheduler_of choices.scheduler) (how_of choices.rebuilder) (kept_in engine.now) (book_view book.now) targets.now)) }
+    ensures plans { Under (kept_in engine.old) (book_view book.now)
+        (IfOk result (IsPlan (scheduler_of choices.scheduler) (how_of choices.rebuilder) (kept_in engine.old) (book_view book.now) targets.now)) }
 {
     let scheduler = scheduler_of(choices.scheduler);
     match choices.rebuilder {
@@ -70,15 +72,16 @@ pub(crate) fn plan_under(
 pub(crate) fn preview(
     alloc: Global,
     rebuilder: Rebuilder4,
-    engine: &Engine,
+    engine: &mut Engine,
     book: &Book,
     rules: &Digest,
     targets: &Names,
 ) -> Result<Work, PlanFault>
     requires { rules.now ≡ rules_digest_of (book_view book.now) }
-    ensures served { Under (kept_in engine.now) (book_view book.now)
-        (IfOk result (IsPreview (how_of rebuilder) (kept_in engine.now) (book_view book.now) targets.now)) }
-    ensures refused { Under (kept_in engine.now) (book_view book.now)
+    ensures kept { engine.new ≡ engine.old }
+    ensures served { Under (kept_in engine.old) (book_view book.now)
+        (IfOk result (IsPreview (how_of rebuilder) (kept_in engine.old) (book_view book.now) targets.now)) }
+    ensures refused { Under (kept_in engine.old) (book_view book.now)
         ((reason : SomeReason) → result ≡ Err (PlanFault.Refused reason) → IsReason (book_view book.now) targets.now reason) }
 {
     match rebuilder {

@@ -92,7 +92,8 @@ impl Shell {
             Line::Explain(targets) => {
                 let rules = known(alloc, &mut self.rules, &self.book)?;
                 let rebuilder = self.choices.rebuilder;
-                Ok(explanation_under(alloc, rebuilder, &self.engine, &self.book, &rules, &targets)?)
+                let engine = &mut self.engine;
+                Ok(explanation_under(alloc, rebuilder, engine, &self.book, &rules, &targets)?)
             }
             Line::Clean => self.clean(alloc, disk),
             Line::Nothing => Ok(String::new(alloc)),
@@ -116,7 +117,7 @@ impl Shell {
         let Plan { batch, answer } = plan_under(
             alloc,
             self.choices,
-            &self.engine,
+            &mut self.engine,
             &self.book,
             &rules,
             targets,

@@ -25,11 +25,12 @@ use std::alloc::Global;
 pub fn explanation(
     alloc: Global,
     rebuilder: Rebuilder4,
-    engine: &Engine,
+    engine: &mut Engine,
     book: &Book,
     targets: &Names,
 ) -> Result<String, NoMemory>
-    ensures { IfOk result (λ text. Explained (how_of rebuilder) (kept_in engine.now) (book_view book.now) targets.now (string_bytes text)) }
+    ensures kept { engine.new ≡ engine.old }
+    ensures told { IfOk result (λ text. Explained (how_of rebuilder) (kept_in engine.old) (book_view book.now) targets.now (string_bytes text)) }
 {
     let rules = book.rules_digest(alloc)?;
     explanation_under(alloc, rebuilder, engine, book, &rules, targets)
@@ -39,13 +40,14 @@ pub fn explanation(
 pub(crate) fn explanation_under(
     alloc: Global,
     rebuilder: Rebuilder4,
-    engine: &Engine,
+    engine: &mut Engine,
     book: &Book,
     rules: &Digest,
     targets: &Names,
 ) -> Result<String, NoMemory>
     requires { rules.now ≡ rules_digest_of (book_view book.now) }
-    ensures { IfOk result (λ text. Explained (how_of rebuilder) (kept_in engine.now) (book_view book.now) targets.now (string_bytes text)) }
+    ensures kept { engine.new ≡ engine.old }
+    ensures told { IfOk result (λ text. Explained (how_of rebuilder) (kept_in engine.old) (book_view book.now) targets.now (string_bytes text)) }
 {
     match preview(alloc, rebuilder, engine, book, rules, targets) {
         Ok(work) => why_lines(

@@ -4,17 +4,18 @@ ghost use Rattle.carte_io.specs.Causes.{HasCauseOf};
 ghost use Rattle.carte_io.specs.Stations.{StepsThrough};
 ghost use Rattle.carte_record.specs.Bodies.{IsBody, IsUnmarked, spelled_batch};
 ghost use Rattle.carte_record.specs.Empty.{is_empty};
-ghost use Rattle.carte_record.specs.Folds.{apply};
+ghost use Rattle.carte_record.specs.Folds.{apply, with_marks};
 ghost use Rattle.carte_record.specs.Kept.{kept_view};
+ghost use Rattle.carte_record.specs.Marked.{CanBeMarked, lists_marked};
 ghost use Rattle.carte_state.specs.Folding.{Keeps};
-ghost use Rattle.carte_state.specs.States.{HasRoom, IsAfter, IsKeptOn, calls_for, kept_in, needs_for, step_for};
+ghost use Rattle.carte_state.specs.States.{Stand as SomeStand, HasRoom, IsAfter, IsKeptOn, calls_for, kept_in, needs_for, step_for};
 
 use crate::ApplyFault;
 use crate::fault::fault_of;
 use carte_io::Disk;
 use carte_journal::{Frame, Journal};
 use carte_record::{Batch, Kept};
-use carte_value::{Digest, NoMemory, Value};
+use carte_value::{Digest, Names, NoMemory, Value};
 use std::alloc::Global;
 use std::marker::Model;
 use std::mem::replace;
@@ -47,6 +48,23 @@ impl State {
         ensures { result.now ≡ self.now.kept }
     {
         &self.kept
+    }
+
+    /// Marks the entries of these keys in what is kept, where they stand, until `unmark` takes the marks off. The file
+    /// doesn't know of them. It takes no memory.
+    pub fn mark(&mut self, keys: &Names)
+        ensures view { kept_in self.new ≡ with_marks (kept_in self.old) keys.now }
+        ensures lists { self.new ≡ record self.old { kept = lists_marked self.old.kept keys.now } }
+    {
+        self.kept.mark(keys);
+    }
+
+    /// Takes the marks off again, so that all is list for list what it was before these keys were marked. It takes no memory.
+    pub fn unmark(&mut self, keys: &Names)
+        ensures { (before : SomeStand) → CanBeMarked before.kept keys.now → self.old ≡ record before { kept = lists_marked before.kept keys.now }
+            → self.new ≡ before }
+    {
+        self.kept.unmark(keys);
     }
 
     /// The value of a digest that is kept, where there is one: of several the first. It takes no memory.

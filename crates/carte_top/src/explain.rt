@@ -49,7 +49,7 @@ fn explain_over<D: Disk, O: Sink>(
         result }
 {
     match load_state(alloc, state) {
-        Ok(engine) => explain_with(alloc, asked, book, &engine, out),
+        Ok(mut engine) => explain_with(alloc, asked, book, &mut engine, out),
         Err(status) => status,
     }
 }
@@ -58,10 +58,10 @@ fn explain_with<O: Sink>(
     alloc: Global,
     asked: &Words,
     book: &Book,
-    engine: &Engine,
+    engine: &mut Engine,
     out: &mut O,
 ) -> Status
-    ensures { ExplainsWith asked.now (book_view book.now) (kept_in engine.now) (over_sink O.tells O.state out.old out.new) result }
+    ensures { ExplainsWith asked.now (book_view book.now) (kept_in engine.old) (over_sink O.tells O.state out.old out.new) result }
 {
     match whys(alloc, asked.rebuilder, engine, book, &asked.targets) {
         Ok(text) => print(out, text.as_str().as_bytes()),

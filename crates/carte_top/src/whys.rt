@@ -32,12 +32,12 @@ use std::alloc::Global;
 pub(crate) fn whys(
     alloc: Global,
     rebuilder: Rebuilder4,
-    engine: &Engine,
+    engine: &mut Engine,
     book: &Book,
     targets: &Names,
 ) -> Result<String, PlanFault>
-    ensures told { IfOk result (λ text. AreToldWhys (how_of rebuilder) (kept_in engine.now) (book_view book.now) targets.now (string_bytes text)) }
-    ensures refused { Under (kept_in engine.now) (book_view book.now)
+    ensures told { IfOk result (λ text. AreToldWhys (how_of rebuilder) (kept_in engine.old) (book_view book.now) targets.now (string_bytes text)) }
+    ensures refused { Under (kept_in engine.old) (book_view book.now)
         ((reason : SomeReason) → result ≡ Err (PlanFault.Refused reason) → IsReason (book_view book.now) targets.now reason) }
 {
     let work = preview(alloc, rebuilder, engine, book, targets)?;
@@ -57,13 +57,14 @@ pub(crate) fn whys(
 fn preview(
     alloc: Global,
     rebuilder: Rebuilder4,
-    engine: &Engine,
+    engine: &mut Engine,
     book: &Book,
     targets: &Names,
 ) -> Result<Work, PlanFault>
-    ensures served { Under (kept_in engine.now) (book_view book.now)
-        (IfOk result (IsPreview (how_of rebuilder) (kept_in engine.now) (book_view book.now) targets.now)) }
-    ensures refused { Under (kept_in engine.now) (book_view book.now)
+    ensures kept { engine.new ≡ engine.old }
+    ensures served { Under (kept_in engine.old) (book_view book.now)
+        (IfOk result (IsPreview (how_of rebuilder) (kept_in engine.old) (book_view book.now) targets.now)) }
+    ensures refused { Under (kept_in engine.old) (book_view book.now)
         ((reason : SomeReason) → result ≡ Err (PlanFault.Refused reason) → IsReason (book_view book.now) targets.now reason) }
 {
     match rebuilder {

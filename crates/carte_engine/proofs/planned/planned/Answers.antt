@@ -1,6 +1,6 @@
 use Rattle.std.proofs.Common.{subst}
 use Rattle.carte_book.specs.Book.{book_view}
-use Rattle.carte_mark.specs.Bases.{base_view}
+use Rattle.carte_record.specs.Kept.{kept_view}
 use Rattle.carte_engine.specs.Reckoned.{EndsBy}
 use Rattle.carte_engine.proofs.Planning.{all_by, each_unmarked, refused_by}
 use Rattle.carte_engine.proofs.planned.planned.Goals as goal
@@ -11,10 +11,10 @@ returns-in_ok-built-in-All-clause-unmarked g c = each_unmarked _ c.in_ok-batch-i
 pub returns-in_ok-built-in-All-clause-plans : goal.returns-in_ok-built-in-All-clause-plans
 returns-in_ok-built-in-All-clause-plans g c s K begins ends H sound distinct =
     let h = g.R.Rebuilder.how c.args.rebuilder.now in
-    let M = base_view c.args.begun.now.base in
+    let M = kept_view c.args.base.now in
     let b = book_view c.args.book.now in
     let end = subst (EndsBy s h M b c.args.targets.now) c.in-All.is ends in
-    all_by h K b c.args.targets.now c.args.begun.now begins H sound distinct
+    all_by h K b c.args.targets.now c.args.begun.now M begins H sound distinct
     s c.in-All.work c.in_ok-batch-in-All.batch c.in_ok-built-in-All.built end (c.in_ok-batch-in-All.ensures.plans K begins) (c.in_ok-built-in-All.ensures {u = tt})
 
 pub returns-in_ok-batch-in-Refused-clause-unmarked : goal.returns-in_ok-batch-in-Refused-clause-unmarked
@@ -23,8 +23,8 @@ returns-in_ok-batch-in-Refused-clause-unmarked g c = each_unmarked _ c.in_ok-bat
 pub returns-in_ok-batch-in-Refused-clause-plans : goal.returns-in_ok-batch-in-Refused-clause-plans
 returns-in_ok-batch-in-Refused-clause-plans g c s K begins ends H sound distinct =
     let h = g.R.Rebuilder.how c.args.rebuilder.now in
-    let M = base_view c.args.begun.now.base in
+    let M = kept_view c.args.base.now in
     let b = book_view c.args.book.now in
     let end = subst (EndsBy s h M b c.args.targets.now) c.in-Refused.is ends in
-    refused_by h K b c.args.targets.now c.args.begun.now begins H sound distinct
+    refused_by h K b c.args.targets.now c.args.begun.now M begins H sound distinct
     s c.in-Refused.work c.in-Refused.reason c.in_ok-batch-in-Refused.batch end (c.in_ok-batch-in-Refused.ensures.plans K begins)

@@ -13,14 +13,14 @@ returns-then-brings_nothing-clause-unmarked g c = nothing_unmarked c.new.result 
 
 pub returns-then-brings_nothing-clause-plans : goal.returns-then-brings_nothing-clause-plans
 returns-then-brings_nothing-clause-plans g c K begins =
-    nothing_planned (g.R.Rebuilder.how c.args.rebuilder.now) K (book_view c.args.book.now) c.args.begun.now c.args.finished.now c.new.result begins (sym c.brings_nothing.ensures ∙ c.if-brings_nothing.true) c.new.ensures
+    nothing_planned (g.R.Rebuilder.how c.args.rebuilder.now) K (kept_view c.args.base.now) (book_view c.args.book.now) c.args.begun.now c.args.finished.now c.new.result begins (sym c.brings_nothing.ensures ∙ c.if-brings_nothing.true) c.new.ensures
 
 pub returns-clause-unmarked : goal.returns-clause-unmarked
 returns-clause-unmarked g c =
     let x = c.args.begun.now in
     let fs = c.args.finished.now in
-    all_unmarked (g.R.Rebuilder.how c.args.rebuilder.now) (kept_view c.kept.result.now) (book_view c.args.book.now) (if x.same then GoOn else Anew c.args.rules) (marks_left (finishes_of fs) x.marks) fs c.in_ok-batch.batch c.note_all.new.batch (c.in_ok-batch.ensures {u = tt}) (c.in_ok-note_all.ensures {u = tt})
+    all_unmarked (g.R.Rebuilder.how c.args.rebuilder.now) (kept_view c.args.base.now) (book_view c.args.book.now) (if x.same then GoOn else Anew c.args.rules) (marks_left (finishes_of fs) x.marks) fs c.in_ok-batch.batch c.note_all.new.batch (c.in_ok-batch.ensures {u = tt}) (c.in_ok-note_all.ensures {u = tt})
 
 pub returns-clause-plans : goal.returns-clause-plans
 returns-clause-plans g c K begins =
-    all_planned (g.R.Rebuilder.how c.args.rebuilder.now) K (kept_view c.kept.result.now) (book_view c.args.book.now) c.args.rules c.args.begun.now c.args.finished.now c.in_ok-batch.batch c.note_all.new.batch begins c.requires (sym c.brings_nothing.ensures ∙ c.if-brings_nothing.false) c.kept.ensures (c.in_ok-batch.ensures {u = tt}) (c.in_ok-note_all.ensures {u = tt})
+    all_planned (g.R.Rebuilder.how c.args.rebuilder.now) K (kept_view c.args.base.now) (book_view c.args.book.now) c.args.rules c.args.begun.now c.args.finished.now c.in_ok-batch.batch c.note_all.new.batch begins c.requires (sym c.brings_nothing.ensures ∙ c.if-brings_nothing.false) (c.in_ok-batch.ensures {u = tt}) (c.in_ok-note_all.ensures {u = tt})

@@ -1,6 +1,6 @@
 use Rattle.std.proofs.Common.{◌≡◌, ◌<◌, length, vec_len, true, false, sym, ◌∙◌, refl, rules}
 use Rattle.std.proofs.lemmas.Option.{slice_get_read}
-use Rattle.carte_record.specs.Kept.{staled}
+use Rattle.carte_record.specs.Marked.{marked_as}
 use Rattle.carte_record.proofs.Changed.{change_at, change_none}
 use Rattle.carte_record.proofs.FirstPlaces.{place_below}
 use Rattle.carte_record.proofs.entries.mark.Goals as goal
@@ -9,7 +9,7 @@ pub returns-in-Some-get_mut : goal.returns-in-Some-get_mut
 returns-in-Some-get_mut c p is =
     let at = sym is ∙ c.in-Some.is in
     let here = slice_get_read c.args.entries.now.items (length c.args.entries.now.items) c.in-Some.at c.in-Some-get_mut.entry.now refl (place_below p c.args.entries.now.items c.in-Some.at at) (c.in-Some-get_mut.ensures {u = tt}).value in
-    sym (change_at p (staled true) c.args.entries.now.items c.in-Some.at c.in-Some-get_mut.entry.now at here)
+    sym (change_at p (marked_as c.args.stale) c.args.entries.now.items c.in-Some.at c.in-Some-get_mut.entry.now at here)
 
 pub returns-in_default-get_mut : goal.returns-in_default-get_mut
 returns-in_default-get_mut c p is =
@@ -18,4 +18,4 @@ returns-in_default-get_mut c p is =
     let there : false ≡ true = (c.in_default-get_mut.ensures {u = tt}).variant.1 below in cc
 
 pub returns-in_default : goal.returns-in_default
-returns-in_default c p is = sym (change_none p (staled true) c.args.entries.now.items (sym is ∙ c.in_default.is))
+returns-in_default c p is = sym (change_none p (marked_as c.args.stale) c.args.entries.now.items (sym is ∙ c.in_default.is))

@@ -1,10 +1,10 @@
-use Rattle.std.proofs.Common.{◌≡◌, Result, Ok, Err, sym, ap, subst, string_bytes}
+use Rattle.std.proofs.Common.{◌≡◌, Result, Ok, Err, sym, ap, ◌∙◌, subst, string_bytes}
 use Rattle.std.specs.Prelude.{IfOk}
 use Rattle.carte_book.specs.Book.{book_view}
 use Rattle.carte_book.specs.Reason.{AllClean}
 use Rattle.carte_engine.specs.Previews.{IsPreview}
 use Rattle.carte_record.specs.Kept.{kept_view}
-use Rattle.carte_state.specs.States.{kept_in}
+use Rattle.carte_state.specs.States.{Stand, kept_in}
 use Rattle.carte_shell.specs.Explained.{AreWhys, TellAll}
 use Rattle.carte_shell.proofs.Results.{at_ok, lifted}
 use Rattle.carte_shell.proofs.Telling.{are_why}
@@ -15,7 +15,7 @@ pub returns-in-Ok-clause-told : goal.returns-in-Ok-clause-told
 returns-in-Ok-clause-told c =
     let b = book_view c.args.book.now in
     let K = kept_in c.args.engine.now in
-    let kept = ap kept_view c.kept.ensures in
+    let kept = ap kept_view (c.kept.ensures ∙ ap (λ (t : Stand). t.kept) c.preview.ensures.kept) in
     let same = c.kind_of.ensures in
     let told = at_ok c.why_lines.result c.in-Ok.text _ c.in-Ok.is c.why_lines.ensures in (
       told.0,

@@ -1,7 +1,10 @@
-use Rattle.std.proofs.Common.{Err, refl, ap, ◌∙◌}
+use Rattle.std.proofs.Common.{Err, refl, ap, sym, subst, ◌∙◌, ◌+◌}
 use Rattle.std.specs.Prelude.{IsTrue}
 use Rattle.std.proofs.lemmas.Result.{err_from_is_err_and}
 use Rattle.carte_book.specs.Book.{book_view}
+use Rattle.carte_io.specs.Stations.{StepsThrough}
+use Rattle.carte_state.specs.Folding.{Keeps}
+use Rattle.carte_state.specs.States.{HasRoom, IsAfter, IsKeptOn, Stand, calls_for, kept_in, needs_for, step_for}
 use Rattle.carte_engine.specs.Building.{HasBuilt, HasCalled}
 use Rattle.carte_engine.specs.declared.fault.BuildFault.TheVariants as building
 use Rattle.carte_engine.proofs.Committing.{has_built, has_called, is_overfull, keeps_stations, stays_there}
@@ -37,10 +40,12 @@ returns-in_err-commit-clause-full g c needed limit so =
     let old = c.args.self.now in
     let new = c.commit.new.self in
     let full = is ∙ ap Err (was_full x needed limit (failed_with x q is r out (building.StateFull needed limit) so)) in
+    let same = c.plan.ensures.kept in
     let facts = c.commit.ensures.full needed limit full in (
-      facts.3,
+      facts.3 ∙ same,
       facts.4,
-      (λ H sound distinct. is_overfull s h b ks old c.in_ok-batch.field-0 (c.in_ok-batch.ensures.plans H sound distinct) needed limit (λ empty. let passed = (c.commit.ensures.empty empty).0 in cc) facts.0 facts.1 facts.2),
+      (λ H sound distinct. is_overfull s h b ks old c.in_ok-batch.field-0 (c.in_ok-batch.ensures.plans H sound distinct) needed limit (λ empty. let passed = (c.commit.ensures.empty empty).0 in cc)
+          (facts.0 ∙ ap (λ (S : Stand). needs_for S c.in_ok-batch.field-0.batch) same) (facts.1 ∙ ap (λ (S : Stand). S.journal.limit) same) facts.2),
     )
 
 pub returns-in_err-commit-clause-no_memory : goal.returns-in_err-commit-clause-no_memory
@@ -51,7 +56,7 @@ returns-in_err-commit-clause-no_memory g c so =
     let q = c.commit.result in
     let is = c.in_err-commit.was in
     let out = p.1 ∙ ap Err p.2 in
-    c.commit.ensures.no_memory (is ∙ ap Err (was_no_memory x (failed_with x q is r out building.NoMemory so)))
+    let facts = c.commit.ensures.no_memory (is ∙ ap Err (was_no_memory x (failed_with x q is r out building.NoMemory so))) in (facts.0 ∙ c.plan.ensures.kept, facts.1)
 
 pub returns-in_err-commit-clause-broken : goal.returns-in_err-commit-clause-broken
 returns-in_err-commit-clause-broken g c =
@@ -102,8 +107,8 @@ returns-in_err-commit-clause-rest g c told =
     let t = g.D.Disk.story c.args.disk.now in
     let u = g.D.Disk.story c.commit.new.disk in
     fault_rest x q is r out c.args.self.now c.commit.new.self t u c.commit.ensures.broken
-    (λ needed limit so. let facts = c.commit.ensures.full needed limit so in (facts.3, ap g.D.Disk.story facts.4))
-    (λ so. let facts = c.commit.ensures.no_memory so in (facts.0, ap g.D.Disk.story facts.1))
+    (λ needed limit so. let facts = c.commit.ensures.full needed limit so in (facts.3 ∙ c.plan.ensures.kept, ap g.D.Disk.story facts.4))
+    (λ so. let facts = c.commit.ensures.no_memory so in (facts.0 ∙ c.plan.ensures.kept, ap g.D.Disk.story facts.1))
 
 pub returns-in_err-commit-clause-stations : goal.returns-in_err-commit-clause-stations
 returns-in_err-commit-clause-stations g c told on H sound distinct =
@@ -115,7 +120,8 @@ returns-in_err-commit-clause-stations g c told on H sound distinct =
     let new = c.commit.new.self in
     let t = g.D.Disk.story c.args.disk.now in
     let u = g.D.Disk.story c.commit.new.disk in
-    keeps_stations s h b ks old c.in_ok-batch.field-0 (c.in_ok-batch.ensures.plans H sound distinct) t u (g.met.D.Disk.in_order c.commit.new.disk told) (c.commit.ensures.any_moment told on)
+    keeps_stations s h b ks old c.in_ok-batch.field-0 (c.in_ok-batch.ensures.plans H sound distinct) t u (g.met.D.Disk.in_order c.commit.new.disk told)
+    (subst (λ (S : Stand). StepsThrough (Keeps S.journal.limit) (kept_in S) (step_for S.journal (kept_in S) c.in_ok-batch.field-0.batch) t u) c.plan.ensures.kept (c.commit.ensures.any_moment told (subst (λ (S : Stand). IsKeptOn S t) (sym c.plan.ensures.kept) on)))
 
 pub returns-clause-built : goal.returns-clause-built
 returns-clause-built g c H sound distinct =
@@ -126,7 +132,8 @@ returns-clause-built g c H sound distinct =
     let old = c.args.self.now in
     let new = c.commit.new.self in
     gave_built c.in_ok-batch.field-0.answer c.answered.result c.answered.ensures (λ a. HasBuilt s h b ks a old new)
-    (has_built s h b ks old c.in_ok-batch.field-0 (c.in_ok-batch.ensures.plans H sound distinct) c.in_ok-batch.field-0.answer new refl c.in_ok-commit.ensures.room c.in_ok-commit.ensures.place)
+    (has_built s h b ks old c.in_ok-batch.field-0 (c.in_ok-batch.ensures.plans H sound distinct) c.in_ok-batch.field-0.answer new refl
+    (subst (λ (S : Stand). HasRoom S c.in_ok-batch.field-0.batch) c.plan.ensures.kept c.in_ok-commit.ensures.room) (subst (λ (S : Stand). IsAfter c.in_ok-batch.field-0.batch S new) c.plan.ensures.kept c.in_ok-commit.ensures.place))
 
 pub returns-clause-refused : goal.returns-clause-refused
 returns-clause-refused g c H sound distinct =
@@ -137,7 +144,8 @@ returns-clause-refused g c H sound distinct =
     let old = c.args.self.now in
     let new = c.commit.new.self in
     gave_refused c.in_ok-batch.field-0.answer c.answered.result c.answered.ensures (λ a. HasBuilt s h b ks a old new)
-    (has_built s h b ks old c.in_ok-batch.field-0 (c.in_ok-batch.ensures.plans H sound distinct) c.in_ok-batch.field-0.answer new refl c.in_ok-commit.ensures.room c.in_ok-commit.ensures.place)
+    (has_built s h b ks old c.in_ok-batch.field-0 (c.in_ok-batch.ensures.plans H sound distinct) c.in_ok-batch.field-0.answer new refl
+    (subst (λ (S : Stand). HasRoom S c.in_ok-batch.field-0.batch) c.plan.ensures.kept c.in_ok-commit.ensures.room) (subst (λ (S : Stand). IsAfter c.in_ok-batch.field-0.batch S new) c.plan.ensures.kept c.in_ok-commit.ensures.place))
 
 pub returns-clause-full : goal.returns-clause-full
 returns-clause-full g c needed limit so = absurd (never_failed c.in_ok-batch.field-0.answer c.answered.result c.answered.ensures (building.StateFull needed limit) (λ reason same. cc) so)
@@ -162,7 +170,9 @@ returns-clause-calls g c told H sound distinct =
     let t = g.D.Disk.story c.args.disk.now in
     let u = g.D.Disk.story c.commit.new.disk in
     gave_answer c.in_ok-batch.field-0.answer c.answered.result c.answered.ensures (λ a. HasCalled s h b ks a old new t.now.passed u.now.passed)
-    (has_called s h b ks old c.in_ok-batch.field-0 (c.in_ok-batch.ensures.plans H sound distinct) c.in_ok-batch.field-0.answer new t.now.passed u.now.passed refl c.in_ok-commit.ensures.place (c.in_ok-commit.ensures.calls told))
+    (has_called s h b ks old c.in_ok-batch.field-0 (c.in_ok-batch.ensures.plans H sound distinct) c.in_ok-batch.field-0.answer new t.now.passed u.now.passed refl
+    (subst (λ (S : Stand). IsAfter c.in_ok-batch.field-0.batch S new) c.plan.ensures.kept c.in_ok-commit.ensures.place)
+    (c.in_ok-commit.ensures.calls told ∙ ap (λ (S : Stand). t.now.passed + calls_for S.journal c.in_ok-batch.field-0.batch) c.plan.ensures.kept))
 
 pub returns-clause-stations : goal.returns-clause-stations
 returns-clause-stations g c told on H sound distinct =
@@ -174,4 +184,5 @@ returns-clause-stations g c told on H sound distinct =
     let new = c.commit.new.self in
     let t = g.D.Disk.story c.args.disk.now in
     let u = g.D.Disk.story c.commit.new.disk in
-    keeps_stations s h b ks old c.in_ok-batch.field-0 (c.in_ok-batch.ensures.plans H sound distinct) t u (g.met.D.Disk.in_order c.commit.new.disk told) (c.commit.ensures.any_moment told on)
+    keeps_stations s h b ks old c.in_ok-batch.field-0 (c.in_ok-batch.ensures.plans H sound distinct) t u (g.met.D.Disk.in_order c.commit.new.disk told)
+    (subst (λ (S : Stand). StepsThrough (Keeps S.journal.limit) (kept_in S) (step_for S.journal (kept_in S) c.in_ok-batch.field-0.batch) t u) c.plan.ensures.kept (c.commit.ensures.any_moment told (subst (λ (S : Stand). IsKeptOn S t) (sym c.plan.ensures.kept) on)))

@@ -1,9 +1,10 @@
-use Rattle.std.proofs.Common.{refl}
+use Rattle.std.proofs.Common.{refl, subst}
 use Rattle.carte_book.specs.Book.{book_view}
 use Rattle.carte_engine.specs.Answers.{IsPlan}
-use Rattle.carte_state.specs.States.{kept_in}
+use Rattle.carte_state.specs.States.{Stand, kept_in}
 use Rattle.carte_words.specs.declared.line.Line.TheVariants as line
 use Rattle.carte_shell.specs.Chosen.{how_of, scheduler_of}
+use Rattle.carte_shell.specs.Commits.{Stops}
 use Rattle.carte_shell.specs.Scenes.{scene}
 use Rattle.carte_shell.proofs.Committing.{breaks, parted}
 use Rattle.carte_shell.proofs.Results.{at_err}
@@ -13,7 +14,10 @@ pub returns-clause-carried : goal.returns-clause-carried
 returns-clause-carried g c =
     let see = scene g.D.Disk.story g.D.Disk.faults in
     let self = c.args.self.now in
+    let before = see (c.args.self.now, c.args.disk.now) in
+    let behind = see (c.commit.new.self, c.commit.new.disk) in
     let is_plan = IsPlan (scheduler_of self.choices.scheduler) (how_of self.choices.rebuilder) (kept_in self.engine) (book_view self.book) c.args.targets.now in
-    breaks g.D.Disk.tells (see (c.args.self.now, c.args.disk.now)) (see (c.commit.new.self, c.commit.new.disk)) (line.Build c.args.targets.now) c.in_ok-batch.field-0.batch c.in-Err.end
+    breaks g.D.Disk.tells before behind (line.Build c.args.targets.now) c.in_ok-batch.field-0.batch c.in-Err.end
     (c.in_ok-batch.field-0.answer, (λ H sound distinct. parted is_plan c.in_ok-batch.field-0 c.in_ok-batch.field-0.batch c.in_ok-batch.field-0.answer refl refl (c.in_ok-batch.ensures.plans H sound distinct)))
-    (at_err c.commit.result c.in-Err.end _ _ c.in-Err.is c.commit.ensures.carried)
+    (subst (λ (S : Stand). Stops g.D.Disk.tells (record before { stand = S }) behind c.in_ok-batch.field-0.batch c.in-Err.end) c.plan_under.ensures.kept
+    (at_err c.commit.result c.in-Err.end _ _ c.in-Err.is c.commit.ensures.carried))
