@@ -73,8 +73,3 @@ along_halts t own log0 log1 log a0 a1 a r0 k go P NoMemory way (inl (same, still
     let Q : Option Answers → Type 0 = λ l. Along t log0 l a0 r0 a (once a (ask k go)) in
     (subst Q (sym still) (along_same t log0 log1 a0 a1 a r0 (once a1 (ask k go)) (once a (ask k go)) same (ap (λ b. once b (ask k go)) (sym same)) way), tt)
 along_halts t own log0 log1 log a0 a1 a r0 k go P NoMemory way (inr (v, is)) = (along_kept t log0 log1 log a0 a1 a r0 k v go way is, tt)
-
--- a name without an answer was put behind the answers with its value
-pub is_new : (t : Truth) (log0 log : Option Answers) (a0 b a : Answers) (k own : List ℕ) (v w : Value) → answer_in a0 k ≡ None → b ≡ a0 → own ≡ k → a ≡ b ++ (own, v) ∷ [] → t k ≡ Some v → log ≡ more log0 ((k, v) ∷ []) → w ≡ v → IsAnswer t log0 log a0 a k w
-is_new t log0 log a0 b a k own v w none same named put is listed copied =
-    inr (rw copied (none, is, put ∙ ap (λ c. c ++ (own, v) ∷ []) same ∙ ap (λ j. a0 ++ (j, v) ∷ []) named, listed))

@@ -106,10 +106,6 @@ looking_stops {S = S} kind code t u own other log0 log1 log p0 p q h same stops 
     let here = looked_on kind code t u own other log0 log1 log p0 p q (Err h) same stops at next way looked in
     (here.0, halts_alike t own (rest_in kind code q) (λ (x : Unit {0}). pending q ≡ []) (λ x. rest_in kind code q ≡ done (top q.values.items)) h here.1)
 
-pub stepped_end : (kind : Kind) (code : List Instr) (p q : Progress) (b : Bool) → b ≡ false → Stepped kind code p q b → rest_in kind code q ≡ done (top q.values.items)
-stepped_end kind code p q true never stepped = absurd (cc)
-stepped_end kind code p q false is stepped = stepped
-
 -- what a look asks
 asks_look : (kind : Kind) (code : List Instr) (a : Answers) (at : ℕ) (vs : List Value) (k : List ℕ) → slice_get code at ≡ Some (i.Look k) → once a (exec kind 0 (drop at code) vs) ≡ once a (ask k (λ v. exec kind 0 (drop (at + 1) code) (vs ++ v ∷ [])))
 asks_look kind code a at vs k is =

@@ -24,6 +24,7 @@ pub(crate) struct Progress {
 }
 
 // The value of a name: a second look-up takes the first answer.
+#[inline(always)]
 fn answer<E: Effect>(
     alloc: Global,
     answers: &mut Known,
