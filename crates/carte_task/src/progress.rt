@@ -24,7 +24,6 @@ pub(crate) struct Progress {
 }
 
 // The value of a name: a second look-up takes the first answer.
-#[inline(always)]
 fn answer<E: Effect>(
     alloc: Global,
     answers: &mut Known,
@@ -50,7 +49,6 @@ fn answer<E: Effect>(
 }
 
 // Looks a name up onto the stack.
-#[inline(always)]
 fn look_onto<E: Effect>(
     alloc: Global,
     answers: &mut Known,
