@@ -6,9 +6,9 @@ ghost use Rattle.carte_sound.specs.Begun.{is_digest};
 ghost use Rattle.carte_sound.specs.Marks.{present};
 ghost use Rattle.carte_mark.specs.Reached.{has_changed, AreChanged, AddsChanged};
 
-use crate::digests::Digests;
 use crate::set::put;
 use carte_book::{Book, Looked};
+use carte_effect::Digests;
 use carte_record::{Kept, Seen};
 use carte_value::{Digest, Link, Name, NoMemory};
 use indexmap::IndexSet;

@@ -24,7 +24,6 @@
 
 mod base;
 mod changed;
-mod digests;
 mod marking;
 mod pass;
 mod reach;
