@@ -10,6 +10,9 @@ use indexmap::IndexMap;
 use std::alloc::Global;
 use std::marker::Model;
 
+/// How many answers are searched one after the other.
+const FEW: usize = 8;
+
 /// Answers for names, in the order in which they came. The first few are searched one after the other, which costs less than
 /// an index for them would. Those behind them have one.
 #[derive(Drop)]
@@ -32,7 +35,7 @@ impl Model for Known {
 fn are_few(few: &Vec<(Name, Hashed)>, more: &IndexMap<Name, Hashed>) -> bool
     ensures { result ≡ are_few (vec_len few.now) (index_map_len more.now) }
 {
-    few.len() < 8 && more.len() == 0
+    few.len() < FEW && more.len() == 0
 }
 
 impl Known {

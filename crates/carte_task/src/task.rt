@@ -14,6 +14,9 @@ use carte_tree::{Expr, is_static, static_runs};
 use carte_value::{Kind, Name, NoMemory};
 use std::alloc::Global;
 
+/// How many instructions there is room for at first: most formulas have no more.
+const FIRST_ROOM: usize = 8;
+
 /// A formula with the key whose value it is, ready to be run.
 #[derive(Drop)]
 pub struct Task {
@@ -36,7 +39,7 @@ impl Task {
     {
         static_runs();
         let key = key.copy(alloc)?;
-        let mut code = Vec::with_capacity(alloc, 8)?;
+        let mut code = Vec::with_capacity(alloc, FIRST_ROOM)?;
         compile::write(alloc, expr, &mut code)?;
         Ok(Task {
             key,
