@@ -1,7 +1,8 @@
 -- What a clearing has done, from its commit.
-use Rattle.std.proofs.Common.{◌≡◌, ℕ, List, [], ◌∷◌, ◌++◌, refl, inl, inr, ◌⊎◌}
+use Rattle.std.proofs.Common.{◌≡◌, ℕ, false, List, [], ◌∷◌, ◌++◌, refl, inl, inr, ◌⊎◌}
 use Rattle.std.specs.Prelude.{codes}
 use Rattle.carte_io.proofs.Images.{leaves_more}
+use Rattle.carte_record.specs.Empty.{is_empty}
 use Rattle.carte_record.specs.Folds.{apply}
 use Rattle.carte_state.specs.Folding.{Keeps}
 use Rattle.carte_state.specs.States.{Stand, kept_in}
@@ -44,9 +45,9 @@ module _ (e : Stand) (d : OverDisk) (k : OverSink) (stays : StaysOver e.journal.
   clears NoMemory put same prints = absurd prints
   clears ScriptTooLong put same prints = absurd prints
 
-  pub clears_not : (fault : ApplyFault) → ((needed most : ℕ) → fault ≡ applying.Full needed most → IsOver e.journal.limit d (clearing e) needed most) → (fault ≡ applying.NoMemory → d.tells → d.new ≡ d.old) → TellsDisk d (uncommitted_of fault) → IsUntouched k
+  pub clears_not : (fault : ApplyFault) → is_empty (clearing e) ≡ false → ((needed most : ℕ) → fault ≡ applying.Full needed most → IsOver e.journal.limit d (clearing e) needed most) → (fault ≡ applying.NoMemory → d.tells → d.new ≡ d.old) → TellsDisk d (uncommitted_of fault) → IsUntouched k
       → CleansWith e.journal.limit (kept_in e) d k (uncommitted_of fault)
-  clears_not applying.DiskFault full spared told untouched = record { did = untouched; stays = stays; disk = told; sink = untouched.2 }
-  clears_not (applying.Full needed most) full spared told untouched =
-      record { did = (record { batch = clearing e; clearing = is_clearing e; over = full needed most refl }, untouched); stays = stays; disk = told; sink = untouched.2 }
-  clears_not applying.NoMemory full spared told untouched = record { did = (untouched, spared refl); stays = stays; disk = told; sink = untouched.2 }
+  clears_not applying.DiskFault filled full spared told untouched = record { did = untouched; stays = stays; disk = told; sink = untouched.2 }
+  clears_not (applying.Full needed most) filled full spared told untouched =
+      record { did = (record { batch = clearing e; clearing = is_clearing e; filled = filled; over = full needed most refl }, untouched); stays = stays; disk = told; sink = untouched.2 }
+  clears_not applying.NoMemory filled full spared told untouched = record { did = (untouched, spared refl); stays = stays; disk = told; sink = untouched.2 }

@@ -88,7 +88,7 @@ module _ (limit : ℕ) (o : OverDisk) (m : Story) (f : ℕ) (q : Type 0) (e : o.
   clears_from K k Takes r = record { batch = r.batch; clearing = r.clearing; put = put_from K r.batch r.put; takes = r.takes }
 
   clears_not_from : (K : SomeKept) (needed most : ℕ) → ClearsNot limit (loaded_from o m f q) needed most K → ClearsNot limit o needed most K
-  clears_not_from K needed most r = record { batch = r.batch; clearing = r.clearing; over = over_from r.batch needed most r.over }
+  clears_not_from K needed most r = record { batch = r.batch; clearing = r.clearing; filled = r.filled; over = over_from r.batch needed most r.over }
 
   cleaned_from : (K : SomeKept) (k : OverSink) (status : Status) → (o.tells → Keeps limit K o.old.now.reads) → CleanedWith limit K (loaded_from o m f q) k status → Cleaned limit o k status
   cleaned_from K k Done found did = (K, found, clears_from K k TakesAll did)

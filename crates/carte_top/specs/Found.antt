@@ -148,10 +148,11 @@ pub record Clears (limit : ℕ) (d : OverDisk) (k : OverSink) (Takes : OverSink 
   pub put : IsPut limit d K batch
   pub takes : k.tells → Takes k (codes "cleaned" ++ 10 ∷ [])
 
--- the clearing's batch is too much
+-- something is kept, and the clearing's batch is too much
 pub record ClearsNot (limit : ℕ) (d : OverDisk) (needed most : ℕ) (K : SomeKept) : Type 0 where
   pub batch : Batch
   pub clearing : IsClearing K batch
+  pub filled : is_empty batch ≡ false
   pub over : IsOver limit d batch needed most
 
 -- ---- the explanation
