@@ -1,5 +1,6 @@
 ghost use Rattle.std.specs.Prelude.{◌≡◌, IfOk};
 
+use crate::shared::Shared;
 use crate::{Digests, Hashed};
 use carte_value::{Links, Name, NoMemory, Value};
 use std::alloc::Global;
@@ -10,18 +11,27 @@ use std::marker::Model;
 struct Record {
     key: Name,
     value: Hashed,
-    links: Links,
+    links: Shared,
 }
 
 impl Model for Record {
     ghost use Rattle.carte_effect.specs.Outcomes.{Outcome};
+    ghost use Rattle.carte_effect.specs.Shares.{links_in};
 
     ghost Value = { Outcome };
 
-    ghost view = { λ r. record { key = r.key; value = r.value; links = r.links } };
+    ghost view = { λ r. record { key = r.key; value = r.value; links = links_in r.links } };
 }
 
 impl Record {
+    fn in_common(self, alloc: Global) -> Result<Record, NoMemory>
+        ensures { IfOk result (λ r. r ≡ self) }
+    {
+        let Record { key, value, links } = self;
+        let links = links.in_common(alloc)?;
+        Ok(Record { key, value, links })
+    }
+
     fn copy(&self, alloc: Global) -> Result<Record, NoMemory>
         ensures { IfOk result (λ r. r ≡ self.now) }
     {
@@ -55,7 +65,11 @@ impl Ended {
         ensures links { result.links ≡ links }
     {
         Ended {
-            record: Record { key, value, links },
+            record: Record {
+                key,
+                value,
+                links: Shared::Own(links),
+            },
         }
     }
 
@@ -74,7 +88,7 @@ impl Ended {
     pub fn links(&self) -> &Links
         ensures { result.now ≡ self.now.links }
     {
-        &self.record.links
+        self.record.links.links()
     }
 }
 
@@ -100,7 +114,11 @@ impl Reuse {
         ensures links { result.links ≡ links }
     {
         Reuse {
-            record: Record { key, value, links },
+            record: Record {
+                key,
+                value,
+                links: Shared::Own(links),
+            },
         }
     }
 }
@@ -139,7 +157,7 @@ impl Made {
     pub fn links(&self) -> &Links
         ensures { result.now ≡ (outcome_of self.now).links }
     {
-        &self.record().links
+        self.record().links.links()
     }
 
     /// Takes the digest of its value, where that wasn't taken yet.
@@ -150,6 +168,20 @@ impl Made {
             Made::Ran(ended) => ended.record.value.hash(digests),
             Made::Reused(reuse) => reuse.record.value.hash(digests),
         }
+    }
+
+    /// The same, whose copies share its links: they take no more memory than their values do.
+    pub fn in_common(self, alloc: Global) -> Result<Made, NoMemory>
+        ensures { IfOk result (λ made. made ≡ self) }
+    {
+        Ok(match self {
+            Made::Ran(Ended { record }) => Made::Ran(Ended {
+                record: record.in_common(alloc)?,
+            }),
+            Made::Reused(Reuse { record }) => Made::Reused(Reuse {
+                record: record.in_common(alloc)?,
+            }),
+        })
     }
 
     pub fn copy(&self, alloc: Global) -> Result<Made, NoMemory>
