@@ -3,7 +3,7 @@ ghost use Rattle.carte_value.specs.declared.value.Value.TheVariants.{Number};
 ghost use Rattle.carte_value.specs.Spelling.{digest_of};
 
 use crate::Hashed;
-use carte_value::{Digest, Value};
+use carte_value::{Digest, Seeded, Value};
 use std::alloc::Global;
 use std::collections::HashMap;
 use std::marker::Model;
@@ -14,7 +14,7 @@ const MOST: usize = 4096;
 /// The digests of the numbers that were met so far, so that each is taken once. Contracts see nothing of it.
 #[derive(Debug, Drop)]
 pub struct Digests {
-    numbers: HashMap<i64, Digest>,
+    numbers: HashMap<i64, Digest, Seeded>,
 }
 
 impl Model for Digests {
@@ -31,9 +31,9 @@ impl Model for Digests {
 
 impl Digests {
     /// No digests. It takes no memory.
-    pub fn new(alloc: Global) -> Digests {
+    pub fn new(alloc: Global, hasher: Seeded) -> Digests {
         Digests {
-            numbers: HashMap::new(alloc),
+            numbers: HashMap::with_hasher(alloc, hasher),
         }
     }
 
