@@ -4,6 +4,5 @@ pub mod Lists
 pub mod Sights
 pub mod Ledger
 pub mod Pairs
-pub mod Shares
 pub mod Outcomes
 pub mod Jobs

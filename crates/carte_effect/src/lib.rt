@@ -29,7 +29,6 @@ mod look;
 mod outcome;
 mod refs_only;
 mod runs;
-mod shared;
 mod tracked;
 
 pub use digests::Digests;

@@ -1,8 +1,7 @@
 ghost use Rattle.std.specs.Prelude.{◌≡◌, IfOk};
 
-use crate::shared::Shared;
 use crate::{Digests, Hashed};
-use carte_value::{Links, Name, NoMemory, Value};
+use carte_value::{Links, Name, NoMemory, SharedLinks, Value};
 use std::alloc::Global;
 use std::marker::Model;
 
@@ -11,34 +10,25 @@ use std::marker::Model;
 struct Record {
     key: Name,
     value: Hashed,
-    links: Shared,
+    links: SharedLinks,
 }
 
 impl Model for Record {
     ghost use Rattle.carte_effect.specs.Outcomes.{Outcome};
-    ghost use Rattle.carte_effect.specs.Shares.{links_in};
 
     ghost Value = { Outcome };
 
-    ghost view = { λ r. record { key = r.key; value = r.value; links = links_in r.links } };
+    ghost view = { λ r. record { key = r.key; value = r.value; links = r.links } };
 }
 
 impl Record {
-    fn in_common(self, alloc: Global) -> Result<Record, NoMemory>
-        ensures { IfOk result (λ r. r ≡ self) }
-    {
-        let Record { key, value, links } = self;
-        let links = links.in_common(alloc)?;
-        Ok(Record { key, value, links })
-    }
-
     fn copy(&self, alloc: Global) -> Result<Record, NoMemory>
         ensures { IfOk result (λ r. r ≡ self.now) }
     {
         Ok(Record {
             key: self.key.copy(alloc)?,
             value: self.value.copy(alloc)?,
-            links: self.links.copy(alloc)?,
+            links: self.links.copy()?,
         })
     }
 }
@@ -59,17 +49,13 @@ impl Model for Ended {
 
 impl Ended {
     /// For those who write tasks and jobs. That a task ran is promised by the drive that hands it out, and not by this.
-    pub fn new(key: Name, value: Hashed, links: Links) -> Ended
+    pub fn new(key: Name, value: Hashed, links: SharedLinks) -> Ended
         ensures key { result.key ≡ key }
         ensures value { result.value ≡ value }
         ensures links { result.links ≡ links }
     {
         Ended {
-            record: Record {
-                key,
-                value,
-                links: Shared::Own(links),
-            },
+            record: Record { key, value, links },
         }
     }
 
@@ -88,7 +74,7 @@ impl Ended {
     pub fn links(&self) -> &Links
         ensures { result.now ≡ self.now.links }
     {
-        self.record.links.links()
+        self.record.links.list()
     }
 }
 
@@ -108,17 +94,13 @@ impl Model for Reuse {
 
 impl Reuse {
     /// For those who write checks and jobs. That the earlier end holds is promised by the drive that hands it out, and not by this.
-    pub fn new(key: Name, value: Hashed, links: Links) -> Reuse
+    pub fn new(key: Name, value: Hashed, links: SharedLinks) -> Reuse
         ensures key { result.key ≡ key }
         ensures value { result.value ≡ value }
         ensures links { result.links ≡ links }
     {
         Reuse {
-            record: Record {
-                key,
-                value,
-                links: Shared::Own(links),
-            },
+            record: Record { key, value, links },
         }
     }
 }
@@ -157,7 +139,14 @@ impl Made {
     pub fn links(&self) -> &Links
         ensures { result.now ≡ (outcome_of self.now).links }
     {
-        self.record().links.links()
+        self.record().links.list()
+    }
+
+    /// The links, for whoever shares them.
+    pub fn shared_links(&self) -> &SharedLinks
+        ensures { result.now ≡ (outcome_of self.now).links }
+    {
+        &self.record().links
     }
 
     /// Takes the digest of its value, where that wasn't taken yet.
@@ -170,20 +159,7 @@ impl Made {
         }
     }
 
-    /// The same, whose copies share its links: they take no more memory than their values do.
-    pub fn in_common(self, alloc: Global) -> Result<Made, NoMemory>
-        ensures { IfOk result (λ made. made ≡ self) }
-    {
-        Ok(match self {
-            Made::Ran(Ended { record }) => Made::Ran(Ended {
-                record: record.in_common(alloc)?,
-            }),
-            Made::Reused(Reuse { record }) => Made::Reused(Reuse {
-                record: record.in_common(alloc)?,
-            }),
-        })
-    }
-
+    /// A second one, which shares the links.
     pub fn copy(&self, alloc: Global) -> Result<Made, NoMemory>
         ensures { IfOk result (λ made. made ≡ self.now) }
     {
