@@ -3,7 +3,7 @@ ghost use Rattle.carte_effect.specs.Effects.{SameStops};
 ghost use Rattle.carte_task.specs.Compared.{Compared};
 
 use crate::{Effect, Halt, Hashed, Reuse};
-use carte_value::{Digest, Link, Links, Name, NoMemory, Value};
+use carte_value::{Digest, Link, Name, NoMemory, SharedLinks, Value};
 use std::alloc::Global;
 use std::marker::Model;
 use std::mem;
@@ -22,7 +22,7 @@ pub enum Verdict {
 pub struct Check {
     key: Name,
     value: Hashed,
-    links: Links,
+    links: SharedLinks,
     at: usize,
 }
 
@@ -56,12 +56,17 @@ fn still<E: Effect>(alloc: Global, link: &Link, effect: &mut E) -> Result<bool, 
 impl Check {
     ghost use Rattle.carte_task.specs.Checks.{Checked, Judges, Gives, KeepsEarlier, Stands};
 
-    /// A check of an earlier end, with nothing compared so far.
-    pub fn start(alloc: Global, key: &Name, links: &Links, value: Hashed) -> Result<Check, NoMemory>
+    /// A check of an earlier end, whose links it shares, with nothing compared so far.
+    pub fn start(
+        alloc: Global,
+        key: &Name,
+        links: &SharedLinks,
+        value: Hashed,
+    ) -> Result<Check, NoMemory>
         ensures { IfOk result (λ c. c ≡ record { earlier = record { key = key.now; value = value; links = links.now }; at = 0 }) }
     {
         let key = key.copy(alloc)?;
-        let links = links.copy(alloc)?;
+        let links = links.copy()?;
         Ok(Check {
             key,
             value,
@@ -111,13 +116,14 @@ impl Check {
 
     // The earlier end, which holds, with the value and the links that the check has of it.
     fn hand_out(&mut self, alloc: Global) -> Result<Reuse, NoMemory>
+        requires { length self.old.earlier.links ≤ self.old.at }
         ensures given { IfOk result (λ r. r ≡ self.old.earlier) }
         ensures none_left { OnOk result (length self.new.earlier.links ≤ self.new.at) }
         ensures kept { OnErr result (self.new ≡ self.old) }
     {
         let key = self.key.copy(alloc)?;
+        let links = self.links.copy()?;
         let value = mem::replace(&mut self.value, Hashed::unhashed(Value::Empty));
-        let links = mem::replace(&mut self.links, Links::new(alloc));
         Ok(Reuse::new(key, value, links))
     }
 }

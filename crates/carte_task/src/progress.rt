@@ -9,7 +9,7 @@ ghost use Rattle.carte_task.specs.Answered.{Answered, AnsweredOnto};
 use crate::code::{Instr, Next, Wanted};
 use crate::known::Known;
 use crate::{Effect, Halt, Hashed, execute};
-use carte_value::{Kind, Links, Name, Names, NoMemory, Seeded, Value, Values};
+use carte_value::{Kind, Name, Names, NoMemory, Seeded, SharedLinks, Value, Values};
 use std::alloc::Global;
 
 /// How far a task has come: the place in its code, the stack, the names to be looked up first, and the answers so far in order.
@@ -125,10 +125,11 @@ impl Progress {
     }
 
     /// The names that were asked, in order, with the digests of their values.
-    pub(crate) fn links(&self, alloc: Global) -> Result<Links, NoMemory>
+    pub(crate) fn links(&self, alloc: Global) -> Result<SharedLinks, NoMemory>
         ensures { IfOk result (λ links. links ≡ links_of (answers_in self.now)) }
     {
-        self.answers.links(alloc)
+        let links = self.answers.links(alloc)?;
+        SharedLinks::of(alloc, links)
     }
 
     /// Looks up the names that are to be looked up first, each onto the stack.

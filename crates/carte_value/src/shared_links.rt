@@ -1,4 +1,4 @@
-ghost use Rattle.std.specs.Prelude.{◌≡◌, IfOk};
+ghost use Rattle.std.specs.Prelude.{◌≡◌, ◌==◌, length, IfOk};
 
 use crate::{Link, Links, NoMemory};
 use std::alloc::Global;
@@ -36,6 +36,19 @@ impl SharedLinks {
     {
         let links = self.links.clone()?;
         Ok(SharedLinks { links })
+    }
+
+    /// How many links there are.
+    pub fn len(&self) -> usize
+        ensures number { result ≡ length self.now }
+    {
+        self.links.len()
+    }
+
+    pub fn is_empty(&self) -> bool
+        ensures { result ≡ (length self.now == 0) }
+    {
+        self.links.is_empty()
     }
 
     /// The links.
