@@ -11,8 +11,8 @@ ghost use Rattle.carte_sheet.specs.Places.{IsBefore};
 use crate::cell::read_field;
 use crate::draft::Draft;
 use carte_book::{Book, BookFault};
-use csv::{ByteRecord, Error, ErrorKind, ReaderBuilder};
 use carte_value::Seeded;
+use csv::{ByteRecord, Error, ErrorKind, ReaderBuilder};
 use std::alloc::Global;
 
 /// The book of the records of a text.
