@@ -11,6 +11,7 @@ ghost use Rattle.carte_formula.specs.Resumed.{resumed, Advances};
 mod building;
 mod chains;
 mod frames;
+mod lists;
 mod operand;
 mod states;
 mod steps;

@@ -12,18 +12,18 @@ ghost use Rattle.carte_rules.specs.Steps.{Gives};
 use crate::draft::Draft;
 use carte_book::{AddFault, Book, BookFault, Looked, Which};
 use carte_tree::Expr;
-use carte_value::{Kind, Name, NoMemory, Value};
+use carte_value::{Kind, Name, NoMemory, Seeded, Value};
 use std::alloc::Global;
 use std::collections::BTreeSet;
 
 const MOST_KEYS: u64 = 65_536;
 
 impl Draft {
-    pub(crate) fn new(alloc: Global) -> Draft
+    pub(crate) fn new(alloc: Global, hasher: Seeded) -> Draft
         ensures { Holds result empty }
     {
         Draft {
-            book: Book::new(alloc, Kind::Rules),
+            book: Book::new(alloc, Kind::Rules, hasher),
             beyond: BTreeSet::new(alloc),
         }
     }

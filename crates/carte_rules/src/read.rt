@@ -18,6 +18,7 @@ use crate::inputs::read_inputs;
 use crate::plain::read_plain;
 use crate::rules::read_formulas;
 use carte_book::{Book, BookFault, Which};
+use carte_value::Seeded;
 use std::alloc::Global;
 use toml::Table;
 
@@ -30,15 +31,16 @@ const MOST_BYTES: usize = 16_777_216;
 /// or that is no table; for each input in byte order `BadName`, then `BadValue` of what is neither an integer nor a
 /// text of at most 65,536 bytes; for each rule in byte order `BadName`, `Twice` where it is an input, `BadValue` of
 /// what is no text, `Formula`; `Limit` of keys. Memory is wanted only where there aren't too many bytes.
-pub fn read_rules(alloc: Global, bytes: &[u8]) -> Result<Book, BookFault>
+/// The book's map is made with `hasher`.
+pub fn read_rules(alloc: Global, bytes: &[u8], hasher: Seeded) -> Result<Book, BookFault>
     ensures { IsRead bytes.now result }
 {
     if bytes.len() > MOST_BYTES {
         return Err(BookFault::Limit(Which::Bytes, MOST_BYTES as u64));
     }
     match plain_tables(alloc, bytes) {
-        Some(tables) => read_lines(alloc, tables),
-        None => read_whole(alloc, bytes),
+        Some(tables) => read_lines(alloc, tables, hasher),
+        None => read_whole(alloc, bytes, hasher),
     }
 }
 
@@ -53,23 +55,23 @@ fn plain_tables(alloc: Global, bytes: &[u8]) -> Option<PlainTables<'_>>
     }
 }
 
-fn read_lines(alloc: Global, tables: PlainTables<'_>) -> Result<Book, BookFault>
+fn read_lines(alloc: Global, tables: PlainTables<'_>, hasher: Seeded) -> Result<Book, BookFault>
     requires { IsStrictlySortedBy name_cmp (keys_of tables.inputs.items) }
     ensures { Answers (InTables (plain_view tables.entry)) result }
 {
-    let mut draft = Draft::new(alloc);
+    let mut draft = Draft::new(alloc, hasher);
     put_inputs(alloc, &tables.inputs, &mut draft)?;
     put_rules(alloc, &tables.rules, &mut draft)?;
     draft.finish()
 }
 
 // The way of every document.
-fn read_whole(alloc: Global, bytes: &[u8]) -> Result<Book, BookFault>
+fn read_whole(alloc: Global, bytes: &[u8], hasher: Seeded) -> Result<Book, BookFault>
     requires { length bytes.now ≤ 16777216 }
     ensures { IsRead bytes.now result }
 {
     match toml::table_from_slice(alloc, bytes) {
-        Ok(document) => read_document(alloc, document),
+        Ok(document) => read_document(alloc, document, hasher),
         Err(error) => {
             if error.is_memory() {
                 Err(BookFault::NoMemory)
@@ -80,17 +82,17 @@ fn read_whole(alloc: Global, bytes: &[u8]) -> Result<Book, BookFault>
     }
 }
 
-fn read_document(alloc: Global, document: Table) -> Result<Book, BookFault>
+fn read_document(alloc: Global, document: Table, hasher: Seeded) -> Result<Book, BookFault>
     ensures { Answers (Then (tables_into (table_view document) no_tables) InTables) result }
 {
-    read_tables(alloc, find_tables(alloc, document)?)
+    read_tables(alloc, find_tables(alloc, document)?, hasher)
 }
 
-fn read_tables(alloc: Global, found: Found) -> Result<Book, BookFault>
+fn read_tables(alloc: Global, found: Found, hasher: Seeded) -> Result<Book, BookFault>
     ensures { Answers (InTables (tables_view found)) result }
 {
     let Found { inputs, rules } = found;
-    let mut draft = Draft::new(alloc);
+    let mut draft = Draft::new(alloc, hasher);
     read_inputs(alloc, inputs, &mut draft)?;
     read_formulas(alloc, rules, &mut draft)?;
     draft.finish()

@@ -12,17 +12,17 @@ ghost use Rattle.carte_sheet.specs.Steps.{Gives};
 use crate::draft::Draft;
 use carte_book::{AddFault, Book, BookFault, Which};
 use carte_tree::Expr;
-use carte_value::{Kind, Name, NoMemory, Value};
+use carte_value::{Kind, Name, NoMemory, Seeded, Value};
 use std::alloc::Global;
 
 const MOST_KEYS: u64 = 65_536;
 
 impl Draft {
-    pub(crate) fn new(alloc: Global) -> Draft
+    pub(crate) fn new(alloc: Global, hasher: Seeded) -> Draft
         ensures { Holds result empty }
     {
         Draft {
-            book: Book::new(alloc, Kind::Sheet),
+            book: Book::new(alloc, Kind::Sheet, hasher),
             is_over: false,
         }
     }

@@ -3,6 +3,7 @@ ghost use Rattle.carte_sheet.specs.Reading.{IsRead, without_mark};
 
 use crate::rows::read_records;
 use carte_book::{Book, BookFault, Which};
+use carte_value::Seeded;
 use std::alloc::Global;
 
 const MOST_BYTES: usize = 16_777_216;
@@ -16,13 +17,14 @@ const MOST_BYTES: usize = 16_777_216;
 ///
 /// The fault is the first of these: `Limit` of bytes; for each field that isn't empty, in order, `Limit` of rows,
 /// `Limit` of columns, `NotUtf8`, `BadValue` of a text of more than 65,536 bytes or `Formula`; `Limit` of keys.
-pub fn read_sheet(alloc: Global, bytes: &[u8]) -> Result<Book, BookFault>
+/// The book's map is made with `hasher`.
+pub fn read_sheet(alloc: Global, bytes: &[u8], hasher: Seeded) -> Result<Book, BookFault>
     ensures { IsRead bytes.now result }
 {
     if bytes.len() > MOST_BYTES {
         return Err(BookFault::Limit(Which::Bytes, 16_777_216));
     }
-    read_records(alloc, without_mark(bytes))
+    read_records(alloc, without_mark(bytes), hasher)
 }
 
 /// The bytes without a byte order mark in front.

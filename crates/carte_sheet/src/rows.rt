@@ -11,18 +11,19 @@ ghost use Rattle.carte_sheet.specs.Places.{IsBefore};
 use crate::cell::read_field;
 use crate::draft::Draft;
 use carte_book::{Book, BookFault};
+use carte_value::Seeded;
 use csv::{ByteRecord, Error, ErrorKind, ReaderBuilder};
 use std::alloc::Global;
 
 /// The book of the records of a text.
-pub(crate) fn read_records(alloc: Global, text: &[u8]) -> Result<Book, BookFault>
+pub(crate) fn read_records(alloc: Global, text: &[u8], hasher: Seeded) -> Result<Book, BookFault>
     ensures { Answers (InRows (records_of text.now)) result }
 {
     let reader = ReaderBuilder::new()
         .has_headers(false)
         .flexible(true)
         .from_reader(alloc, text);
-    let mut draft = Draft::new(alloc);
+    let mut draft = Draft::new(alloc, hasher);
     let mut row: usize = 1;
     for found in reader.into_byte_records() {
         match found {

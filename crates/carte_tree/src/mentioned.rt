@@ -35,7 +35,11 @@ fn see_expr(alloc: Global, expr: &Expr, seen: &mut IndexSet<Name, Seeded>) -> Re
 }
 
 #[cycle(refs)]
-fn see_chain(alloc: Global, chain: &Chain, seen: &mut IndexSet<Name, Seeded>) -> Result<(), NoMemory>
+fn see_chain(
+    alloc: Global,
+    chain: &Chain,
+    seen: &mut IndexSet<Name, Seeded>,
+) -> Result<(), NoMemory>
     requires { IsExpr (chain_tree chain.now) }
     ensures { OnOk result (seen.new.keys ≡ seen_all seen.old.keys (mentions (chain_tree chain.now))) }
 {

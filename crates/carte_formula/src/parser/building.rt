@@ -4,6 +4,7 @@ ghost use Rattle.carte_formula.specs.Machine.{grown};
 ghost use Rattle.carte_tree.specs.Code.{tree_of, chain_tree, terms_of, args_trees};
 
 use crate::parser::frames::OpenChain;
+use crate::parser::lists::{add, with_last};
 use crate::{Arg, Args, Chain, Expr, Func, Level, Op, Rest};
 use carte_tree::{chain_of, neg_of};
 use carte_value::NoMemory;
@@ -21,13 +22,12 @@ pub fn signed(alloc: Global, minus: bool, operand: Expr) -> Result<Expr, NoMemor
     }
 }
 
-/// The operators and operands of a chain, with one more.
+/// The operators and operands of a chain, with the last.
 #[inline(always)]
-pub fn grow(mut steps: Vec<(Op, Expr)>, op: Op, operand: Expr) -> Result<Vec<(Op, Expr)>, NoMemory>
+fn grow(steps: Vec<(Op, Expr)>, op: Op, operand: Expr) -> Result<Vec<(Op, Expr)>, NoMemory>
     ensures { IfOk result (λ v. terms_of v.items ≡ grown (terms_of steps.items) op (tree_of operand)) }
 {
-    steps.push((op, operand))?;
-    Ok(steps)
+    with_last(steps, (op, operand))
 }
 
 /// A chain that ends with this operand.
@@ -55,7 +55,7 @@ fn chain_with(level: Level, first: Expr, items: Vec<(Op, Expr)>) -> Chain
 pub fn with_arg(mut args: Vec<Arg>, arg: Arg) -> Result<Vec<Arg>, NoMemory>
     ensures { IfOk result (λ v. v.items ≡ args.items ++ arg ∷ []) }
 {
-    args.push(arg)?;
+    add(&mut args, arg)?;
     Ok(args)
 }
 
@@ -79,7 +79,7 @@ fn filled(func: Func, args: Vec<Arg>) -> Result<Vec<Arg>, NoMemory>
     ensures { IfOk result (λ v. args_trees v.items ≡ filled func (args_trees args.items)) }
 {
     if wants_third(func, args.len()) {
-        with_arg(args, Arg::One(Expr::Number(0)))
+        with_last(args, Arg::One(Expr::Number(0)))
     } else {
         Ok(args)
     }

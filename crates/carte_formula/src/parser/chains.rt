@@ -8,14 +8,12 @@ ghost use Rattle.carte_formula.specs.Parser.{args_next, frame_of, frames_of, Goe
 
 use crate::parser::building::{call_of, signed, whole_chain, with_arg};
 use crate::parser::frames::{Frame, Joint, OpenChain, Stack};
+use crate::parser::lists::with_last;
 use crate::parser::operand::{after, put};
 use crate::parser::states::{Parser, State};
 use crate::{Arg, Expr, Func, Op};
 use carte_value::NoMemory;
 use std::alloc::Global;
-
-/// How many operators most chains have. A list that grows from nothing would have room for four.
-const FEW_STEPS: usize = 1;
 
 /// An operator follows an operand: the chains that bind tighter are whole.
 #[cycle(join)]
@@ -57,11 +55,10 @@ fn join_behind(
 fn begin_chain(alloc: Global, op: Op, operand: Expr, stack: &mut Stack) -> Result<(), NoMemory>
     ensures { OnOk result (frames_of stack.new.frames.items ≡ chain_at (level_of op) (tree_of operand) [] op ∷ frames_of stack.old.frames.items) }
 {
-    let steps = Vec::with_capacity(alloc, FEW_STEPS)?;
     stack.push(Frame::Chain(OpenChain {
         level: op.level(),
         first: operand,
-        steps,
+        steps: Vec::new(alloc),
         last: op,
     }))
 }
@@ -113,7 +110,7 @@ fn close_behind(
 pub fn end_args(
     alloc: Global,
     func: Func,
-    mut done: Vec<Arg>,
+    done: Vec<Arg>,
     arg: Arg,
     parser: &mut Parser,
 ) -> Result<bool, NoMemory>
@@ -122,8 +119,7 @@ pub fn end_args(
     if !func.is_enough(done.len() + 1) {
         return Ok(false);
     }
-    done.push(arg)?;
-    end_call(alloc, func, done, parser)
+    end_call(alloc, func, with_last(done, arg)?, parser)
 }
 
 #[inline(always)]

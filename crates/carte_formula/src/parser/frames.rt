@@ -1,6 +1,7 @@
 ghost use Rattle.std.specs.Prelude.{◌≡◌, [], ◌∷◌, drop, slice_get, IsSome, OnOk};
 ghost use Rattle.carte_formula.specs.Frames.{weight_of, depth_in, PopsSign, PopsCall, PopsChain, is_called_at, is_chained_at, is_signed_at, called_at, called_by, may_range, chain_joint, joint_at, joint_of};
 
+use crate::parser::lists::add;
 use crate::{Arg, Expr, Func, Level, Op};
 use carte_value::NoMemory;
 use std::alloc::Global;
@@ -261,10 +262,7 @@ impl Frame {
         ensures longer { OnOk result ((S : List Begun) → frame_of self.new ∷ S ≡ with_arg (arg_tree arg) (frame_of self.old ∷ S)) }
     {
         match self {
-            Frame::Call(_, done) => {
-                done.push(arg)?;
-                Ok(())
-            }
+            Frame::Call(_, done) => add(done, arg),
             _ => unreachable!(),
         }
     }
@@ -280,7 +278,7 @@ impl OpenChain {
     fn lengthen(&mut self, op: Op, operand: Expr) -> Result<(), NoMemory>
         ensures { OnOk result (open_frame self.new ≡ chain_at self.old.level (tree_of self.old.first) (grown (terms_of self.old.steps.items) self.old.last (tree_of operand)) op) }
     {
-        self.steps.push((self.last, operand))?;
+        add(&mut self.steps, (self.last, operand))?;
         self.last = op;
         Ok(())
     }

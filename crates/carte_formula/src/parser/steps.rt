@@ -17,9 +17,6 @@ use carte_value::{Area, NoMemory};
 use std::alloc::Global;
 use std::mem;
 
-/// How many arguments most calls have. A list that grows from nothing would have room for four.
-const FEW_ARGS: usize = 2;
-
 /// Takes a token, and tells whether a formula may go on with it.
 #[tactic(auto, using(crate::proofs::Wanting::number_next, crate::proofs::Wanting::text_next, crate::proofs::Wanting::word_next))]
 #[inline(always)]
@@ -176,10 +173,7 @@ fn at_name(alloc: Global, sign: Sign, func: Func, parser: &mut Parser) -> Result
     ensures { GoesTo result parser.new (at_name (sign_token sign) func (frames_of parser.old.stack.frames.items)) }
 {
     match sign {
-        Sign::Open => {
-            let args = Vec::with_capacity(alloc, FEW_ARGS)?;
-            put(Frame::Call(func, args), parser)
-        }
+        Sign::Open => put(Frame::Call(func, Vec::new(alloc)), parser),
         _ => Ok(false),
     }
 }
