@@ -10,21 +10,21 @@ ghost use Rattle.carte_book.specs.Needs.{IsRule};
 use crate::book::Items;
 use crate::{Book, Item, Looked};
 use carte_tree::Expr;
-use carte_value::{Kind, Name, NoMemory, Value};
+use carte_value::{Kind, Name, NoMemory, Seeded, Value};
 use std::alloc::Global;
 use std::collections::BTreeSet;
 use std::sync::Arc;
 
 impl Book {
-    /// The book of this kind without keys. It takes no memory.
-    pub fn new(alloc: Global, kind: Kind) -> Book
+    /// The book of this kind without keys, whose map is made with `hasher`. It takes no memory.
+    pub fn new(alloc: Global, kind: Kind, hasher: Seeded) -> Book
         ensures kind { (book_view result).kind ≡ kind }
         ensures items { (book_view result).items ≡ empty }
     {
         Book {
             alloc,
             kind,
-            items: Items::new(alloc),
+            items: Items::with_hasher(alloc, hasher),
             nothing: Value::Empty,
         }
     }
@@ -34,6 +34,11 @@ impl Book {
         ensures { result ≡ (book_view self.now).kind }
     {
         self.kind
+    }
+
+    /// The hash that maps of this book's names are made with. It takes no memory.
+    pub fn hasher(&self) -> Seeded {
+        *self.items.hasher()
     }
 
     /// What stands at a name; in a sheet a cell that the book doesn't hold is an input without content.

@@ -3,13 +3,13 @@ ghost use Rattle.carte_value.specs.declared.value.Value.TheVariants.{Empty};
 ghost use Rattle.carte_book.specs.Fits.{Fits, Fits-prop};
 
 use carte_tree::Expr;
-use carte_value::{Kind, Name, Value};
+use carte_value::{Kind, Name, Seeded, Value};
 use indexmap::IndexMap;
 use std::alloc::Global;
 use std::sync::Arc;
 
-/// The one name of the map in memory, so that its hasher can be changed here. Items stand in the order in which they were added.
-pub(crate) type Items = IndexMap<Name, Item>;
+/// The one name of the map in memory. Items stand in the order in which they were added.
+pub(crate) type Items = IndexMap<Name, Item, Seeded>;
 
 /// What stands at a name of a book. A formula is shared with those who may run it later, without the book.
 #[derive(Debug, Drop)]

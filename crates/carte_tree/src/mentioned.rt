@@ -5,23 +5,23 @@ ghost use Rattle.carte_tree.specs.Code.{tree_of, chain_tree, args_tree, arg_tree
 ghost use Rattle.carte_tree.specs.Formula.{IsExpr, AreCallArgs, IsCallArg, mentions, args_mentions, arg_mentions, refs_of};
 
 use crate::{Arg, Args, Chain, Expr};
-use carte_value::{Area, Name, Names, NoMemory};
+use carte_value::{Area, Name, Names, NoMemory, Seeded};
 use indexmap::IndexSet;
 use std::alloc::Global;
 
 /// The names that a formula refers to, each once, in the order of their first places. Ranges are spelt out row by row,
-/// each row from left to right.
-pub fn refs(alloc: Global, expr: &Expr) -> Result<Names, NoMemory>
+/// each row from left to right. The set of the names that were seen is made with `hasher`.
+pub fn refs(alloc: Global, expr: &Expr, hasher: Seeded) -> Result<Names, NoMemory>
     requires { IsExpr (tree_of expr.now) }
     ensures { IfOk result (λ ks. ks ≡ refs_of (tree_of expr.now)) }
 {
-    let mut seen = IndexSet::new(alloc);
+    let mut seen = IndexSet::with_hasher(alloc, hasher);
     see_expr(alloc, expr, &mut seen)?;
     listed(alloc, &seen)
 }
 
 #[cycle(refs)]
-fn see_expr(alloc: Global, expr: &Expr, seen: &mut IndexSet<Name>) -> Result<(), NoMemory>
+fn see_expr(alloc: Global, expr: &Expr, seen: &mut IndexSet<Name, Seeded>) -> Result<(), NoMemory>
     requires { IsExpr (tree_of expr.now) }
     ensures { OnOk result (seen.new.keys ≡ seen_all seen.old.keys (mentions (tree_of expr.now))) }
 {
@@ -35,7 +35,7 @@ fn see_expr(alloc: Global, expr: &Expr, seen: &mut IndexSet<Name>) -> Result<(),
 }
 
 #[cycle(refs)]
-fn see_chain(alloc: Global, chain: &Chain, seen: &mut IndexSet<Name>) -> Result<(), NoMemory>
+fn see_chain(alloc: Global, chain: &Chain, seen: &mut IndexSet<Name, Seeded>) -> Result<(), NoMemory>
     requires { IsExpr (chain_tree chain.now) }
     ensures { OnOk result (seen.new.keys ≡ seen_all seen.old.keys (mentions (chain_tree chain.now))) }
 {
@@ -47,7 +47,7 @@ fn see_chain(alloc: Global, chain: &Chain, seen: &mut IndexSet<Name>) -> Result<
 }
 
 #[cycle(refs)]
-fn see_args(alloc: Global, args: &Args, seen: &mut IndexSet<Name>) -> Result<(), NoMemory>
+fn see_args(alloc: Global, args: &Args, seen: &mut IndexSet<Name, Seeded>) -> Result<(), NoMemory>
     requires { AreCallArgs (args_tree args.now) }
     ensures { OnOk result (seen.new.keys ≡ seen_all seen.old.keys (args_mentions (args_tree args.now))) }
 {
@@ -58,7 +58,7 @@ fn see_args(alloc: Global, args: &Args, seen: &mut IndexSet<Name>) -> Result<(),
 }
 
 #[cycle(refs)]
-fn see_arg(alloc: Global, arg: &Arg, seen: &mut IndexSet<Name>) -> Result<(), NoMemory>
+fn see_arg(alloc: Global, arg: &Arg, seen: &mut IndexSet<Name, Seeded>) -> Result<(), NoMemory>
     requires { IsCallArg (arg_tree arg.now) }
     ensures { OnOk result (seen.new.keys ≡ seen_all seen.old.keys (arg_mentions (arg_tree arg.now))) }
 {
@@ -68,7 +68,7 @@ fn see_arg(alloc: Global, arg: &Arg, seen: &mut IndexSet<Name>) -> Result<(), No
     }
 }
 
-fn see_cells(alloc: Global, area: &Area, seen: &mut IndexSet<Name>) -> Result<(), NoMemory>
+fn see_cells(alloc: Global, area: &Area, seen: &mut IndexSet<Name, Seeded>) -> Result<(), NoMemory>
     requires { IsArea area.now }
     ensures { OnOk result (seen.new.keys ≡ seen_all seen.old.keys (cells_of area.now)) }
 {
@@ -79,14 +79,14 @@ fn see_cells(alloc: Global, area: &Area, seen: &mut IndexSet<Name>) -> Result<()
     Ok(())
 }
 
-fn see(alloc: Global, name: &Name, seen: &mut IndexSet<Name>) -> Result<(), NoMemory>
+fn see(alloc: Global, name: &Name, seen: &mut IndexSet<Name, Seeded>) -> Result<(), NoMemory>
     ensures { OnOk result (seen.new.keys ≡ seen_also seen.old.keys name.now) }
 {
     seen.insert(name.copy(alloc)?)?;
     Ok(())
 }
 
-fn listed(alloc: Global, seen: &IndexSet<Name>) -> Result<Names, NoMemory>
+fn listed(alloc: Global, seen: &IndexSet<Name, Seeded>) -> Result<Names, NoMemory>
     ensures { IfOk result (λ ks. ks ≡ seen.now.keys) }
 {
     let mut names = Names::new(alloc);
