@@ -5,7 +5,7 @@ ghost use Rattle.carte_effect.specs.Outcomes.{links_of};
 ghost use Rattle.carte_task.specs.Keeping.{are_few};
 
 use crate::Hashed;
-use carte_value::{Link, Links, Name, NoMemory};
+use carte_value::{Link, Links, Name, NoMemory, Seeded};
 use indexmap::IndexMap;
 use std::alloc::Global;
 use std::marker::Model;
@@ -18,7 +18,7 @@ const FEW: usize = 8;
 #[derive(Drop)]
 pub(crate) struct Known {
     few: Vec<(Name, Hashed)>,
-    more: IndexMap<Name, Hashed>,
+    more: IndexMap<Name, Hashed, Seeded>,
 }
 
 impl Model for Known {
@@ -32,7 +32,7 @@ impl Model for Known {
 }
 
 // Whether the next answer is one of the first few.
-fn are_few(few: &Vec<(Name, Hashed)>, more: &IndexMap<Name, Hashed>) -> bool
+fn are_few(few: &Vec<(Name, Hashed)>, more: &IndexMap<Name, Hashed, Seeded>) -> bool
     ensures { result ≡ are_few (vec_len few.now) (index_map_len more.now) }
 {
     few.len() < FEW && more.len() == 0
@@ -40,12 +40,12 @@ fn are_few(few: &Vec<(Name, Hashed)>, more: &IndexMap<Name, Hashed>) -> bool
 
 impl Known {
     /// No answers. They take no memory.
-    pub(crate) fn new(alloc: Global) -> Known
+    pub(crate) fn new(alloc: Global, hasher: Seeded) -> Known
         ensures { result.entries ≡ [] }
     {
         Known {
             few: Vec::new(alloc),
-            more: IndexMap::new(alloc),
+            more: IndexMap::with_hasher(alloc, hasher),
         }
     }
 
@@ -116,7 +116,7 @@ fn link_few(alloc: Global, few: &Vec<(Name, Hashed)>, links: &mut Links) -> Resu
 
 fn link_more(
     alloc: Global,
-    more: &IndexMap<Name, Hashed>,
+    more: &IndexMap<Name, Hashed, Seeded>,
     links: &mut Links,
 ) -> Result<(), NoMemory>
     ensures { OnOk result (links.new ≡ links.old ++ links_of more.now.entries) }

@@ -27,9 +27,10 @@ impl Machine {
         ensures runs { runs.new ≡ (if is_ok result then with_start runs.old (key_of task) else runs.old) }
     {
         runs.start(alloc, &task.key)?;
+        let progress = Progress::new(alloc, task.hasher);
         Ok(Machine {
             task,
-            progress: Progress::new(alloc),
+            progress,
             ended: false,
         })
     }

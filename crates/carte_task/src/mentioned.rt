@@ -6,22 +6,22 @@ ghost use Rattle.carte_tree.specs.Firsts.{seen_also, seen_all};
 ghost use Rattle.carte_task.specs.Mentions.{mentioned_by, mentions_in};
 
 use crate::code::Instr;
-use carte_value::{Name, Names, NoMemory};
+use carte_value::{Name, Names, NoMemory, Seeded};
 use indexmap::IndexSet;
 use std::alloc::Global;
 
 /// The names in instructions, each once, in the order of their first places.
-pub(crate) fn names_in(alloc: Global, code: &[Instr]) -> Result<Names, NoMemory>
+pub(crate) fn names_in(alloc: Global, code: &[Instr], hasher: Seeded) -> Result<Names, NoMemory>
     ensures { IfOk result (λ ks. ks ≡ firsts (mentions_in code.now)) }
 {
-    let mut seen = IndexSet::new(alloc);
+    let mut seen = IndexSet::with_hasher(alloc, hasher);
     for instr in code {
         see(alloc, instr, &mut seen)?;
     }
     listed(alloc, &seen)
 }
 
-fn see(alloc: Global, instr: &Instr, seen: &mut IndexSet<Name>) -> Result<(), NoMemory>
+fn see(alloc: Global, instr: &Instr, seen: &mut IndexSet<Name, Seeded>) -> Result<(), NoMemory>
     ensures { OnOk result (seen.new.keys ≡ seen_all seen.old.keys (mentioned_by instr.now)) }
 {
     match instr {
@@ -31,7 +31,7 @@ fn see(alloc: Global, instr: &Instr, seen: &mut IndexSet<Name>) -> Result<(), No
     }
 }
 
-fn also(alloc: Global, name: &Name, seen: &mut IndexSet<Name>) -> Result<(), NoMemory>
+fn also(alloc: Global, name: &Name, seen: &mut IndexSet<Name, Seeded>) -> Result<(), NoMemory>
     ensures { OnOk result (seen.new.keys ≡ seen_also seen.old.keys name.now) }
 {
     let name = name.copy(alloc)?;
@@ -41,7 +41,7 @@ fn also(alloc: Global, name: &Name, seen: &mut IndexSet<Name>) -> Result<(), NoM
     }
 }
 
-fn all(alloc: Global, names: &Names, seen: &mut IndexSet<Name>) -> Result<(), NoMemory>
+fn all(alloc: Global, names: &Names, seen: &mut IndexSet<Name, Seeded>) -> Result<(), NoMemory>
     ensures { OnOk result (seen.new.keys ≡ seen_all seen.old.keys names.now) }
 {
     for name in names.as_slice() {
@@ -50,7 +50,7 @@ fn all(alloc: Global, names: &Names, seen: &mut IndexSet<Name>) -> Result<(), No
     Ok(())
 }
 
-fn listed(alloc: Global, seen: &IndexSet<Name>) -> Result<Names, NoMemory>
+fn listed(alloc: Global, seen: &IndexSet<Name, Seeded>) -> Result<Names, NoMemory>
     ensures { IfOk result (λ ks. ks ≡ seen.now.keys) }
 {
     let mut names = Names::new(alloc);

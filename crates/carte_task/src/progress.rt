@@ -9,7 +9,7 @@ ghost use Rattle.carte_task.specs.Answered.{Answered, AnsweredOnto};
 use crate::code::{Instr, Next, Wanted};
 use crate::known::Known;
 use crate::{Effect, Halt, Hashed, execute};
-use carte_value::{Kind, Links, Name, Names, NoMemory, Value, Values};
+use carte_value::{Kind, Links, Name, Names, NoMemory, Seeded, Value, Values};
 use std::alloc::Global;
 
 /// How far a task has come: the place in its code, the stack, the names to be looked up first, and the answers so far in order.
@@ -79,20 +79,25 @@ impl Progress {
     ghost use Rattle.carte_effect.specs.Outcomes.{links_of};
 
     /// At the start of its code.
-    pub(crate) fn new(alloc: Global) -> Progress
+    pub(crate) fn new(alloc: Global, hasher: Seeded) -> Progress
         ensures answers { answers_in result ≡ [] }
         ensures rest { (kind : SomeKind) (code : List Instr) → rest_in kind code result ≡ once [] (exec kind 0 code []) }
     {
-        Progress::knowing(alloc, Known::new(alloc))
+        Progress::knowing(alloc, Known::new(alloc, hasher))
     }
 
     /// At the start of its code, with values for these names.
-    pub(crate) fn filled(alloc: Global, names: &Names, values: Values) -> Result<Progress, NoMemory>
+    pub(crate) fn filled(
+        alloc: Global,
+        names: &Names,
+        values: Values,
+        hasher: Seeded,
+    ) -> Result<Progress, NoMemory>
         requires { NoneTwice names.now }
         ensures answers { IfOk result (λ p. answers_in p ≡ paired names.now values) }
         ensures rest { IfOk result (λ p. (kind : SomeKind) (code : List Instr) → rest_in kind code p ≡ once (answers_in p) (exec kind 0 code [])) }
     {
-        let mut answers = Known::new(alloc);
+        let mut answers = Known::new(alloc, hasher);
         fill(alloc, names, values, &mut answers)?;
         Ok(Progress::knowing(alloc, answers))
     }

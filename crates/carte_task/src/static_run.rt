@@ -75,7 +75,7 @@ impl StaticTask {
         requires { length values ≡ length (static_refs self.now) }
         ensures { IfOk result (IsOver self.now values) }
     {
-        let mut progress = Progress::filled(alloc, &self.refs, values)?;
+        let mut progress = Progress::filled(alloc, &self.refs, values, self.hasher)?;
         match progress.drive(alloc, self.kind, self.code.as_slice(), &mut Nothing {}) {
             Ok(()) => Ok(progress),
             Err(Halt::Stop(_)) => unreachable!(),

@@ -11,7 +11,7 @@ use crate::code::{Instr, copy_of};
 use crate::mentioned::names_in;
 use crate::{StaticTask, compile};
 use carte_tree::{Expr, is_static, static_runs};
-use carte_value::{Kind, Name, NoMemory};
+use carte_value::{Kind, Name, NoMemory, Seeded};
 use std::alloc::Global;
 
 /// How many instructions there is room for at first: most formulas have no more.
@@ -25,6 +25,7 @@ pub struct Task {
     pub(crate) code: Vec<Instr>,
     // Whether the formula is static. The code has lost it: a jump doesn't tell what it passes over.
     pub(crate) fixed: bool,
+    pub(crate) hasher: Seeded,
     ghost only: { fixed ≡ true → AsksOnly (firsts (mentions_in code.items)) (exec kind 0 code.items []) },
 }
 
@@ -32,8 +33,14 @@ impl Task {
     ghost use Rattle.carte_task.specs.Tasks.{IsTaskOf, is_fixed};
     ghost use Rattle.carte_task.specs.Statics.{IsStaticOf, HasParts};
 
-    /// The task of a key's formula in a book of that kind.
-    pub fn of(alloc: Global, kind: Kind, key: &Name, expr: &Expr) -> Result<Task, NoMemory>
+    /// The task of a key's formula in a book of that kind. Its runs keep their answers by the hasher.
+    pub fn of(
+        alloc: Global,
+        kind: Kind,
+        key: &Name,
+        expr: &Expr,
+        hasher: Seeded,
+    ) -> Result<Task, NoMemory>
         requires { IsExpr (tree_of expr.now) }
         ensures { IfOk result (IsTaskOf kind key.now (tree_of expr.now)) }
     {
@@ -46,6 +53,7 @@ impl Task {
             kind,
             code,
             fixed: is_static(expr),
+            hasher,
         })
     }
 
@@ -67,12 +75,13 @@ impl Task {
     {
         let key = self.key.copy(alloc)?;
         let code = copy_of(alloc, self.code.as_slice())?;
-        let refs = names_in(alloc, code.as_slice())?;
+        let refs = names_in(alloc, code.as_slice(), self.hasher)?;
         Ok(StaticTask {
             key,
             kind: self.kind,
             code,
             refs,
+            hasher: self.hasher,
         })
     }
 }
