@@ -28,7 +28,7 @@ impl Kept {
             Start::Anew(rules) => Some(rules),
             Start::Cleared => None,
         };
-        let mut anew = Kept::under(self.seen.allocator(), rules);
+        let mut anew = Kept::under(self.seen.allocator(), rules, self.hasher());
         anew.carry(batch)?;
         *self = anew;
         Ok(())

@@ -2,7 +2,7 @@ ghost use Rattle.std.specs.Prelude.{◌≡◌, IfOk, true};
 ghost use Rattle.carte_record.specs.Empty.{is_empty, brings_no_key, brings_no_trace};
 
 use crate::{Entries, Seen, Start, Store, Traces};
-use carte_value::{Names, NoMemory};
+use carte_value::{Names, NoMemory, Seeded};
 use std::alloc::Global;
 
 /// What a build changes of what is kept. Where it names a key twice, the later one counts.
@@ -22,18 +22,18 @@ pub struct Batch {
 
 impl Batch {
     /// A batch that goes on and changes nothing. It takes no memory.
-    pub fn new(alloc: Global) -> Batch
+    pub fn new(alloc: Global, hasher: Seeded) -> Batch
         ensures { is_empty result ≡ true }
     {
         Batch {
             start: Start::GoOn,
-            values: Store::new(alloc),
-            seen: Seen::new(alloc),
+            values: Store::new(alloc, hasher),
+            seen: Seen::new(alloc, hasher),
             stale: Names::new(alloc),
-            entries: Entries::new(alloc),
-            verifying: Traces::new(alloc),
-            constructive: Traces::new(alloc),
-            deep: Traces::new(alloc),
+            entries: Entries::new(alloc, hasher),
+            verifying: Traces::new(alloc, hasher),
+            constructive: Traces::new(alloc, hasher),
+            deep: Traces::new(alloc, hasher),
             chain: None,
         }
     }

@@ -3,6 +3,7 @@
 mod batch;
 mod entry;
 mod lists;
+mod plain;
 mod start;
 mod trace;
 

@@ -11,7 +11,7 @@ ghost use Rattle.carte_record.specs.declared.entry.Entry.{Entry as SomeEntry};
 
 use crate::Entry;
 use crate::table::{Table, each_once, first, forget, place, push, set};
-use carte_value::{Name, Names, NoMemory, Same};
+use carte_value::{Name, Names, NoMemory, Same, Seeded};
 use std::alloc::Global;
 use std::marker::Model;
 
@@ -40,13 +40,13 @@ impl Model for Entries {
 
 impl Entries {
     /// The empty list, whose entries will come from `alloc`. It takes no memory.
-    pub fn new(alloc: Global) -> Entries
+    pub fn new(alloc: Global, hasher: Seeded) -> Entries
         ensures { result ≡ [] }
     {
         Entries {
             alloc,
             entries: Vec::new(alloc),
-            places: Table::new(alloc),
+            places: Table::with_hasher(alloc, hasher),
         }
     }
 
@@ -206,7 +206,7 @@ impl Entries {
     pub fn copy(&self, alloc: Global) -> Result<Entries, NoMemory>
         ensures { IfOk result (λ copy. copy ≡ self.now) }
     {
-        let mut entries = Entries::new(alloc);
+        let mut entries = Entries::new(alloc, *self.places.hasher());
         for entry in self.entries.iter() {
             entries.push(entry.same(alloc)?)?;
         }

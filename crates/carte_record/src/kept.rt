@@ -5,7 +5,7 @@ ghost use Rattle.carte_record.specs.Marked.{CanBeMarked, lists_marked};
 ghost use Rattle.carte_record.specs.declared.kept.Kept.{Kept as SomeLists};
 
 use crate::{Entries, Seen, Store, Traces, Way};
-use carte_value::{Digest, Names, NoMemory};
+use carte_value::{Digest, Names, NoMemory, Seeded};
 use std::alloc::Global;
 
 /// What is kept from one build to the next.
@@ -24,26 +24,31 @@ pub struct Kept {
 
 impl Kept {
     /// Nothing kept. What is put in later will come from `alloc`; this takes no memory.
-    pub fn empty(alloc: Global) -> Kept
+    pub fn empty(alloc: Global, hasher: Seeded) -> Kept
         ensures { kept_view result ≡ nothing_kept }
     {
-        Kept::under(alloc, None)
+        Kept::under(alloc, None, hasher)
     }
 
     /// Nothing kept, under these rules.
-    pub(crate) fn under(alloc: Global, rules: Option<Digest>) -> Kept
+    pub(crate) fn under(alloc: Global, rules: Option<Digest>, hasher: Seeded) -> Kept
         ensures { kept_view result ≡ record nothing_kept { rules = rules } }
     {
         Kept {
             rules,
-            seen: Seen::new(alloc),
-            entries: Entries::new(alloc),
-            verifying: Traces::new(alloc),
-            constructive: Traces::new(alloc),
-            deep: Traces::new(alloc),
+            seen: Seen::new(alloc, hasher),
+            entries: Entries::new(alloc, hasher),
+            verifying: Traces::new(alloc, hasher),
+            constructive: Traces::new(alloc, hasher),
+            deep: Traces::new(alloc, hasher),
             chain: Names::new(alloc),
-            values: Store::new(alloc),
+            values: Store::new(alloc, hasher),
         }
+    }
+
+    /// What its tables are made with, and those of a batch for it can be.
+    pub fn hasher(&self) -> Seeded {
+        self.seen.hasher()
     }
 
     /// The traces of one kind.

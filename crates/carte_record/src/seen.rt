@@ -4,7 +4,7 @@ ghost use Rattle.carte_record.specs.Changes.{change_first, front};
 ghost use Rattle.carte_record.specs.Steps.{Begins, Replaces, HasRoomFor, HasRoom, CanBecome, IsReady, TakesIn};
 
 use crate::table::{Table, each_once, first, forget, place, push, set};
-use carte_value::{Digest, Link, Name, NoMemory, Same};
+use carte_value::{Digest, Link, Name, NoMemory, Same, Seeded};
 use std::alloc::Global;
 use std::marker::Model;
 
@@ -34,19 +34,24 @@ impl Model for Seen {
 
 impl Seen {
     /// The empty list, whose links will come from `alloc`. It takes no memory.
-    pub fn new(alloc: Global) -> Seen
+    pub fn new(alloc: Global, hasher: Seeded) -> Seen
         ensures { result ≡ [] }
     {
         Seen {
             alloc,
             links: Vec::new(alloc),
-            places: Table::new(alloc),
+            places: Table::with_hasher(alloc, hasher),
         }
     }
 
     /// Where its memory comes from.
     pub(crate) fn allocator(&self) -> Global {
         self.alloc
+    }
+
+    /// What its table is made with.
+    pub(crate) fn hasher(&self) -> Seeded {
+        *self.places.hasher()
     }
 
     /// How many links there are.
@@ -177,7 +182,7 @@ impl Seen {
     pub fn copy(&self, alloc: Global) -> Result<Seen, NoMemory>
         ensures { IfOk result (λ copy. copy ≡ self.now) }
     {
-        let mut seen = Seen::new(alloc);
+        let mut seen = Seen::new(alloc, self.hasher());
         for link in self.links.iter() {
             seen.push(link.same(alloc)?)?;
         }

@@ -7,7 +7,7 @@ ghost use Rattle.std.specs.Option.{option_or};
 ghost use Rattle.carte_record.specs.Steps.{Begins};
 
 use crate::table::{Table, first, forget, push};
-use carte_value::{Digest, NoMemory, Value};
+use carte_value::{Digest, NoMemory, Seeded, Value};
 use std::alloc::Global;
 use std::marker::Model;
 
@@ -38,13 +38,13 @@ impl Model for Store {
 
 impl Store {
     /// The empty list, whose values will come from `alloc`. It takes no memory.
-    pub fn new(alloc: Global) -> Store
+    pub fn new(alloc: Global, hasher: Seeded) -> Store
         ensures { result ≡ [] }
     {
         Store {
             values: Vec::new(alloc),
             digests: Vec::new(alloc),
-            places: Table::new(alloc),
+            places: Table::with_hasher(alloc, hasher),
         }
     }
 
@@ -144,7 +144,7 @@ impl Store {
     pub fn copy(&self, alloc: Global) -> Result<Store, NoMemory>
         ensures { IfOk result (λ copy. copy ≡ self.now) }
     {
-        let mut store = Store::new(alloc);
+        let mut store = Store::new(alloc, *self.places.hasher());
         for at in 0..self.values.len() {
             store.push_with(self.values[at].copy(alloc)?, self.digests[at])?;
         }

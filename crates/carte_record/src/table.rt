@@ -5,12 +5,13 @@ ghost use Rattle.std.specs.List.{IsDistinct};
 ghost use Rattle.carte_record.specs.Places.{first_place, IsFirstPlaces, AddsPlace, ForgetsPlace};
 ghost use Rattle.carte_record.specs.Changes.{change_first};
 
-use carte_value::NoMemory;
+use carte_value::{NoMemory, Seeded};
 use std::collections::HashMap;
 use std::hash::Hash;
 
-/// The one name of these tables, so that their hasher can be changed here.
-pub(crate) type Table<K, V> = HashMap<K, V>;
+/// The one name of these tables, so that their hasher can be changed here. It begins with a seed, since names can be chosen
+/// that collide in one that is fixed.
+pub(crate) type Table<K, V> = HashMap<K, V, Seeded>;
 
 /// The most items that a list has.
 pub(crate) const MOST: usize = 4294967295;

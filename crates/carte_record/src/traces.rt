@@ -11,7 +11,7 @@ ghost use Rattle.carte_record.specs.KeyPlaces.{places_in};
 use crate::Trace;
 use crate::places::Places;
 use crate::table::{MOST, Table};
-use carte_value::{Name, NoMemory, Same};
+use carte_value::{Name, NoMemory, Same, Seeded};
 use std::alloc::Global;
 use std::marker::Model;
 
@@ -41,13 +41,13 @@ impl Model for Traces {
 
 impl Traces {
     /// The empty list, whose traces will come from `alloc`. It takes no memory.
-    pub fn new(alloc: Global) -> Traces
+    pub fn new(alloc: Global, hasher: Seeded) -> Traces
         ensures { result ≡ [] }
     {
         Traces {
             alloc,
             traces: Vec::new(alloc),
-            places: Table::new(alloc),
+            places: Table::with_hasher(alloc, hasher),
         }
     }
 
@@ -125,7 +125,7 @@ impl Traces {
     pub fn copy(&self, alloc: Global) -> Result<Traces, NoMemory>
         ensures { IfOk result (λ copy. copy ≡ self.now) }
     {
-        let mut traces = Traces::new(alloc);
+        let mut traces = Traces::new(alloc, *self.places.hasher());
         for trace in self.traces.iter() {
             traces.push(trace.same(alloc)?)?;
         }

@@ -1,11 +1,13 @@
 ghost use Rattle.std.specs.Prelude.{◌≡◌, ◌++◌, IfOk, OnOk};
 ghost use Rattle.carte_codec.specs.Each.{EachFits};
+ghost use Rattle.carte_codec.specs.Spellings.{IsRead};
 ghost use Rattle.carte_record.specs.Bodies.{spelled_kind, spelled_front, FitsFront, spelled_back, FitsBack, spelled_batch, FitsBatch, IsUnmarked, IsBody, IsDecoded, IsWhole, OneBody};
-ghost use Rattle.carte_record.specs.BodyLaws.{kind_one, batch_of, batch_one};
+ghost use Rattle.carte_record.specs.BodyLaws.{kind_one, batch_of};
 
-use crate::{Batch, Entries, Seen, Start, Store, Traces};
+use crate::codec::plain::Plain;
+use crate::{Batch, Entries, Entry, Seen, Start, Store, Trace, Traces};
 use carte_codec::{Spelled, Unread};
-use carte_value::{Names, NoMemory};
+use carte_value::{Link, Names, NoMemory, Seeded, Value};
 use std::alloc::Global;
 
 /// The kind of a body that is a batch of version 1 of the state file, spelled as 1.
@@ -34,35 +36,11 @@ impl Spelled for Kind {
     ghost one_spelling = { kind_one };
 }
 
-type Front = (Start, (Store, (Seen, (Names, Entries))));
+type Front = (Start, (Plain<Value>, (Plain<Link>, (Names, Plain<Entry>))));
 
-type Back = (Traces, (Traces, (Traces, Option<Names>)));
+type Back = (Plain<Trace>, (Plain<Trace>, (Plain<Trace>, Option<Names>)));
 
 type Parts = (Kind, (Front, Back));
-
-/// The kind, and the nine parts in their order.
-impl Spelled for Batch {
-    ghost spelling = { spelled_batch };
-
-    ghost fits = { FitsBatch };
-
-    ghost may = { λ b. EachFits IsUnmarked b.entries };
-
-    fn write(&self, out: &mut Vec<u8>) -> Result<(), NoMemory> {
-        Kind.write(out)?;
-        write_front(self, out)?;
-        write_back(self, out)
-    }
-
-    fn read(alloc: Global, bytes: &[u8]) -> Result<(Batch, &[u8]), Unread> {
-        match Parts::read(alloc, bytes) {
-            Ok((parts, rest)) => Ok((of_parts(parts), rest)),
-            Err(unread) => Err(unread),
-        }
-    }
-
-    ghost one_spelling = { batch_one };
-}
 
 fn write_front(batch: &Batch, out: &mut Vec<u8>) -> Result<(), NoMemory>
     ensures bytes { OnOk result (out.new.items ≡ out.old.items ++ spelled_front batch.now) }
@@ -85,26 +63,49 @@ fn write_back(batch: &Batch, out: &mut Vec<u8>) -> Result<(), NoMemory>
     batch.chain.write(out)
 }
 
-fn of_parts(parts: Parts) -> Batch
-    ensures { result ≡ batch_of parts }
+/// What was read, with its tables.
+fn of_parts(alloc: Global, parts: Parts, hasher: Seeded) -> Result<Batch, NoMemory>
+    ensures { IfOk result (λ batch. batch ≡ batch_of parts) }
 {
     let (_, (front, back)) = parts;
     let (start, (values, (seen, (stale, entries)))) = front;
     let (verifying, (constructive, (deep, chain))) = back;
-    Batch {
+    Ok(Batch {
         start,
-        values,
-        seen,
+        values: Store::of(alloc, values, hasher)?,
+        seen: Seen::of(alloc, seen, hasher)?,
         stale,
-        entries,
-        verifying,
-        constructive,
-        deep,
+        entries: Entries::of(alloc, entries, hasher)?,
+        verifying: Traces::of(alloc, verifying, hasher)?,
+        constructive: Traces::of(alloc, constructive, hasher)?,
+        deep: Traces::of(alloc, deep, hasher)?,
         chain,
-    }
+    })
 }
 
+/// The kind, and the nine parts in their order.
 impl Batch {
+    fn write(&self, out: &mut Vec<u8>) -> Result<(), NoMemory>
+        ensures bytes { OnOk result (out.new.items ≡ out.old.items ++ spelled_batch self.now) }
+        ensures fits { OnOk result (EachFits IsUnmarked self.now.entries → FitsBatch self.now) }
+    {
+        Kind.write(out)?;
+        write_front(self, out)?;
+        write_back(self, out)
+    }
+
+    fn read(alloc: Global, bytes: &[u8], hasher: Seeded) -> Result<(Batch, &[u8]), Unread>
+        ensures { IsRead spelled_batch FitsBatch (λ x. (x.0, x.1.now)) bytes.now result }
+    {
+        match Parts::read(alloc, bytes) {
+            Ok((parts, rest)) => {
+                let batch = of_parts(alloc, parts, hasher)?;
+                Ok((batch, rest))
+            }
+            Err(unread) => Err(unread),
+        }
+    }
+
     /// The bytes of the batch, as the state file keeps it.
     pub fn encode(&self, alloc: Global) -> Result<Vec<u8>, NoMemory>
         requires { EachFits IsUnmarked self.now.entries }
@@ -116,10 +117,14 @@ impl Batch {
     }
 
     /// The batch whose bytes these are, and none where they are no batch's.
-    pub fn decode(alloc: Global, bytes: &[u8]) -> Result<Option<Batch>, NoMemory>
+    pub fn decode(
+        alloc: Global,
+        bytes: &[u8],
+        hasher: Seeded,
+    ) -> Result<Option<Batch>, NoMemory>
         ensures { IsDecoded bytes.now result }
     {
-        match Batch::read(alloc, bytes) {
+        match Batch::read(alloc, bytes, hasher) {
             Ok((batch, rest)) => Ok(whole(batch, rest)),
             Err(Unread::NotThere) => Ok(None),
             Err(Unread::NoMemory) => Err(NoMemory),
