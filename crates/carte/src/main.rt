@@ -21,10 +21,11 @@ ghost use Rattle.carte.specs.Ends.{Ends, OverFiles, OverBook, OverBoth};
 
 use carte_io::{Absent, Disk, FileDisk, ReadSource, Source, WriteSink};
 use carte_top::{Status, Word, carte, out_of_memory};
-use carte_value::NoMemory;
+use carte_value::{NoMemory, Seeded};
 use files::Files;
 use std::env;
 use std::fs::File;
+use std::hash::{BuildHasher, RandomState};
 use std::io::ErrorKind;
 use std::process::ExitCode;
 
@@ -73,6 +74,15 @@ fn run(rt: &HostRuntime, words: &[Word]) -> Status
     }
 }
 
+// What the hashes of this run begin with, so that no names can be chosen beforehand that collide. Where the system gives
+// nothing random they begin as always: the answers are the same.
+fn seed(rt: &HostRuntime) -> u64 {
+    match RandomState::new(rt) {
+        Ok(state) => state.hash_one(0u64),
+        Err(_) => 0,
+    }
+}
+
 fn over_files(rt: &HostRuntime, words: &[Word], files: Files) -> Status
     ensures { OverFiles words.now result }
 {
@@ -115,5 +125,6 @@ fn over_both<B: Source, D: Disk>(
         state,
         &mut out,
         &mut err,
+        Seeded::of(seed(rt)),
     )
 }

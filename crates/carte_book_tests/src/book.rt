@@ -8,7 +8,7 @@ use crate::rows::{Told, rows_hold};
 use crate::texts::{hex, item_text};
 use carte_book::Book;
 use carte_formula::read;
-use carte_value::{Kind, Name, Value};
+use carte_value::{Kind, Name, Seeded, Value};
 use std::alloc::Global;
 use std::test::Fail;
 
@@ -62,7 +62,7 @@ fn add(alloc: Global, book: &mut Book, item: &str) -> Result<(), Fail> {
 }
 
 fn book_of(alloc: Global, kind: Kind, items: &str) -> Result<Book, Fail> {
-    let mut book = Book::new(alloc, kind);
+    let mut book = Book::new(alloc, kind, Seeded::of(7));
     for item in items.split(';') {
         add(alloc, &mut book, item)?;
     }

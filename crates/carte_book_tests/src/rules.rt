@@ -3,7 +3,7 @@
 use crate::texts::{fault_key, fault_word, item_text};
 use carte_book::Book;
 use carte_rules::read_rules;
-use carte_value::Name;
+use carte_value::{Name, Seeded};
 use std::alloc::Global;
 use std::test::Fail;
 
@@ -114,7 +114,7 @@ const LINES: [(&str, &str); 25] = [
 
 // Whether this is told of the bytes.
 fn tells(alloc: Global, bytes: &[u8], word: &str, number: u64, key: &str) -> bool {
-    match read_rules(alloc, bytes) {
+    match read_rules(alloc, bytes, Seeded::of(7)) {
         Ok(book) => word == "book" && number == book.keys(),
         Err(fault) => (word, number) == fault_word(&fault) && key == fault_key(&fault),
     }
@@ -150,7 +150,7 @@ fn items(alloc: Global, book: &Book) -> Result<String, Fail> {
 
 // What stands at the names, or the fault.
 fn told(alloc: Global, text: &str) -> Result<String, Fail> {
-    match read_rules(alloc, text.as_bytes()) {
+    match read_rules(alloc, text.as_bytes(), Seeded::of(7)) {
         Ok(book) => items(alloc, &book),
         Err(fault) => Ok(format!(in alloc; "{} {}", fault_word(&fault).0, fault_key(&fault))?),
     }

@@ -6,7 +6,7 @@ use crate::sheet::rows::ROWS;
 use crate::texts::{fault_key, fault_word, item_text};
 use carte_book::{Book, BookFault, Looked};
 use carte_sheet::read_sheet;
-use carte_value::Name;
+use carte_value::{Name, Seeded};
 use std::alloc::Global;
 use std::test::Fail;
 
@@ -70,7 +70,7 @@ fn has_all(alloc: Global, book: &Book, parts: &str) -> Result<bool, Fail> {
 
 fn means(alloc: Global, sheet: &str, meaning: &str) -> Result<bool, Fail> {
     let bytes = bytes_of(alloc, sheet)?;
-    match read_sheet(alloc, bytes.as_slice()) {
+    match read_sheet(alloc, bytes.as_slice(), Seeded::of(7)) {
         Ok(book) => has_all(alloc, &book, meaning),
         Err(fault) => Ok(fault_line(alloc, &fault)?.as_str() == meaning),
     }

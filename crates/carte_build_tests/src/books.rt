@@ -6,7 +6,7 @@ ghost use Rattle.carte_book.specs.Book.{book_view};
 
 use carte_book::{Book, Reason};
 use carte_formula::read;
-use carte_value::{Kind, Name, Names, Value};
+use carte_value::{Kind, Name, Names, Seeded, Value};
 use std::alloc::Global;
 use std::test::Fail;
 
@@ -36,7 +36,7 @@ fn add_input(alloc: Global, book: &mut Book, at: &str, value: i64) -> Result<(),
 
 /// A rule file whose inputs, parted by blanks, have this value each, with rules written as `name: formula`.
 pub(crate) fn book_of(alloc: Global, inputs: &str, value: i64, rules: &str) -> Result<Book, Fail> {
-    let mut book = Book::new(alloc, Kind::Rules);
+    let mut book = Book::new(alloc, Kind::Rules, Seeded::of(7));
     for at in inputs.split_whitespace() {
         add_input(alloc, &mut book, at, value)?;
     }

@@ -10,7 +10,7 @@ use carte_dirty::Dirty;
 use carte_engine::{Built, Engine, Scheduler, history_is_right, plan_is_sound, plan_keeps};
 use carte_io::MemDisk;
 use carte_rebuild::Rebuilder;
-use carte_value::Names;
+use carte_value::{Names, Seeded};
 use carte_verify::Verify;
 use std::alloc::Global;
 use std::test::Fail;
@@ -27,7 +27,7 @@ fn built_of<R: Rebuilder>(
     scheduler: Scheduler,
     targets: &Names,
 ) -> Result<Built, Fail> {
-    let mut engine = Engine::load(alloc, disk, 65536)?;
+    let mut engine = Engine::load(alloc, disk, 65536, Seeded::of(7))?;
     Ok(engine.build(alloc, disk, book, rebuilder, scheduler, targets)?)
 }
 
@@ -61,7 +61,7 @@ fn foreseen_of<R: Rebuilder>(
     rebuilder: &R,
     targets: &Names,
 ) -> Result<usize, Fail> {
-    let mut engine = Engine::load(alloc, disk, 65536)?;
+    let mut engine = Engine::load(alloc, disk, 65536, Seeded::of(7))?;
     Ok(
         engine
             .preview(alloc, book, rebuilder, targets)?
@@ -77,7 +77,7 @@ fn foreseen<R: Rebuilder>(alloc: Global, disk: &mut MemDisk, rebuilder: &R) -> R
 }
 
 fn clean(alloc: Global, disk: &mut MemDisk) -> Result<(), Fail> {
-    let mut engine = Engine::load(alloc, disk, 65536)?;
+    let mut engine = Engine::load(alloc, disk, 65536, Seeded::of(7))?;
     engine.clean(alloc, disk)?;
     Ok(())
 }

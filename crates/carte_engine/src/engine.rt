@@ -23,7 +23,7 @@ use carte_mark::begin;
 use carte_rebuild::Rebuilder;
 use carte_record::{Batch, Kept};
 use carte_state::{ApplyFault, LoadFault, State};
-use carte_value::{Digest, Names, NoMemory, Value};
+use carte_value::{Digest, Names, NoMemory, Seeded, Value};
 use std::alloc::Global;
 use std::marker::Model;
 
@@ -44,7 +44,12 @@ impl Model for Engine {
 
 impl Engine {
     /// Reads what the file keeps, as `State::load` does.
-    pub fn load<D: Disk>(alloc: Global, disk: &mut D, limit: u64) -> Result<Engine, LoadFault>
+    pub fn load<D: Disk>(
+        alloc: Global,
+        disk: &mut D,
+        limit: u64,
+        hasher: Seeded,
+    ) -> Result<Engine, LoadFault>
         requires { limit < 2 ^ 32 }
         ensures read { D.tells → IfOk result (λ s. IsLoaded s (D.story disk.old).now.reads) }
         ensures starts { IfOk result (λ s. (s.journal.limit ≡ limit) × (s.journal.broken ≡ false)) }
@@ -53,7 +58,7 @@ impl Engine {
         ensures cause { HasCauseOf LoadFault.DiskFault (D.faults disk.old) (D.faults disk.new) result }
         ensures same { D.tells → D.story disk.new ≡ D.story disk.old }
     {
-        let state = State::load(alloc, disk, limit)?;
+        let state = State::load(alloc, disk, limit, hasher)?;
         Ok(Engine { state })
     }
 
@@ -108,7 +113,7 @@ impl Engine {
     {
         let begun = begin(alloc, self.state.kept(), book, rules)?;
         if !begun.same {
-            let nothing = Kept::empty(alloc);
+            let nothing = Kept::empty(alloc, book.hasher());
             return plan_over(
                 alloc, rebuilder, &begun, &nothing, *rules, book, scheduler, targets,
             );

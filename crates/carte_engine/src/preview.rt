@@ -74,7 +74,7 @@ impl Engine {
     {
         let begun = begin(alloc, self.state.kept(), book, rules)?;
         if !begun.same {
-            let nothing = Kept::empty(alloc);
+            let nothing = Kept::empty(alloc, book.hasher());
             return carte_suspend::build(alloc, rebuilder, &nothing, book, targets);
         }
         self.state.mark(&begun.marks);

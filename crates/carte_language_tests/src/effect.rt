@@ -7,7 +7,7 @@ use carte_effect::{
     Answers, Digests, Each, Effect, Ended, FetchList, Hashed, Made, RefsOnly, Snapshot, Stuck,
     Tracked,
 };
-use carte_value::{Links, Name, Names, NoMemory};
+use carte_value::{Links, Name, Names, NoMemory, Seeded};
 use std::alloc::Global;
 use std::test::Fail;
 
@@ -88,7 +88,7 @@ fn first_byte(
 
 // The first bytes of SHA-256 of the values' spellings: of 7 this is 86, and of 4 it is 111.
 fn hashed(alloc: Global, shown: &Shown, names: &Names) -> Result<String, NoMemory> {
-    let mut digests = Digests::new(alloc);
+    let mut digests = Digests::new(alloc, Seeded::of(7));
     let mut text = String::from_str(alloc, "digests")?;
     for name in names.as_slice() {
         let value = match Snapshot::with(shown, &mut digests).fetch(alloc, name) {

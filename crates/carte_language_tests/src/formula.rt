@@ -3,7 +3,7 @@
 use crate::rows::{Told, rows_hold};
 use crate::texts::named;
 use carte_formula::{is_static, print, read, refs};
-use carte_value::{Kind, NoMemory};
+use carte_value::{Kind, NoMemory, Seeded};
 use std::alloc::Global;
 use std::test::Fail;
 
@@ -387,7 +387,7 @@ impl Told for Mentions {
         } else {
             "changing"
         };
-        named(alloc, word, refs(alloc, &expr)?.as_slice())
+        named(alloc, word, refs(alloc, &expr, Seeded::of(7))?.as_slice())
     }
 }
 

@@ -8,7 +8,7 @@ ghost use Rattle.carte_state.specs.Runs.{AreUnmarked};
 use carte_io::{Disk, MemDisk};
 use carte_record::{Batch, Entries, Seen, Start, Store, Traces};
 use carte_state::{State, apply_all};
-use carte_value::{Names, NoMemory, Value};
+use carte_value::{Names, NoMemory, Seeded, Value};
 use std::alloc::Global;
 use std::test::Fail;
 
@@ -33,7 +33,7 @@ fn number_batch(alloc: Global, start: Start, number: i64) -> Result<Batch, NoMem
 
 // How many values a disk keeps, and 99 where its state is bad.
 fn count_on<D: Disk>(alloc: Global, disk: &mut D) -> usize {
-    match State::load(alloc, disk, 1 << 20) {
+    match State::load(alloc, disk, 1 << 20, Seeded::of(7)) {
         Ok(state) => state.kept().values.len(),
         Err(_) => 99,
     }
@@ -41,7 +41,7 @@ fn count_on<D: Disk>(alloc: Global, disk: &mut D) -> usize {
 
 // Whether a disk keeps a number.
 fn has_on(alloc: Global, disk: &mut MemDisk, number: i64) -> bool {
-    match State::load(alloc, disk, 1 << 20) {
+    match State::load(alloc, disk, 1 << 20, Seeded::of(7)) {
         Ok(state) => state.value_of(&Value::Number(number).digest()).is_some(),
         Err(_) => false,
     }
@@ -49,7 +49,7 @@ fn has_on(alloc: Global, disk: &mut MemDisk, number: i64) -> bool {
 
 // Applies 1 under rules, and then 2. Whether both were taken.
 fn apply_two<D: Disk>(alloc: Global, disk: &mut D) -> Result<bool, NoMemory> {
-    let Ok(mut state) = State::load(alloc, disk, 1 << 20) else {
+    let Ok(mut state) = State::load(alloc, disk, 1 << 20, Seeded::of(7)) else {
         return Ok(false);
     };
     let batches = two_batches(alloc)?;

@@ -8,7 +8,7 @@ use carte_io::{ReadEnd, Source, read_whole};
 use carte_report::Status;
 use carte_rules::read_rules;
 use carte_sheet::read_sheet;
-use carte_value::Kind;
+use carte_value::{Kind, Seeded};
 use std::alloc::Global;
 
 const MOST_BYTES: usize = 16777216;
@@ -18,11 +18,12 @@ pub(crate) fn load_book<B: Source>(
     alloc: Global,
     kind: Kind,
     source: &mut B,
+    hasher: Seeded,
 ) -> Result<Book, Status>
     ensures { LoadsBook kind (over_source B.tells B.state source.old source.new) result }
 {
     match read_whole(alloc, source, MOST_BYTES) {
-        Ok(bytes) => parse(alloc, kind, bytes.as_slice()),
+        Ok(bytes) => parse(alloc, kind, bytes.as_slice(), hasher),
         Err(end) => Err(unread(end)),
     }
 }
@@ -37,21 +38,21 @@ fn unread(end: ReadEnd) -> Status
     }
 }
 
-fn parse(alloc: Global, kind: Kind, bytes: &[u8]) -> Result<Book, Status>
+fn parse(alloc: Global, kind: Kind, bytes: &[u8], hasher: Seeded) -> Result<Book, Status>
     ensures { Parses kind bytes.now result }
 {
-    match read_as(alloc, kind, bytes) {
+    match read_as(alloc, kind, bytes, hasher) {
         Ok(book) => Ok(book),
         Err(fault) => Err(unparsed(fault)),
     }
 }
 
-fn read_as(alloc: Global, kind: Kind, bytes: &[u8]) -> Result<Book, BookFault>
+fn read_as(alloc: Global, kind: Kind, bytes: &[u8], hasher: Seeded) -> Result<Book, BookFault>
     ensures { IsReadAs kind bytes.now result }
 {
     match kind {
-        Kind::Rules => read_rules(alloc, bytes),
-        Kind::Sheet => read_sheet(alloc, bytes),
+        Kind::Rules => read_rules(alloc, bytes, hasher),
+        Kind::Sheet => read_sheet(alloc, bytes, hasher),
     }
 }
 

@@ -18,6 +18,7 @@ use carte_io::{Disk, Sink, Source};
 use carte_record::Batch;
 use carte_report::{Status, reply};
 use carte_shell::plan;
+use carte_value::Seeded;
 use carte_words::Words;
 use std::alloc::Global;
 use std::mem::forget;
@@ -29,6 +30,7 @@ pub(crate) fn build<B: Source, D: Disk, O: Sink>(
     source: &mut B,
     state: &mut D,
     out: &mut O,
+    hasher: Seeded,
 ) -> Status
     ensures { Builds 268435456 asked.now
         (over_source B.tells B.state source.old source.new)
@@ -36,7 +38,7 @@ pub(crate) fn build<B: Source, D: Disk, O: Sink>(
         (over_sink O.tells O.state out.old out.new)
         result }
 {
-    match load_book(alloc, asked.kind, source) {
+    match load_book(alloc, asked.kind, source, hasher) {
         Ok(book) => build_over(alloc, asked, book, state, out),
         Err(status) => status,
     }
@@ -54,7 +56,7 @@ fn build_over<D: Disk, O: Sink>(
         (over_sink O.tells O.state out.old out.new)
         result }
 {
-    match load_state(alloc, state) {
+    match load_state(alloc, state, book.hasher()) {
         Ok(mut engine) => {
             let status = build_with(alloc, asked, book, &mut engine, state, out);
             // The process ends behind this: giving back what is kept, name by name, would only take time.

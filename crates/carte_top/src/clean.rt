@@ -9,16 +9,22 @@ use crate::say::print;
 use carte_engine::Engine;
 use carte_io::{Disk, Sink};
 use carte_report::Status;
+use carte_value::Seeded;
 use std::alloc::Global;
 
 /// Clears the state, and says so.
-pub(crate) fn clean<D: Disk, O: Sink>(alloc: Global, state: &mut D, out: &mut O) -> Status
+pub(crate) fn clean<D: Disk, O: Sink>(
+    alloc: Global,
+    state: &mut D,
+    out: &mut O,
+    hasher: Seeded,
+) -> Status
     ensures { Cleans 268435456
         (over_disk D.tells D.story D.faults state.old state.new)
         (over_sink O.tells O.state out.old out.new)
         result }
 {
-    match load_state(alloc, state) {
+    match load_state(alloc, state, hasher) {
         Ok(mut engine) => clean_with(alloc, &mut engine, state, out),
         Err(status) => status,
     }

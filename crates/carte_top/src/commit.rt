@@ -10,15 +10,20 @@ use carte_engine::{ApplyFault, Engine, LoadFault};
 use carte_io::Disk;
 use carte_record::Batch;
 use carte_report::Status;
+use carte_value::Seeded;
 use std::alloc::Global;
 
 const MOST_STATE: u64 = 268435456;
 
 /// What the state keeps, or the status of a run that ends there. Nothing is written.
-pub(crate) fn load_state<D: Disk>(alloc: Global, state: &mut D) -> Result<Engine, Status>
+pub(crate) fn load_state<D: Disk>(
+    alloc: Global,
+    state: &mut D,
+    hasher: Seeded,
+) -> Result<Engine, Status>
     ensures { LoadsState 268435456 (over_disk D.tells D.story D.faults state.old state.new) result }
 {
-    match Engine::load(alloc, state, MOST_STATE) {
+    match Engine::load(alloc, state, MOST_STATE, hasher) {
         Ok(engine) => Ok(engine),
         Err(fault) => Err(unloaded(fault)),
     }

@@ -13,6 +13,7 @@ use carte_engine::Engine;
 use carte_io::{Disk, Sink, Source};
 use carte_rebuild::PlanFault;
 use carte_report::Status;
+use carte_value::Seeded;
 use carte_words::Words;
 use std::alloc::Global;
 
@@ -23,6 +24,7 @@ pub(crate) fn explain<B: Source, D: Disk, O: Sink>(
     source: &mut B,
     state: &mut D,
     out: &mut O,
+    hasher: Seeded,
 ) -> Status
     ensures { Tells 268435456 asked.now
         (over_source B.tells B.state source.old source.new)
@@ -30,7 +32,7 @@ pub(crate) fn explain<B: Source, D: Disk, O: Sink>(
         (over_sink O.tells O.state out.old out.new)
         result }
 {
-    match load_book(alloc, asked.kind, source) {
+    match load_book(alloc, asked.kind, source, hasher) {
         Ok(book) => explain_over(alloc, asked, &book, state, out),
         Err(status) => status,
     }
@@ -48,7 +50,7 @@ fn explain_over<D: Disk, O: Sink>(
         (over_sink O.tells O.state out.old out.new)
         result }
 {
-    match load_state(alloc, state) {
+    match load_state(alloc, state, book.hasher()) {
         Ok(mut engine) => explain_with(alloc, asked, book, &mut engine, out),
         Err(status) => status,
     }

@@ -14,6 +14,7 @@ use carte_io::{Disk, Sink, Source};
 use carte_report::Status;
 use carte_session::{SessionEnd, StepEnd, run_session};
 use carte_shell::Shell;
+use carte_value::Seeded;
 use carte_words::Words;
 use std::alloc::Global;
 
@@ -27,6 +28,7 @@ pub(crate) fn session<B: Source, S: Source, D: Disk, O: Sink>(
     script: &mut S,
     state: &mut D,
     out: &mut O,
+    hasher: Seeded,
 ) -> Status
     ensures { Sits 268435456 asked.now
         (over_source B.tells B.state source.old source.new)
@@ -35,7 +37,7 @@ pub(crate) fn session<B: Source, S: Source, D: Disk, O: Sink>(
         (over_sink O.tells O.state out.old out.new)
         result }
 {
-    match load_book(alloc, asked.kind, source) {
+    match load_book(alloc, asked.kind, source, hasher) {
         Ok(book) => session_over(alloc, asked, book, script, state, out),
         Err(status) => status,
     }
@@ -55,7 +57,7 @@ fn session_over<S: Source, D: Disk, O: Sink>(
         (over_sink O.tells O.state out.old out.new)
         result }
 {
-    match load_state(alloc, state) {
+    match load_state(alloc, state, book.hasher()) {
         Ok(engine) => {
             let mut shell = Shell::new(choices_of(asked), book, engine);
             session_with(alloc, &mut shell, script, state, out)

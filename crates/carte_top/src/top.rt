@@ -10,6 +10,7 @@ use crate::say::report;
 use crate::session::session;
 use carte_io::{Disk, Sink, Source};
 use carte_report::Status;
+use carte_value::Seeded;
 use carte_words::{Command, Word, Words, WordsFault, read_words};
 use std::alloc::Global;
 
@@ -20,6 +21,8 @@ use std::alloc::Global;
 /// The book is read to its end, where it has at most 16,777,216 bytes, and for `clean` not at all. The state is limited to
 /// 268,435,456 bytes. No call of the disk is made before the words and the book were read. The script is read by a session
 /// alone, behind the book and the state, up to 67,108,864 bytes.
+///
+/// The maps of names are made with `hasher`, on which nothing that is answered depends.
 pub fn carte<B: Source, S: Source, D: Disk, O: Sink, E: Sink>(
     alloc: Global,
     words: &[Word],
@@ -28,6 +31,7 @@ pub fn carte<B: Source, S: Source, D: Disk, O: Sink, E: Sink>(
     state: &mut D,
     out: &mut O,
     err: &mut E,
+    hasher: Seeded,
 ) -> Status
     ensures { IsOutcome 268435456
         (record {
@@ -40,7 +44,7 @@ pub fn carte<B: Source, S: Source, D: Disk, O: Sink, E: Sink>(
         })
         result }
 {
-    let status = run(alloc, words, book, script, state, out);
+    let status = run(alloc, words, book, script, state, out, hasher);
     report(alloc, err, status)
 }
 
@@ -51,6 +55,7 @@ fn run<B: Source, S: Source, D: Disk, O: Sink>(
     script: &mut S,
     state: &mut D,
     out: &mut O,
+    hasher: Seeded,
 ) -> Status
     ensures { IsRun 268435456 words.now
         (over_source B.tells B.state book.old book.new)
@@ -60,7 +65,7 @@ fn run<B: Source, S: Source, D: Disk, O: Sink>(
         result }
 {
     match read_words(alloc, words) {
-        Ok(asked) => command(alloc, &asked, book, script, state, out),
+        Ok(asked) => command(alloc, &asked, book, script, state, out, hasher),
         Err(fault) => usage(fault),
     }
 }
@@ -81,6 +86,7 @@ fn command<B: Source, S: Source, D: Disk, O: Sink>(
     script: &mut S,
     state: &mut D,
     out: &mut O,
+    hasher: Seeded,
 ) -> Status
     ensures { Runs 268435456 asked.now
         (over_source B.tells B.state book.old book.new)
@@ -90,9 +96,9 @@ fn command<B: Source, S: Source, D: Disk, O: Sink>(
         result }
 {
     match asked.command {
-        Command::Build => build(alloc, asked, book, state, out),
-        Command::Session => session(alloc, asked, book, script, state, out),
-        Command::Explain => explain(alloc, asked, book, state, out),
-        Command::Clean => clean(alloc, state, out),
+        Command::Build => build(alloc, asked, book, state, out, hasher),
+        Command::Session => session(alloc, asked, book, script, state, out, hasher),
+        Command::Explain => explain(alloc, asked, book, state, out, hasher),
+        Command::Clean => clean(alloc, state, out, hasher),
     }
 }

@@ -1,5 +1,6 @@
 //! Runs of the top call over memory, as texts.
 
+use carte_value::Seeded;
 use carte_io::{Disk, MemDisk, MemSink, MemSource, Sink, Source};
 use carte_top::{Word, carte};
 use std::alloc::Global;
@@ -24,7 +25,7 @@ pub(crate) fn code_of<B: Source, S: Source, D: Disk, O: Sink, E: Sink>(
     err: &mut E,
 ) -> Result<u8, Fail> {
     let words = words_of(alloc, words)?;
-    let status = carte(alloc, words.as_slice(), book, script, state, out, err);
+    let status = carte(alloc, words.as_slice(), book, script, state, out, err, Seeded::of(7));
     Ok(status.code())
 }
 
