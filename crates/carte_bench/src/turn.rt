@@ -29,7 +29,6 @@ impl<J: Job + Drop> Bench<'_, J> {
         };
         match self.drive(alloc, &mut job, runs) {
             Ok(made) => {
-                let made = made.in_common(alloc)?;
                 let copy = made.copy(alloc)?;
                 self.put_back(job, Ok(made));
                 Ok(Some(copy))

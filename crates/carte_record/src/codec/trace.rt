@@ -3,7 +3,7 @@ ghost use Rattle.carte_record.specs.BodyLaws.{trace_one};
 
 use crate::Trace;
 use carte_codec::{Spelled, Unread};
-use carte_value::{Digest, Links, Name, NoMemory};
+use carte_value::{Digest, Links, Name, NoMemory, SharedLinks};
 use std::alloc::Global;
 
 /// The key, its links, and the digest of the result.
@@ -16,13 +16,16 @@ impl Spelled for Trace {
 
     fn write(&self, out: &mut Vec<u8>) -> Result<(), NoMemory> {
         self.key.write(out)?;
-        self.links.write(out)?;
+        self.links.list().write(out)?;
         self.result.write(out)
     }
 
     fn read(alloc: Global, bytes: &[u8]) -> Result<(Trace, &[u8]), Unread> {
         match <(Name, (Links, Digest))>::read(alloc, bytes) {
-            Ok(((key, (links, result)), rest)) => Ok((Trace { key, links, result }, rest)),
+            Ok(((key, (links, result)), rest)) => {
+                let links = SharedLinks::of(alloc, links)?;
+                Ok((Trace { key, links, result }, rest))
+            }
             Err(unread) => Err(unread),
         }
     }
