@@ -29,7 +29,7 @@ impl<J: Job + Drop> Bench<'_, J> {
         };
         match self.drive(alloc, &mut job, runs) {
             Ok(made) => {
-                let copy = made.copy(alloc)?;
+                let copy = made.copy()?;
                 self.put_back(job, Ok(made));
                 Ok(Some(copy))
             }

@@ -29,6 +29,7 @@ mod look;
 mod outcome;
 mod refs_only;
 mod runs;
+mod shared;
 mod tracked;
 
 pub use digests::Digests;

@@ -1,42 +1,15 @@
 ghost use Rattle.std.specs.Prelude.{◌≡◌, IfOk};
 
+use crate::shared::{Record, Shared};
 use crate::{Digests, Hashed};
 use carte_value::{Links, Name, NoMemory, SharedLinks, Value};
 use std::alloc::Global;
 use std::marker::Model;
 
-/// A key with its value, and the names that this value was made of, with the digests of theirs.
-#[derive(Debug, Drop)]
-struct Record {
-    key: Name,
-    value: Hashed,
-    links: SharedLinks,
-}
-
-impl Model for Record {
-    ghost use Rattle.carte_effect.specs.Outcomes.{Outcome};
-
-    ghost Value = { Outcome };
-
-    ghost view = { λ r. record { key = r.key; value = r.value; links = r.links } };
-}
-
-impl Record {
-    fn copy(&self, alloc: Global) -> Result<Record, NoMemory>
-        ensures { IfOk result (λ r. r ≡ self.now) }
-    {
-        Ok(Record {
-            key: self.key.copy(alloc)?,
-            value: self.value.copy(alloc)?,
-            links: self.links.copy()?,
-        })
-    }
-}
-
 /// The end of a task: its key, its value, and the names that it looked up, in order, with the digests of their values.
 #[derive(Debug, Drop)]
 pub struct Ended {
-    record: Record,
+    record: Shared,
 }
 
 impl Model for Ended {
@@ -49,39 +22,43 @@ impl Model for Ended {
 
 impl Ended {
     /// For those who write tasks and jobs. That a task ran is promised by the drive that hands it out, and not by this.
-    pub fn new(key: Name, value: Hashed, links: SharedLinks) -> Ended
-        ensures key { result.key ≡ key }
-        ensures value { result.value ≡ value }
-        ensures links { result.links ≡ links }
+    pub fn new(
+        alloc: Global,
+        key: Name,
+        value: Hashed,
+        links: SharedLinks,
+    ) -> Result<Ended, NoMemory>
+        ensures key { IfOk result (λ made. made.key ≡ key) }
+        ensures value { IfOk result (λ made. made.value ≡ value) }
+        ensures links { IfOk result (λ made. made.links ≡ links) }
     {
-        Ended {
-            record: Record { key, value, links },
-        }
+        let record = Shared::of(alloc, Record { key, value, links })?;
+        Ok(Ended { record })
     }
 
     pub fn key(&self) -> &Name
         ensures { result.now ≡ self.now.key }
     {
-        &self.record.key
+        &self.record.record().key
     }
 
     pub fn value(&self) -> &Value
         ensures { result.now ≡ self.now.value }
     {
-        self.record.value.value()
+        self.record.record().value.value()
     }
 
     pub fn links(&self) -> &Links
         ensures { result.now ≡ self.now.links }
     {
-        self.record.links.list()
+        self.record.record().links.list()
     }
 }
 
 /// An earlier end of a task that still holds: its key, its value, and the links that were compared.
 #[derive(Debug, Drop)]
 pub struct Reuse {
-    record: Record,
+    record: Shared,
 }
 
 impl Model for Reuse {
@@ -94,14 +71,18 @@ impl Model for Reuse {
 
 impl Reuse {
     /// For those who write checks and jobs. That the earlier end holds is promised by the drive that hands it out, and not by this.
-    pub fn new(key: Name, value: Hashed, links: SharedLinks) -> Reuse
-        ensures key { result.key ≡ key }
-        ensures value { result.value ≡ value }
-        ensures links { result.links ≡ links }
+    pub fn new(
+        alloc: Global,
+        key: Name,
+        value: Hashed,
+        links: SharedLinks,
+    ) -> Result<Reuse, NoMemory>
+        ensures key { IfOk result (λ made. made.key ≡ key) }
+        ensures value { IfOk result (λ made. made.value ≡ value) }
+        ensures links { IfOk result (λ made. made.links ≡ links) }
     {
-        Reuse {
-            record: Record { key, value, links },
-        }
+        let record = Shared::of(alloc, Record { key, value, links })?;
+        Ok(Reuse { record })
     }
 }
 
@@ -149,24 +130,27 @@ impl Made {
         &self.record().links
     }
 
-    /// Takes the digest of its value, where that wasn't taken yet.
+    /// Takes the digest of its value, where that wasn't taken yet and no copy was made.
     pub fn hash(&mut self, digests: &mut Digests)
         ensures { self.new ≡ self.old }
     {
         match self {
-            Made::Ran(ended) => ended.record.value.hash(digests),
-            Made::Reused(reuse) => reuse.record.value.hash(digests),
+            Made::Ran(ended) => ended.record.hash(digests),
+            Made::Reused(reuse) => reuse.record.hash(digests),
         }
     }
 
-    /// A second one, which shares the links.
-    pub fn copy(&self, alloc: Global) -> Result<Made, NoMemory>
+    /// A second one, which shares all of it. There is no memory where as many share it as can be counted.
+    pub fn copy(&self) -> Result<Made, NoMemory>
         ensures { IfOk result (λ made. made ≡ self.now) }
     {
-        let record = self.record().copy(alloc)?;
         Ok(match self {
-            Made::Ran(_) => Made::Ran(Ended { record }),
-            Made::Reused(_) => Made::Reused(Reuse { record }),
+            Made::Ran(ended) => Made::Ran(Ended {
+                record: ended.record.copy()?,
+            }),
+            Made::Reused(reuse) => Made::Reused(Reuse {
+                record: reuse.record.copy()?,
+            }),
         })
     }
 
@@ -174,8 +158,8 @@ impl Made {
         ensures { result.now ≡ outcome_of self.now }
     {
         match self {
-            Made::Ran(ended) => &ended.record,
-            Made::Reused(reuse) => &reuse.record,
+            Made::Ran(ended) => ended.record.record(),
+            Made::Reused(reuse) => reuse.record.record(),
         }
     }
 }

@@ -124,6 +124,6 @@ impl Check {
         let key = self.key.copy(alloc)?;
         let links = self.links.copy()?;
         let value = mem::replace(&mut self.value, Hashed::unhashed(Value::Empty));
-        Ok(Reuse::new(key, value, links))
+        Reuse::new(alloc, key, value, links)
     }
 }

@@ -98,8 +98,9 @@ impl Machine {
         let value = self.progress.top(alloc)?;
         let links = self.progress.links(alloc)?;
         let key = self.task.key.copy(alloc)?;
+        let ended = Ended::new(alloc, key, Hashed::unhashed(value), links)?;
         runs.end(alloc, &self.task.key)?;
         self.ended = true;
-        Ok(Ended::new(key, Hashed::unhashed(value), links))
+        Ok(ended)
     }
 }

@@ -66,8 +66,9 @@ impl StaticTask {
         let value = progress.top(alloc)?;
         let links = progress.links(alloc)?;
         let key = self.key.copy(alloc)?;
+        let ended = Ended::new(alloc, key, Hashed::unhashed(value), links)?;
         count(alloc, &self.key, runs)?;
-        Ok(Ended::new(key, Hashed::unhashed(value), links))
+        Ok(ended)
     }
 
     // What a machine makes of these values, without asking.
