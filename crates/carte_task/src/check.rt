@@ -1,12 +1,11 @@
-ghost use Rattle.std.specs.Prelude.{◌≡◌, ◌≤◌, length, IfOk, OnOk, OnErr, bytes_eq};
+ghost use Rattle.std.specs.Prelude.{◌≡◌, IfOk, bytes_eq};
 ghost use Rattle.carte_effect.specs.Effects.{SameStops};
 ghost use Rattle.carte_task.specs.Compared.{Compared};
 
 use crate::{Effect, Halt, Hashed, Reuse};
-use carte_value::{Digest, Link, Name, NoMemory, SharedLinks, Value};
+use carte_value::{Digest, Link, Name, NoMemory, SharedLinks};
 use std::alloc::Global;
 use std::marker::Model;
-use std::mem;
 
 /// What a check comes to.
 #[derive(Debug, Drop)]
@@ -75,7 +74,7 @@ impl Check {
         })
     }
 
-    /// Goes on to the verdict, or to a link whose name has no value. It is driven only until its verdict: with Same it hands out the links that it holds.
+    /// Goes on to the verdict, or to a link whose name has no value.
     pub fn drive<E: Effect>(
         &mut self,
         alloc: Global,
@@ -114,16 +113,13 @@ impl Check {
         Ok(Verdict::Same(self.hand_out(alloc)?))
     }
 
-    // The earlier end, which holds, with the value and the links that the check has of it.
-    fn hand_out(&mut self, alloc: Global) -> Result<Reuse, NoMemory>
-        requires { length self.old.earlier.links ≤ self.old.at }
-        ensures given { IfOk result (λ r. r ≡ self.old.earlier) }
-        ensures none_left { OnOk result (length self.new.earlier.links ≤ self.new.at) }
-        ensures kept { OnErr result (self.new ≡ self.old) }
+    // The earlier end, which holds.
+    fn hand_out(&self, alloc: Global) -> Result<Reuse, NoMemory>
+        ensures { IfOk result (λ r. r ≡ self.now.earlier) }
     {
         let key = self.key.copy(alloc)?;
+        let value = self.value.copy(alloc)?;
         let links = self.links.copy()?;
-        let value = mem::replace(&mut self.value, Hashed::unhashed(Value::Empty));
         Reuse::new(alloc, key, value, links)
     }
 }
