@@ -1,5 +1,6 @@
 // The lists of a formula that is read: what a chain has behind its first operand, and the arguments of a call.
-// Trees stay in memory as long as their book, so a finished list has no more room than its items.
+// Trees stay in memory as long as their book, so a finished list of at most five items has no more room than these. To
+// make longer ones smaller takes longer than it is worth: what it gives back is seldom of use to the allocator.
 ghost use Rattle.std.specs.Prelude.{◌≡◌, ◌++◌, ◌∷◌, [], IfOk, OnOk};
 
 use carte_value::NoMemory;
@@ -26,8 +27,5 @@ pub fn with_last<T: Drop>(mut list: Vec<T>, item: T) -> Result<Vec<T>, NoMemory>
 {
     list.reserve_exact(1)?;
     list.push_reserved(item);
-    if list.len() < list.capacity() {
-        list.shrink_to_fit();
-    }
     Ok(list)
 }
