@@ -10,12 +10,19 @@ use crate::{LoadFault, State};
 use carte_io::Disk;
 use carte_journal::{Bodies, Body, Journal};
 use carte_record::{Batch, Kept};
+use carte_value::Seeded;
 use std::alloc::Global;
 
 impl State {
     /// Reads what the file keeps: its batches up to the first closed gate byte, put one into another. A new file keeps
     /// nothing. The file is read once, nothing is written, and none of its bytes are held afterwards.
-    pub fn load<D: Disk>(alloc: Global, disk: &mut D, limit: u64) -> Result<State, LoadFault>
+    /// The tables of what is kept are made with `hasher`.
+    pub fn load<D: Disk>(
+        alloc: Global,
+        disk: &mut D,
+        limit: u64,
+        hasher: Seeded,
+    ) -> Result<State, LoadFault>
         requires { limit < 2 ^ 32 }
         ensures read { D.tells → IfOk result (λ s. IsLoaded s (D.story disk.old).now.reads) }
         ensures starts { IfOk result (λ s. (s.journal.limit ≡ limit) × (s.journal.broken ≡ false)) }
@@ -28,32 +35,32 @@ impl State {
         ensures same { D.tells → D.story disk.new ≡ D.story disk.old }
     {
         let (journal, bodies) = Journal::load(alloc, disk, limit)?;
-        let kept = folded(alloc, bodies)?;
+        let kept = folded(alloc, bodies, hasher)?;
         Ok(State::of(journal, kept))
     }
 }
 
 // What the bodies make of nothing. Each is let go before what it makes grows.
-fn folded(alloc: Global, bodies: Bodies) -> Result<Kept, LoadFault>
+fn folded(alloc: Global, bodies: Bodies, hasher: Seeded) -> Result<Kept, LoadFault>
     ensures folded { IfOk result (λ kept. IsFolded nothing_kept bodies (kept_view kept)) }
     ensures bad { (offset : ℕ) → result ≡ Err (LoadFault.BadState offset) → IsBadBody bodies offset }
     ensures disk { result ≢ Err LoadFault.DiskFault }
 {
-    let mut kept = Kept::empty(alloc);
+    let mut kept = Kept::empty(alloc, hasher);
     let items = bodies.into_vec();
     for body in items {
-        let batch = batch_of(alloc, body)?;
+        let batch = batch_of(alloc, body, hasher)?;
         kept.absorb(batch)?;
     }
     Ok(kept)
 }
 
 // The batch whose bytes a body is.
-fn batch_of(alloc: Global, body: Body) -> Result<Batch, LoadFault>
+fn batch_of(alloc: Global, body: Body, hasher: Seeded) -> Result<Batch, LoadFault>
     ensures batch { IfOk result (λ batch. IsBody batch body.1) }
     ensures bad { (offset : ℕ) → result ≡ Err (LoadFault.BadState offset) → IsBadBody (body ∷ []) offset }
     ensures disk { result ≢ Err LoadFault.DiskFault }
 {
-    let decoded = Batch::decode(alloc, body.bytes())?;
+    let decoded = Batch::decode(alloc, body.bytes(), hasher)?;
     decoded.ok_or(LoadFault::BadState(body.offset()))
 }

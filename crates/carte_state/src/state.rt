@@ -193,5 +193,6 @@ fn take_in(kept: &mut Kept, alloc: Global, batch: &mut Batch) -> Result<(), NoMe
     ensures ok { OnOk result (kept_view kept.new ≡ apply batch.old (kept_view kept.old)) }
     ensures no_memory { OnErr result (kept.new ≡ kept.old) }
 {
-    kept.absorb(replace(batch, Batch::new(alloc)))
+    let nothing = Batch::new(alloc, kept.hasher());
+    kept.absorb(replace(batch, nothing))
 }

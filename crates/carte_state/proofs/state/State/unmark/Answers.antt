@@ -1,4 +1,4 @@
-use Rattle.std.proofs.Common.{ap, sym, ◌∙◌}
+use Rattle.std.proofs.Common.{ap, ◌∙◌}
 use Rattle.carte_record.specs.declared.kept.Kept.{Kept}
 use Rattle.carte_state.specs.States.{Stand}
 use Rattle.carte_state.proofs.state.State.unmark.Goals as goal
