@@ -7,7 +7,7 @@ ghost use Rattle.carte_bench.specs.declared.slot.Slot.TheVariants as slot;
 use crate::{Place, Slot};
 use carte_book::Book;
 use carte_effect::{Digests, Job, Made, Stuck};
-use carte_value::{Name, NoMemory};
+use carte_value::{Name, NoMemory, Seeded};
 use indexmap::IndexMap;
 use std::alloc::Global;
 use std::mem;
@@ -18,7 +18,7 @@ use std::mem;
 pub struct Bench<'b, J> {
     pub(crate) book: &'b Book,
     pub(crate) alloc: Global,
-    pub(crate) slots: IndexMap<Name, Slot<J>>,
+    pub(crate) slots: IndexMap<Name, Slot<J>, Seeded>,
     pub(crate) digests: Digests,
 }
 
@@ -28,11 +28,12 @@ impl<'b, J: Job + Drop> Bench<'b, J> {
         ensures empty { IsSame (λ q. None) (spots_of result) }
         ensures book { book_of result ≡ book_view book.now }
     {
+        let hasher = book.hasher();
         Bench {
             book,
             alloc,
-            slots: IndexMap::new(alloc),
-            digests: Digests::new(alloc),
+            slots: IndexMap::with_hasher(alloc, hasher),
+            digests: Digests::new(alloc, hasher),
         }
     }
 

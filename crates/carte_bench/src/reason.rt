@@ -14,7 +14,7 @@ impl<J> Bench<'_, J> {
     pub fn reason(&self, alloc: Global, target: &Name) -> Result<Option<Reason>, NoMemory>
         ensures { IfOk result (WaitsAs (onward (book_of self.now) (spots_of self.now)) target.now) }
     {
-        let mut way = Way::of(alloc, target)?;
+        let mut way = Way::of(alloc, target, self.book.hasher())?;
         'names: while way.names.len() <= self.slots.len() {
             match self.follow(alloc, &mut way)? {
                 Course::On => (),

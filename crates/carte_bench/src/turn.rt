@@ -50,7 +50,8 @@ impl<J: Job + Drop> Bench<'_, J> {
         ensures gave { Gave J.gives (seen_in (book_of self.old) (spots_of self.old)) (stops_in (book_of self.old) (spots_of self.old)) None None job.old job.new result }
         ensures counted { Counted (J.name job.old) (J.started job.old) (J.started job.new) runs.old runs.new result }
     {
-        let mut digests = mem::replace(&mut self.digests, Digests::new(self.alloc));
+        let none = Digests::new(self.alloc, self.book.hasher());
+        let mut digests = mem::replace(&mut self.digests, none);
         let driven = job.drive(alloc, &mut Snapshot::with(&*self, &mut digests), runs);
         let driven = hashed(driven, &mut digests);
         self.digests = digests;

@@ -1,7 +1,7 @@
 ghost use Rattle.std.specs.Prelude.{◌≡◌, ◌++◌, ◌∷◌, [], false, IfOk, OnOk};
 ghost use Rattle.carte_bench.specs.Waits.{has};
 
-use carte_value::{Name, Names, NoMemory};
+use carte_value::{Name, Names, NoMemory, Seeded};
 use indexmap::IndexSet;
 use std::alloc::Global;
 use std::mem;
@@ -24,17 +24,17 @@ pub(crate) enum Course {
 /// The names from a target on, each of which waits for the next, and the one that the last of them waits for.
 #[derive(Drop)]
 pub(crate) struct Way {
-    pub(crate) names: IndexSet<Name>,
+    pub(crate) names: IndexSet<Name, Seeded>,
     pub(crate) at: Name,
 }
 
 impl Way {
-    pub(crate) fn of(alloc: Global, target: &Name) -> Result<Way, NoMemory>
+    pub(crate) fn of(alloc: Global, target: &Name, hasher: Seeded) -> Result<Way, NoMemory>
         ensures names { IfOk result (λ w. w.names.keys ≡ []) }
         ensures at { IfOk result (λ w. w.at ≡ target.now) }
     {
         Ok(Way {
-            names: IndexSet::new(alloc),
+            names: IndexSet::with_hasher(alloc, hasher),
             at: target.copy(alloc)?,
         })
     }
