@@ -6,20 +6,20 @@ ghost use Rattle.carte_sound.specs.Begun.{is_digest};
 ghost use Rattle.carte_sound.specs.Marks.{present};
 ghost use Rattle.carte_mark.specs.Reached.{has_changed, AreChanged, AddsChanged};
 
-use crate::set::put;
+use crate::set::{NameSet, put};
 use carte_book::{Book, Looked};
 use carte_effect::Digests;
 use carte_record::{Kept, Seen};
 use carte_value::{Digest, Link, Name, NoMemory};
-use indexmap::IndexSet;
 use std::alloc::Global;
 
 /// The names that were seen with a digest that they haven't now.
-pub(crate) fn changed(alloc: Global, kept: &Kept, book: &Book) -> Result<IndexSet<Name>, NoMemory>
+pub(crate) fn changed(alloc: Global, kept: &Kept, book: &Book) -> Result<NameSet, NoMemory>
     ensures { IfOk result (λ names. AreChanged (kept_view kept.now) (book_view book.now) names.keys) }
 {
-    let mut digests = Digests::new(alloc);
-    let mut names = IndexSet::new(alloc);
+    let hasher = book.hasher();
+    let mut digests = Digests::new(alloc, hasher);
+    let mut names = NameSet::with_hasher(alloc, hasher);
     for link in kept.seen.as_slice() {
         add_changed(alloc, kept, book, link, &mut digests, &mut names)?;
     }
@@ -33,7 +33,7 @@ fn add_changed(
     book: &Book,
     link: &Link,
     digests: &mut Digests,
-    names: &mut IndexSet<Name>,
+    names: &mut NameSet,
 ) -> Result<(), NoMemory>
     ensures { OnOk result (AddsChanged (kept_view kept.now) (book_view book.now) link.now names.old.keys names.new.keys) }
 {

@@ -7,11 +7,10 @@ ghost use Rattle.carte_mark.specs.Marking.{IsToMark, PushesToMark, AreToMark};
 
 use crate::changed::changed;
 use crate::reach::reached;
-use crate::set::meets;
+use crate::set::{NameSet, meets};
 use carte_book::Book;
 use carte_record::{Entries, Kept};
 use carte_value::{Name, Names, NoMemory};
-use indexmap::IndexSet;
 use std::alloc::Global;
 
 /// The keys, in name order, whose entries aren't stale and lead to a name that was seen with a digest that it hasn't now.
@@ -29,11 +28,7 @@ pub fn mark(alloc: Global, kept: &Kept, book: &Book) -> Result<Names, NoMemory>
     listed(alloc, marks)
 }
 
-fn to_mark(
-    alloc: Global,
-    entries: &Entries,
-    reached: &IndexSet<Name>,
-) -> Result<Vec<Name>, NoMemory>
+fn to_mark(alloc: Global, entries: &Entries, reached: &NameSet) -> Result<Vec<Name>, NoMemory>
     ensures { IfOk result (λ marks. AreToMark entries.now reached.now.keys reached.now.keys marks.items) }
 {
     let mut marks = Vec::new(alloc);
@@ -46,7 +41,7 @@ fn to_mark(
 fn push_to_mark(
     alloc: Global,
     entries: &Entries,
-    reached: &IndexSet<Name>,
+    reached: &NameSet,
     name: &Name,
     marks: &mut Vec<Name>,
 ) -> Result<(), NoMemory>
@@ -59,7 +54,7 @@ fn push_to_mark(
 }
 
 // A changed name that is there isn't thereby a key that leads to one.
-fn is_to_mark(entries: &Entries, reached: &IndexSet<Name>, name: &Name) -> bool
+fn is_to_mark(entries: &Entries, reached: &NameSet, name: &Name) -> bool
     ensures { (result ≡ true) ↔ IsToMark entries.now reached.now.keys name.now }
 {
     match entries.find(name) {

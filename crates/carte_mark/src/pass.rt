@@ -4,10 +4,9 @@ ghost use Rattle.carte_record.specs.declared.entry.Entry.{Entry as SomeEntry};
 ghost use Rattle.carte_mark.specs.Passes.{Passes};
 ghost use Rattle.carte_mark.specs.Reached.{PutsMore, IsClosedAt, IsUser};
 
-use crate::set::{holds, meets, put};
+use crate::set::{NameSet, holds, meets, put};
 use carte_record::{Entry, Kept};
 use carte_value::{Name, NoMemory};
-use indexmap::IndexSet;
 use std::alloc::Global;
 
 /// A pass over the entries before a place: puts the keys of those that need what is there. Tells the place behind the
@@ -16,7 +15,7 @@ pub(crate) fn pass(
     alloc: Global,
     kept: &Kept,
     end: usize,
-    names: &mut IndexSet<Name>,
+    names: &mut NameSet,
 ) -> Result<usize, NoMemory>
     ensures { IfOk result (λ last. Passes kept.now end last names.old.keys names.new.keys) }
 {
@@ -32,7 +31,7 @@ fn pass_at(
     kept: &Kept,
     at: usize,
     last: usize,
-    names: &mut IndexSet<Name>,
+    names: &mut NameSet,
 ) -> Result<usize, NoMemory>
     requires { at + 1 < 2 ^ 64 }
     ensures { IfOk result (λ last'. (ns : List (List ℕ)) → Passes kept.now at last ns names.old.keys → Passes kept.now (at + 1) last' ns names.new.keys) }
@@ -44,12 +43,7 @@ fn pass_at(
     Ok(last)
 }
 
-fn put_user_at(
-    alloc: Global,
-    kept: &Kept,
-    at: usize,
-    names: &mut IndexSet<Name>,
-) -> Result<bool, NoMemory>
+fn put_user_at(alloc: Global, kept: &Kept, at: usize, names: &mut NameSet) -> Result<bool, NoMemory>
     ensures puts { IfOk result (PutsMore (kept_view kept.now) names.old.keys names.new.keys) }
     ensures closed { OnOk result ((e : SomeEntry) → slice_get kept.now.entries at ≡ Some e → (kept_view kept.now).entries e.key ≡ Some e
         → IsClosedAt (kept_view kept.now) names.new.keys e.key) }
@@ -64,7 +58,7 @@ fn put_user(
     alloc: Global,
     kept: &Kept,
     entry: &Entry,
-    names: &mut IndexSet<Name>,
+    names: &mut NameSet,
 ) -> Result<bool, NoMemory>
     ensures puts { IfOk result (PutsMore (kept_view kept.now) names.old.keys names.new.keys) }
     ensures closed { OnOk result ((kept_view kept.now).entries entry.now.key ≡ Some entry.now → IsClosedAt (kept_view kept.now) names.new.keys entry.now.key) }
@@ -79,12 +73,7 @@ fn put_user(
 }
 
 // A key may have several entries, and the first one counts.
-fn put_key(
-    alloc: Global,
-    kept: &Kept,
-    key: &Name,
-    names: &mut IndexSet<Name>,
-) -> Result<bool, NoMemory>
+fn put_key(alloc: Global, kept: &Kept, key: &Name, names: &mut NameSet) -> Result<bool, NoMemory>
     ensures puts { IfOk result (PutsMore (kept_view kept.now) names.old.keys names.new.keys) }
     ensures closed { OnOk result (IsClosedAt (kept_view kept.now) names.new.keys key.now) }
 {
@@ -95,7 +84,7 @@ fn put_key(
     Ok(false)
 }
 
-fn needs_one(kept: &Kept, key: &Name, names: &IndexSet<Name>) -> bool
+fn needs_one(kept: &Kept, key: &Name, names: &NameSet) -> bool
     ensures { (result ≡ true) ↔ IsUser (kept_view kept.now) names.now.keys key.now }
 {
     match kept.entries.find(key) {

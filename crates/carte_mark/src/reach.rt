@@ -2,21 +2,17 @@ ghost use Rattle.std.specs.Prelude.{IfOk};
 ghost use Rattle.carte_mark.specs.Passes.{IsRound, AreReached};
 
 use crate::pass::pass;
+use crate::set::NameSet;
 use crate::walk::walk;
 use carte_record::Kept;
 use carte_value::{Name, NoMemory};
-use indexmap::IndexSet;
 use std::alloc::Global;
 
 /// How often the entries are passed over before a table of them is made.
 const ROUNDS: usize = 2;
 
 /// These names and all keys that lead to one of them.
-pub(crate) fn reached(
-    alloc: Global,
-    kept: &Kept,
-    names: IndexSet<Name>,
-) -> Result<IndexSet<Name>, NoMemory>
+pub(crate) fn reached(alloc: Global, kept: &Kept, names: NameSet) -> Result<NameSet, NoMemory>
     ensures { IfOk result (λ reached. AreReached kept.now names.keys reached.keys) }
 {
     let mut reached = names;
@@ -30,7 +26,7 @@ pub(crate) fn reached(
 }
 
 // Behind the last key that the first pass puts all is there already, so the second needn't look there.
-fn round(alloc: Global, kept: &Kept, names: &mut IndexSet<Name>) -> Result<bool, NoMemory>
+fn round(alloc: Global, kept: &Kept, names: &mut NameSet) -> Result<bool, NoMemory>
     ensures { IfOk result (IsRound kept.now names.old.keys names.new.keys) }
 {
     let end = pass(alloc, kept, kept.entries.len(), names)?;

@@ -5,18 +5,18 @@ ghost use Rattle.carte_value.specs.Truths.{Among};
 ghost use Rattle.carte_mark.specs.Tables.{keys_in, AddsKey, AddsFor, Needs, AreUsers};
 
 use carte_record::Entries;
-use carte_value::{Name, Names, NoMemory};
+use carte_value::{Name, Names, NoMemory, Seeded};
 use std::alloc::Global;
 use std::collections::HashMap;
 
 /// Of each name the keys whose entries need it.
-pub(crate) type Users = HashMap<Name, Names>;
+pub(crate) type Users = HashMap<Name, Names, Seeded>;
 
 /// The table of these entries.
-pub(crate) fn users(alloc: Global, entries: &Entries) -> Result<Users, NoMemory>
+pub(crate) fn users(alloc: Global, entries: &Entries, hasher: Seeded) -> Result<Users, NoMemory>
     ensures { IfOk result (λ users. AreUsers entries.now (λ q. keys_in (get name_eq users q))) }
 {
-    let mut users = Users::new(alloc);
+    let mut users = Users::with_hasher(alloc, hasher);
     for entry in entries.as_slice() {
         add_entry(alloc, entries, &entry.key, &mut users)?;
     }

@@ -5,22 +5,17 @@ ghost use Rattle.carte_mark.specs.Puts.{put_all};
 ghost use Rattle.carte_mark.specs.Passes.{AreReached};
 ghost use Rattle.carte_mark.specs.Tables.{keys_in};
 
-use crate::set::put;
+use crate::set::{NameSet, put};
 use crate::users::{Users, users};
 use carte_record::Kept;
 use carte_value::{Name, Names, NoMemory};
-use indexmap::IndexSet;
 use std::alloc::Global;
 
 /// These names and all keys that lead to one of them, over a table of the keys that need each name.
-pub(crate) fn walk(
-    alloc: Global,
-    kept: &Kept,
-    names: IndexSet<Name>,
-) -> Result<IndexSet<Name>, NoMemory>
+pub(crate) fn walk(alloc: Global, kept: &Kept, names: NameSet) -> Result<NameSet, NoMemory>
     ensures { IfOk result (λ reached. AreReached kept.now names.keys reached.keys) }
 {
-    let users = users(alloc, &kept.entries)?;
+    let users = users(alloc, &kept.entries, *names.hasher())?;
     let mut reached = names;
     let mut next = 0;
     while next < reached.len() {
@@ -34,7 +29,7 @@ fn put_users_at(
     alloc: Global,
     users: &Users,
     at: usize,
-    reached: &mut IndexSet<Name>,
+    reached: &mut NameSet,
 ) -> Result<(), NoMemory>
     requires { at < length reached.old.keys }
     ensures { OnOk result ((q : List ℕ) → slice_get reached.old.keys at ≡ Some q → reached.new.keys ≡ put_all reached.old.keys (keys_in (get name_eq users.now q))) }
@@ -52,7 +47,7 @@ fn put_users(
     alloc: Global,
     users: &Users,
     name: &Name,
-    reached: &mut IndexSet<Name>,
+    reached: &mut NameSet,
 ) -> Result<(), NoMemory>
     ensures { OnOk result (reached.new.keys ≡ put_all reached.old.keys (keys_in (get name_eq users.now name.now))) }
 {
@@ -62,7 +57,7 @@ fn put_users(
     }
 }
 
-fn put_each(alloc: Global, keys: &Names, reached: &mut IndexSet<Name>) -> Result<(), NoMemory>
+fn put_each(alloc: Global, keys: &Names, reached: &mut NameSet) -> Result<(), NoMemory>
     ensures { OnOk result (reached.new.keys ≡ put_all reached.old.keys keys.now) }
 {
     for key in keys.as_slice() {

@@ -1,11 +1,11 @@
-ghost use Rattle.std.specs.Prelude.{◌≡◌, ◌<◌, ◌^◌, ◌++◌, ◌∷◌, [], length, slice_get, option_copied, ◌==◌, is_ok, OnOk, OnErr, ℕ, List, if◌then◌else◌};
+ghost use Rattle.std.specs.Prelude.{◌≡◌, ◌<◌, ◌^◌, ◌++◌, ◌∷◌, [], length, slice_get, option_copied, ◌==◌, is_ok, IfOk, OnOk, OnErr, ℕ, List, if◌then◌else◌};
 ghost use Rattle.std.specs.HashMap.{get};
 ghost use Rattle.carte_value.specs.Names.{name_eq};
 ghost use Rattle.carte_record.specs.Places.{AddsPlace};
 ghost use Rattle.carte_note.specs.Lists.{finished_of};
 
 use crate::Finished;
-use carte_value::{Name, NoMemory};
+use carte_value::{Name, NoMemory, Seeded};
 use std::alloc::Global;
 use std::collections::HashMap;
 use std::marker::Model;
@@ -13,12 +13,15 @@ use std::marker::Model;
 /// The most finished keys that a list has: no book has more rules.
 const MOST: usize = 4294967295;
 
+/// Of each key the place where it stands first.
+type Places = HashMap<Name, u32, Seeded>;
+
 /// The keys that a build has finished, in their order, seen as these; a key is looked up at once.
 #[derive(Drop)]
 pub struct FinishedList {
     alloc: Global,
     finished: Vec<Finished>,
-    places: HashMap<Name, u32>,
+    places: Places,
 }
 
 impl Model for FinishedList {
@@ -37,15 +40,28 @@ impl Model for FinishedList {
 }
 
 impl FinishedList {
-    /// The empty list, whose keys will come from `alloc`. It takes no memory.
-    pub fn new(alloc: Global) -> FinishedList
+    /// The empty list, whose keys will come from `alloc` and be hashed by `hasher`. It takes no memory.
+    pub fn new(alloc: Global, hasher: Seeded) -> FinishedList
         ensures { result ≡ [] }
     {
         FinishedList {
             alloc,
             finished: Vec::new(alloc),
-            places: HashMap::new(alloc),
+            places: Places::with_hasher(alloc, hasher),
         }
+    }
+
+    /// The same with room for so many keys, so that these take no more memory than they need.
+    pub fn with_room(alloc: Global, count: usize, hasher: Seeded) -> Result<FinishedList, NoMemory>
+        ensures { IfOk result (λ list. list ≡ []) }
+    {
+        let finished = Vec::with_capacity(alloc, count)?;
+        let places = Places::with_capacity_and_hasher(alloc, count, hasher)?;
+        Ok(FinishedList {
+            alloc,
+            finished,
+            places,
+        })
     }
 
     /// How many keys there are.
@@ -102,7 +118,7 @@ impl FinishedList {
     }
 }
 
-fn place(places: &HashMap<Name, u32>, key: &Name) -> Option<usize>
+fn place(places: &Places, key: &Name) -> Option<usize>
     ensures { result ≡ get name_eq places.now key.now }
 {
     match places.get(key) {
@@ -117,7 +133,7 @@ fn item(finished: &[Finished], at: usize) -> Option<&Finished>
     finished.get(at)
 }
 
-fn add(places: &mut HashMap<Name, u32>, key: Name, at: u32) -> Result<(), NoMemory>
+fn add(places: &mut Places, key: Name, at: u32) -> Result<(), NoMemory>
     ensures ok { OnOk result (AddsPlace name_eq (get name_eq places.old) (get name_eq places.new) key at) }
     ensures no_memory { OnErr result ((q : List ℕ) → get name_eq places.new q ≡ get name_eq places.old q) }
 {

@@ -7,6 +7,7 @@ use Rattle.std.proofs.Crossing.{crosses, Box-send, Box-sync, Arc-send, Arc-sync,
 use Rattle.carte_value.proofs.area.Area.TheSendSync as area
 use Rattle.carte_value.proofs.kind.Kind.TheSendSync as kind
 use Rattle.carte_value.proofs.name.Name.TheSendSync as name
+use Rattle.carte_value.proofs.seeded.Seeded.TheSendSync as seeded
 use Rattle.carte_value.proofs.text.Text.TheSendSync as text
 use Rattle.carte_tree.proofs.expr.Func.TheSendSync as func
 use Rattle.carte_tree.proofs.expr.Level.TheSendSync as level
@@ -30,10 +31,10 @@ expr_sync : IsSync Expr.the_row
 expr_sync = search (shared_parts, tree.sync-Expr) depth 20
 
 recipe_send : IsSend (Recipe.the_field).row
-recipe_send = struct_send (fields.shape Recipe.the_type) (search (sendable, name.the_send), (search (sendable, kind.the_field_send), (search (sendable, Arc-send, expr_send, expr_sync), tt)))
+recipe_send = struct_send (fields.shape Recipe.the_type) (search (sendable, name.the_send), (search (sendable, kind.the_field_send), (search (sendable, Arc-send, expr_send, expr_sync), (search (sendable, seeded.the_field_send), tt))))
 
 recipe_sync : IsSync (Recipe.the_field).row
-recipe_sync = struct_sync (fields.shape Recipe.the_type) (search (sendable, name.the_sync), (search (sendable, kind.the_field_sync), (search (sendable, Arc-sync, expr_send, expr_sync), tt)))
+recipe_sync = struct_sync (fields.shape Recipe.the_type) (search (sendable, name.the_sync), (search (sendable, kind.the_field_sync), (search (sendable, Arc-sync, expr_send, expr_sync), (search (sendable, seeded.the_field_sync), tt))))
 
 stage_send : IsSend (Stage.the_field).row
 stage_send = enum_send (choice.shape Stage.the_type) ((search (sendable, Vec-send, check.the_send), (recipe_send, tt)), ((machine.the_field_send, tt), tt))

@@ -7,9 +7,12 @@ ghost use Rattle.carte_rebuild.specs.Gathering.{put_link, put_links, links_in, b
 use carte_book::{Book, Looked};
 use carte_effect::Made;
 use carte_note::{Finished, FinishedList};
-use carte_value::{Digest, Link, Links, Name, NoMemory, Value};
+use carte_value::{Digest, Link, Links, Name, NoMemory, Seeded, Value};
 use indexmap::IndexMap;
 use std::alloc::Global;
+
+/// Of each name the digest of the link that came first.
+type Gathered = IndexMap<Name, Digest, Seeded>;
 
 /// The inputs beneath a made key, of those that its links bring each name once, where it comes first.
 pub(crate) fn beneath_made(
@@ -46,7 +49,7 @@ fn beneath_links(
 ) -> Result<Links, NoMemory>
     ensures { IfOk result (λ gathered. gathered ≡ links_in (put_links [] (brought_by (book_view book.now) before.now links.now))) }
 {
-    let mut gathered = IndexMap::new(alloc);
+    let mut gathered = Gathered::with_hasher(alloc, book.hasher());
     for link in links.as_slice() {
         put_brought(alloc, book, before, link, &mut gathered)?;
     }
@@ -58,7 +61,7 @@ fn put_brought(
     book: &Book,
     before: &FinishedList,
     link: &Link,
-    gathered: &mut IndexMap<Name, Digest>,
+    gathered: &mut Gathered,
 ) -> Result<(), NoMemory>
     ensures { OnOk result (gathered.new.entries ≡ put_links gathered.old.entries (brought (content (book_view book.now) link.now.name) (finished_of before.now link.now.name) link.now)) }
 {
@@ -72,7 +75,7 @@ fn put_brought(
 fn put_beneath(
     alloc: Global,
     finished: Option<&Finished>,
-    gathered: &mut IndexMap<Name, Digest>,
+    gathered: &mut Gathered,
 ) -> Result<(), NoMemory>
     ensures { OnOk result (gathered.new.entries ≡ put_links gathered.old.entries (beneath_finished (option_copied finished.entry))) }
 {
@@ -82,11 +85,7 @@ fn put_beneath(
     }
 }
 
-fn put_each(
-    alloc: Global,
-    links: &Links,
-    gathered: &mut IndexMap<Name, Digest>,
-) -> Result<(), NoMemory>
+fn put_each(alloc: Global, links: &Links, gathered: &mut Gathered) -> Result<(), NoMemory>
     ensures { OnOk result (gathered.new.entries ≡ put_links gathered.old.entries links.now) }
 {
     for link in links.as_slice() {
@@ -95,7 +94,7 @@ fn put_each(
     Ok(())
 }
 
-fn put(alloc: Global, link: &Link, gathered: &mut IndexMap<Name, Digest>) -> Result<(), NoMemory>
+fn put(alloc: Global, link: &Link, gathered: &mut Gathered) -> Result<(), NoMemory>
     ensures { OnOk result (gathered.new.entries ≡ put_link gathered.old.entries link.now) }
 {
     if gathered.contains_key(&link.name) {
@@ -105,7 +104,7 @@ fn put(alloc: Global, link: &Link, gathered: &mut IndexMap<Name, Digest>) -> Res
     Ok(())
 }
 
-fn listed(alloc: Global, gathered: IndexMap<Name, Digest>) -> Result<Links, NoMemory>
+fn listed(alloc: Global, gathered: Gathered) -> Result<Links, NoMemory>
     ensures { IfOk result (λ links. links ≡ links_in gathered.entries) }
 {
     let mut links = Links::new(alloc);

@@ -11,7 +11,7 @@ use carte_book::Book;
 use carte_effect::Runs;
 use carte_task::{Machine, Task};
 use carte_tree::Expr;
-use carte_value::{Kind, Name, NoMemory};
+use carte_value::{Kind, Name, NoMemory, Seeded};
 use std::alloc::Global;
 use std::sync::Arc;
 
@@ -22,6 +22,7 @@ pub(crate) struct Recipe {
     pub(crate) key: Name,
     kind: Kind,
     formula: Arc<Expr>,
+    hasher: Seeded,
     ghost is_read: { IsExpr (tree_of (arc_value formula)) } by { expr_alike (tree_of (arc_value formula)) },
 }
 
@@ -40,6 +41,7 @@ impl Recipe {
             key: key_copy,
             kind: book.kind(),
             formula,
+            hasher: book.hasher(),
         })
     }
 
@@ -48,7 +50,7 @@ impl Recipe {
         ensures machine { IfOk result (λ m. state_of m ≡ started self.now.key (asks_in self.now)) }
         ensures runs { runs.new ≡ (if is_ok result then with_start runs.old self.now.key else runs.old) }
     {
-        let task = Task::of(alloc, self.kind, &self.key, &self.formula)?;
+        let task = Task::of(alloc, self.kind, &self.key, &self.formula, self.hasher)?;
         Machine::start(alloc, task, runs)
     }
 }

@@ -1,11 +1,11 @@
-ghost use Rattle.std.specs.Prelude.{◌≡◌, [], None};
+ghost use Rattle.std.specs.Prelude.{◌≡◌, [], None, IfOk};
 ghost use Rattle.carte_effect.specs.Ledger.{no_runs};
 ghost use Rattle.carte_rebuild.specs.declared.work.PlanFault.TheVariants.{NoMemory};
 
 use carte_book::Reason;
 use carte_effect::Runs;
 use carte_note::FinishedList;
-use carte_value::Names;
+use carte_value::{Names, Seeded};
 use std::alloc::Global;
 use thiserror::Error;
 
@@ -21,17 +21,34 @@ pub struct Work {
 }
 
 impl Work {
-    /// Nothing is done yet. It takes no memory.
-    pub fn new(alloc: Global) -> Work
+    /// Nothing is done yet, and the keys will be hashed by `hasher`. It takes no memory.
+    pub fn new(alloc: Global, hasher: Seeded) -> Work
         ensures finished { result.finished ≡ [] }
         ensures runs { result.runs ≡ no_runs }
         ensures chain { result.chain ≡ None }
     {
         Work {
-            finished: FinishedList::new(alloc),
+            finished: FinishedList::new(alloc, hasher),
             runs: Runs::new(alloc),
             chain: None,
         }
+    }
+
+    /// The same with room for so many finished keys.
+    pub fn with_room(
+        alloc: Global,
+        count: usize,
+        hasher: Seeded,
+    ) -> Result<Work, carte_value::NoMemory>
+        ensures finished { IfOk result (λ work. work.finished ≡ []) }
+        ensures runs { IfOk result (λ work. work.runs ≡ no_runs) }
+        ensures chain { IfOk result (λ work. work.chain ≡ None) }
+    {
+        Ok(Work {
+            finished: FinishedList::with_room(alloc, count, hasher)?,
+            runs: Runs::new(alloc),
+            chain: None,
+        })
     }
 }
 

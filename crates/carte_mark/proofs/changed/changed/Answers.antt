@@ -6,7 +6,7 @@ use Rattle.carte_mark.proofs.Changing.{AreChangedBefore, changed_first, changed_
 use Rattle.carte_mark.proofs.changed.changed.Goals as goal
 
 pub loop-link-init : goal.loop-link-init
-loop-link-init c = changed_first (kept_view c.args.kept.now) (book_view c.args.book.now) c.as_slice-link-items.result.now c.new-names.result.keys (search rules)
+loop-link-init c = changed_first (kept_view c.args.kept.now) (book_view c.args.book.now) c.as_slice-link-items.result.now c.with_hasher-names.result.keys (search rules)
 
 pub loop-link-preserved : goal.loop-link-preserved
 loop-link-preserved c =
