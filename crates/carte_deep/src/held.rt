@@ -10,7 +10,7 @@ use carte_book::{Book, Looked};
 use carte_effect::{Hashed, Reuse};
 use carte_rebuild::stored;
 use carte_record::{Kept, Store, Trace};
-use carte_value::{Link, Links, Name, NoMemory};
+use carte_value::{Link, Links, Name, NoMemory, SharedLinks};
 use std::alloc::Global;
 use std::marker::Model;
 
@@ -19,7 +19,7 @@ use std::marker::Model;
 pub(crate) struct Earlier {
     pub(crate) key: Name,
     value: Hashed,
-    links: Links,
+    links: SharedLinks,
 }
 
 impl Model for Earlier {
@@ -37,8 +37,8 @@ impl Earlier {
     {
         let key = self.key.copy(alloc)?;
         let value = self.value.copy(alloc)?;
-        let links = self.links.copy(alloc)?;
-        Ok(Reuse::new(key, value, links))
+        let links = self.links.copy()?;
+        Reuse::new(alloc, key, value, links)
     }
 }
 
@@ -73,7 +73,7 @@ fn given_by(
     ensures { IfOk result (λ earlier. earlier ≡ given (first_value values.now) (book_view book.now) key.now (option_copied trace.entry)) }
 {
     match trace {
-        Some(trace) if are_present(book, &trace.links) => told_by(alloc, values, key, trace),
+        Some(trace) if are_present(book, trace.links.list()) => told_by(alloc, values, key, trace),
         _ => Ok(None),
     }
 }
@@ -90,7 +90,7 @@ fn told_by(
         Some(value) => Ok(Some(Earlier {
             key: key.copy(alloc)?,
             value,
-            links: trace.links.copy(alloc)?,
+            links: trace.links.copy()?,
         })),
         None => Ok(None),
     }

@@ -1,11 +1,12 @@
-ghost use Rattle.std.specs.Prelude.{◌≡◌};
+ghost use Rattle.std.specs.Prelude.{◌≡◌, IfOk};
 ghost use Rattle.carte_note.specs.Right.{has_run};
 ghost use Rattle.carte_note.specs.Writes.{links_noted};
 ghost use Rattle.carte_note.specs.Methods.{how_of};
 
 use crate::Method;
 use carte_effect::Made;
-use carte_value::Links;
+use carte_value::{Links, NoMemory, SharedLinks};
+use std::alloc::Global;
 
 /// A key that a build has finished.
 #[derive(Debug, Drop)]
@@ -34,5 +35,21 @@ pub(crate) fn links_noted(method: Method, finished: &Finished) -> &Links
         &finished.beneath
     } else {
         finished.made.links()
+    }
+}
+
+/// The same, for a trace to hold: those of what was made are shared with it.
+pub(crate) fn links_shared(
+    alloc: Global,
+    method: Method,
+    finished: &Finished,
+) -> Result<SharedLinks, NoMemory>
+    ensures { IfOk result (λ links. links ≡ links_noted (how_of method) finished.now) }
+{
+    if method.is_deep() {
+        let links = finished.beneath.copy(alloc)?;
+        SharedLinks::of(alloc, links)
+    } else {
+        finished.made.shared_links().copy()
     }
 }

@@ -7,7 +7,7 @@ ghost use Rattle.carte_note.specs.Notes.{Notes, AreUnmarked};
 ghost use Rattle.carte_note.specs.Writes.{digest_made, trace_noted, traced, with_value, with_run, with_entry};
 
 use crate::entry::{entry, stays};
-use crate::finished::{has_run, links_noted};
+use crate::finished::{has_run, links_noted, links_shared};
 use crate::see::see_all;
 use crate::{Finished, Method};
 use carte_book::Book;
@@ -86,7 +86,7 @@ fn trace(
 {
     Ok(Trace {
         key: finished.made.key().copy(alloc)?,
-        links: links_noted(method, finished).copy(alloc)?,
+        links: links_shared(alloc, method, finished)?,
         result: digest,
     })
 }
