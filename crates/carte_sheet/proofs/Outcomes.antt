@@ -1,5 +1,5 @@
 -- Bytes have an outcome: that which the functions give.
-use Rattle.std.proofs.Common.{◌≡◌, ℕ, ℤ, pos, negsuc, ◌+◌, ◌<◌, ◌≤◌, ◌==◌, ◌&&◌, cond, Bool, true, false, nat_lt, List, [], ◌∷◌, length, drop, Result, Ok, Err, refl, sym, ◌∙◌, subst, arith, FitsSigned, w64}
+use Rattle.std.proofs.Common.{◌≡◌, ℕ, ℤ, pos, negsuc, ◌+◌, ◌≤◌, ◌==◌, ◌&&◌, cond, Bool, true, false, nat_lt, List, [], ◌∷◌, length, drop, Result, Ok, Err, refl, sym, ◌∙◌, subst, arith, FitsSigned, w64}
 use Rattle.std.specs.Prelude.{MatchBool, slice_index}
 use Rattle.std.specs.Char.{digit_value}
 use Rattle.std.specs.List.{list_all}
@@ -12,7 +12,7 @@ use Rattle.carte_value.specs.declared.kind.Kind.TheVariants.{Sheet}
 use Rattle.carte_value.specs.declared.value.Value.TheVariants.{Number, Text}
 use Rattle.carte_formula.specs.Whole.{reading}
 use Rattle.carte_formula.proofs.Round.{reads_reading, told_reading}
-use Rattle.carte_book.specs.Book.{Item, Book, input}
+use Rattle.carte_book.specs.Book.{Item, input}
 use Rattle.carte_book.specs.declared.fault.BookFault.{BookFault}
 use Rattle.carte_book.specs.declared.fault.BookFault.TheVariants.{BadValue}
 use Rattle.carte_sheet.specs.Reading.{◌>>=◌, Content, Then, NoNumber, cell_of, text_of, ValueOf, at_cell, FormulaOf, ItemOf, put, ItemInto, FilledInto, FieldInto, FieldsInto, RowsInto, book_of, InRows, rows_of, BookOf, fits_i64, is_number, value_in, item_in, field_in, fields_in, rows_in, sheet_in}
