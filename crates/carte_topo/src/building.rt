@@ -53,7 +53,10 @@ pub fn build<R: Rebuilder>(
             Err(Fault::Stopped) => Err(NoMemory),
             Err(Fault::NoMemory) => Err(NoMemory),
         },
-        Err(PlanFault::Refused(reason)) => Ok(WorkEnd::Refused(Work::new(alloc), reason)),
+        Err(PlanFault::Refused(reason)) => Ok(WorkEnd::Refused(
+            Work::new(alloc, book.hasher()),
+            reason,
+        )),
         Err(PlanFault::NoMemory) => Err(NoMemory),
     }
 }
@@ -70,7 +73,7 @@ fn treat_all<R: Rebuilder>(
     requires once { NoneTwice names.now }
     ensures { Treats (R.how rebuilder.now) (kept_view kept.now) (book_view book.now) names.now result }
 {
-    let mut work = Work::new(alloc);
+    let mut work = Work::with_room(alloc, names.len(), book.hasher())?;
     let mut bench = Bench::new(alloc, book);
     for at in 0..names.len() {
         treat(

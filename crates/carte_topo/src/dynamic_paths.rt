@@ -34,7 +34,9 @@ fn static_refs(alloc: Global, book: &Book, name: &Name) -> Result<Option<Names>,
     ensures { IfOk result (AreRefs (book_view book.now) name.now) }
 {
     match book.lookup(name) {
-        Looked::Rule(formula) if is_static(formula) => Ok(Some(refs(alloc, formula)?)),
+        Looked::Rule(formula) if is_static(formula) => {
+            Ok(Some(refs(alloc, formula, book.hasher())?))
+        }
         Looked::Rule(_) => Ok(None),
         _ => unreachable!(),
     }

@@ -3,11 +3,10 @@ ghost use Rattle.carte_topo.specs.Orders.{Orders};
 ghost use Rattle.carte_topo.specs.Between.{Walks, IsStop};
 
 use crate::dynamic_paths::dynamic_path;
-use crate::walk::{Stop, Walk};
+use crate::walk::{Stages, Stop, Walk};
 use carte_book::{Book, Reason};
 use carte_rebuild::PlanFault;
 use carte_value::{Name, Names};
-use indexmap::IndexMap;
 use std::alloc::Global;
 use std::collections::VecDeque;
 
@@ -46,7 +45,7 @@ fn walk(alloc: Global, book: &Book, targets: &[Name]) -> Result<Names, Stop>
     ensures { Walks (book_view book.now) targets.now result }
 {
     let mut walk = Walk {
-        stages: IndexMap::new(alloc),
+        stages: Stages::with_hasher(alloc, book.hasher()),
         path: VecDeque::new(alloc),
         done: Names::new(alloc),
     };

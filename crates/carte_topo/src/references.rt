@@ -6,7 +6,7 @@ ghost use Rattle.carte_tree.specs.Code.{tree_of, chain_tree, args_tree, arg_tree
 ghost use Rattle.carte_tree.specs.Formula.{IsExpr, AreCallArgs, IsCallArg, mentions, args_mentions, arg_mentions, refs_of};
 
 use carte_tree::{Arg, Args, Chain, Expr, refs};
-use carte_value::{Name, Names, NoMemory};
+use carte_value::{Name, Names, NoMemory, Seeded};
 use std::alloc::Global;
 
 /// The most names that are told apart one by one.
@@ -23,14 +23,14 @@ impl From<NoMemory> for NotFew {
 }
 
 /// The names that a formula refers to, as `refs` has them. Most formulas refer to few, and for these there is no set.
-pub(crate) fn references(alloc: Global, formula: &Expr) -> Result<Names, NoMemory>
+pub(crate) fn references(alloc: Global, formula: &Expr, hasher: Seeded) -> Result<Names, NoMemory>
     requires { IsExpr (tree_of formula.now) }
     ensures { IfOk result (λ ks. ks ≡ refs_of (tree_of formula.now)) }
 {
     let mut seen = Names::new(alloc);
     match see_expr(alloc, formula, &mut seen) {
         Ok(()) => Ok(seen),
-        Err(NotFew) => refs(alloc, formula),
+        Err(NotFew) => refs(alloc, formula, hasher),
     }
 }
 

@@ -10,7 +10,7 @@ ghost use Rattle.carte_topo.specs.declared.walk.Stop.TheVariants.{NoMemory as St
 use crate::references::references;
 use carte_book::{Book, Looked, Reason};
 use carte_tree::is_static;
-use carte_value::{Name, Names, NoMemory};
+use carte_value::{Name, Names, NoMemory, Seeded};
 use indexmap::IndexMap;
 use std::alloc::Global;
 use std::collections::VecDeque;
@@ -29,6 +29,9 @@ pub(crate) enum Stage {
     OnPath,
     Passed,
 }
+
+/// Of each rule that was met how far the walk is with it.
+pub(crate) type Stages = IndexMap<Name, Stage, Seeded>;
 
 /// Why a walk ended before its end. `Dynamic` says that a dynamic rule was met.
 #[derive(Drop)]
@@ -50,7 +53,7 @@ impl From<NoMemory> for Stop {
 #[derive(Drop)]
 pub(crate) struct Walk {
     /// The rules that aren't unvisited, and nothing else.
-    pub(crate) stages: IndexMap<Name, Stage>,
+    pub(crate) stages: Stages,
     /// Its newest rule stands first.
     pub(crate) path: VecDeque<Frame>,
     /// In the order in which they were done.
@@ -110,7 +113,7 @@ impl Walk {
                 if !is_static(formula) {
                     return Err(Stop::Dynamic);
                 }
-                let refs = references(alloc, formula)?;
+                let refs = references(alloc, formula, book.hasher())?;
                 self.push(Frame { name, refs, at: 0 })
             }
             Looked::Input(_) => unreachable!(),

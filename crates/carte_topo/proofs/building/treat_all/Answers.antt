@@ -14,9 +14,9 @@ loop-at-init g c = record {
   book = c.new-bench.ensures.book;
   no_jobs = λ q. ap job_in (c.new-bench.ensures.empty q);
   unknown = λ q apart. c.new-bench.ensures.empty q;
-  chain = c.new-work.ensures.chain;
-  count = ap length c.new-work.ensures.finished;
-  so_far = λ given. none_so_far g.R.Job.Job.fits (g.R.Rebuilder.how c.args.rebuilder.now) (kept_view c.args.kept.now) (book_view c.args.book.now) (spots_of c.new-bench.result) c.args.names.now c.new-work.result c.new-bench.ensures.empty c.new-work.ensures.finished c.new-work.ensures.runs;
+  chain = (c.in_ok-work.ensures {u = tt}).chain;
+  count = ap length (c.in_ok-work.ensures {u = tt}).finished;
+  so_far = λ given. none_so_far g.R.Job.Job.fits (g.R.Rebuilder.how c.args.rebuilder.now) (kept_view c.args.kept.now) (book_view c.args.book.now) (spots_of c.new-bench.result) c.args.names.now c.in_ok-work.work c.new-bench.ensures.empty (c.in_ok-work.ensures {u = tt}).finished (c.in_ok-work.ensures {u = tt}).runs;
 }
 
 pub treat-requires-clause-is_rule : goal.treat-requires-clause-is_rule
@@ -35,7 +35,7 @@ returns-in_err-treat g c =
     let names = c.args.names.now in
     let here = reads_at names c.loop-at.at c.index-names-at.result (omega arith) c.index-names-at.is in
     let next = next_at (book_view c.args.book.now) [] names c.loop-at.at c.index-names-at.result here c.requires.in_order in
-    let p = err_from_is_err_and c.from_residual.result c.from_residual.ensures.1 in
+    let p = err_from_is_err_and c.from_residual-in_err-treat.result c.from_residual-in_err-treat.ensures.1 in
     rw (p.1, p.2) (stops_so g.R.Job.Job.fits (g.R.Rebuilder.how c.args.rebuilder.now) (kept_view c.args.kept.now) (book_view c.args.book.now) (spots_of c.loop-at.bench) (spots_of c.treat.new.bench) (take c.loop-at.at names) names c.loop-at.work c.treat.new.work c.index-names-at.result c.in_err-treat.field-0.0 (c.in_err-treat.ensures {u = tt}).advances next c.loop-at.invariant.so_far)
 
 pub loop-at-preserved : goal.loop-at-preserved
