@@ -19,7 +19,7 @@ use carte_note::{Finished, Method, note_finished};
 use carte_rebuild::{Rebuilder, Tries};
 use carte_record::{Batch, Entry, Kept};
 use carte_task::Check;
-use carte_value::{Links, Name, NoMemory, Value};
+use carte_value::{Links, Name, NoMemory, SharedLinks, Value};
 use std::alloc::Global;
 
 /// Reuses the result that a key has at last, where nothing beneath it has changed.
@@ -49,7 +49,8 @@ fn kept_checks(alloc: Global, kept: &Kept, key: &Name) -> Result<Vec<Check>, NoM
     let mut checks = Vec::new(alloc);
     if let Some(value) = fresh_value(kept, key) {
         let value = Hashed::unhashed(value.copy(alloc)?);
-        checks.push(Check::start(alloc, key, &Links::new(alloc), value)?)?;
+        let links = SharedLinks::of(alloc, Links::new(alloc))?;
+        checks.push(Check::start(alloc, key, &links, value)?)?;
     }
     Ok(checks)
 }

@@ -11,7 +11,7 @@ use std::alloc::Global;
 pub(crate) fn clearing(alloc: Global, state: &State) -> Batch
     ensures { result ≡ clearing state.now }
 {
-    let mut batch = Batch::new(alloc);
+    let mut batch = Batch::new(alloc, state.kept().hasher());
     if !is_bare(state.kept()) {
         batch.start = Start::Cleared;
     }

@@ -55,9 +55,9 @@ fn made<R: Rebuilder>(
     ensures plans { let b = book_view book.now in let h = R.how rebuilder.now in (K : SomeKept) → BeginsWith K b begun.now (kept_view base.now) → IfOk result (Plans h K b begun.now.marks finished.now) }
 {
     if brings_nothing(begun, finished) {
-        return Ok(Batch::new(alloc));
+        return Ok(Batch::new(alloc, book.hasher()));
     }
-    let mut batch = opened(alloc, begun, rules, finished)?;
+    let mut batch = opened(alloc, begun, rules, book, finished)?;
     note_all(alloc, rebuilder, base, book, finished, &mut batch)?;
     Ok(batch)
 }
@@ -74,11 +74,12 @@ fn opened(
     alloc: Global,
     begun: &Begun,
     rules: Digest,
+    book: &Book,
     finished: &FinishedList,
 ) -> Result<Batch, NoMemory>
     ensures { IfOk result (λ batch. batch ≡ opening (if begun.now.same then GoOn else Anew rules) (marks_left (finishes_of finished.now) begun.now.marks)) }
 {
-    let mut batch = Batch::new(alloc);
+    let mut batch = Batch::new(alloc, book.hasher());
     batch.start = start(begun.same, rules);
     batch.stale = marks_left(alloc, &begun.marks, finished)?;
     Ok(batch)
