@@ -10,7 +10,7 @@ ghost use Rattle.carte_record.specs.Growth.{TakesEntries};
 ghost use Rattle.carte_record.specs.declared.entry.Entry.{Entry as SomeEntry};
 
 use crate::Entry;
-use crate::table::{Table, each_once, first, forget, place, push, set};
+use crate::table::{Table, each_once, first, forget, place, push, set, widen};
 use carte_value::{Name, Names, NoMemory, Same, Seeded};
 use std::alloc::Global;
 use std::marker::Model;
@@ -48,6 +48,28 @@ impl Entries {
             entries: Vec::new(alloc),
             places: Table::with_hasher(alloc, hasher),
         }
+    }
+
+    /// The empty list with room for so many entries, so that these take no more memory than they need.
+    pub(crate) fn with_room(
+        alloc: Global,
+        count: usize,
+        hasher: Seeded,
+    ) -> Result<Entries, NoMemory>
+        ensures { IfOk result (λ list. list ≡ []) }
+    {
+        Ok(Entries {
+            alloc,
+            entries: Vec::with_capacity(alloc, count)?,
+            places: Table::with_capacity_and_hasher(alloc, count, hasher)?,
+        })
+    }
+
+    // Room for so many entries more at once, where it has few beside these.
+    fn widen(&mut self, more: usize)
+        ensures { self.new ≡ self.old }
+    {
+        widen(&mut self.entries, more);
     }
 
     /// How many entries there are.
@@ -162,6 +184,7 @@ impl Entries {
         ensures ok { OnOk result (HasRoom is_entry_of later.now self.old self.new) }
         ensures front { Begins self.old self.new }
     {
+        self.widen(later.len());
         for entry in later.entries.iter() {
             self.make_room_for(entry)?;
         }
@@ -206,7 +229,7 @@ impl Entries {
     pub fn copy(&self, alloc: Global) -> Result<Entries, NoMemory>
         ensures { IfOk result (λ copy. copy ≡ self.now) }
     {
-        let mut entries = Entries::new(alloc, *self.places.hasher());
+        let mut entries = Entries::with_room(alloc, self.len(), *self.places.hasher())?;
         for entry in self.entries.iter() {
             entries.push(entry.same(alloc)?)?;
         }

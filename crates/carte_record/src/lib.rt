@@ -14,6 +14,10 @@
 //! begins with is never held twice.
 //!
 //! Keys are copied into the tables. A batch may name a key twice; the later one counts.
+//!
+//! What is kept is most of what a build holds between builds, so lists have about the room that they need: what is read
+//! from bytes grows as items come and gives back the rest, and a long list grows by an eighth of itself. The tables'
+//! hasher begins with a seed, which comes from the caller.
 #![tactic(auto)]
 
 mod apply;

@@ -3,7 +3,7 @@ ghost use Rattle.carte_record.specs.Lookups.{first_link, is_link_of};
 ghost use Rattle.carte_record.specs.Changes.{change_first, front};
 ghost use Rattle.carte_record.specs.Steps.{Begins, Replaces, HasRoomFor, HasRoom, CanBecome, IsReady, TakesIn};
 
-use crate::table::{Table, each_once, first, forget, place, push, set};
+use crate::table::{Table, each_once, first, forget, place, push, set, widen};
 use carte_value::{Digest, Link, Name, NoMemory, Same, Seeded};
 use std::alloc::Global;
 use std::marker::Model;
@@ -42,6 +42,24 @@ impl Seen {
             links: Vec::new(alloc),
             places: Table::with_hasher(alloc, hasher),
         }
+    }
+
+    /// The empty list with room for so many links, so that these take no more memory than they need.
+    pub(crate) fn with_room(alloc: Global, count: usize, hasher: Seeded) -> Result<Seen, NoMemory>
+        ensures { IfOk result (λ list. list ≡ []) }
+    {
+        Ok(Seen {
+            alloc,
+            links: Vec::with_capacity(alloc, count)?,
+            places: Table::with_capacity_and_hasher(alloc, count, hasher)?,
+        })
+    }
+
+    // Room for so many links more at once, where it has few beside these.
+    fn widen(&mut self, more: usize)
+        ensures { self.new ≡ self.old }
+    {
+        widen(&mut self.links, more);
     }
 
     /// Where its memory comes from.
@@ -145,6 +163,7 @@ impl Seen {
         ensures ok { OnOk result (HasRoom is_link_of later.now self.old self.new) }
         ensures front { Begins self.old self.new }
     {
+        self.widen(later.len());
         for link in later.links.iter() {
             self.make_room_for(link)?;
         }
@@ -182,7 +201,7 @@ impl Seen {
     pub fn copy(&self, alloc: Global) -> Result<Seen, NoMemory>
         ensures { IfOk result (λ copy. copy ≡ self.now) }
     {
-        let mut seen = Seen::new(alloc, self.hasher());
+        let mut seen = Seen::with_room(alloc, self.len(), self.hasher())?;
         for link in self.links.iter() {
             seen.push(link.same(alloc)?)?;
         }

@@ -6,7 +6,7 @@ ghost use Rattle.carte_value.specs.declared.digest.Digest.{Digest as SomeDigest}
 ghost use Rattle.std.specs.Option.{option_or};
 ghost use Rattle.carte_record.specs.Steps.{Begins};
 
-use crate::table::{Table, first, forget, push};
+use crate::table::{Table, first, forget, make_place, push, widen};
 use carte_value::{Digest, NoMemory, Seeded, Value};
 use std::alloc::Global;
 use std::marker::Model;
@@ -46,6 +46,25 @@ impl Store {
             digests: Vec::new(alloc),
             places: Table::with_hasher(alloc, hasher),
         }
+    }
+
+    /// The empty list with room for so many values, so that these take no more memory than they need.
+    pub(crate) fn with_room(alloc: Global, count: usize, hasher: Seeded) -> Result<Store, NoMemory>
+        ensures { IfOk result (λ list. list ≡ []) }
+    {
+        Ok(Store {
+            values: Vec::with_capacity(alloc, count)?,
+            digests: Vec::with_capacity(alloc, count)?,
+            places: Table::with_capacity_and_hasher(alloc, count, hasher)?,
+        })
+    }
+
+    // Room for so many values more at once, where it has few beside these.
+    fn widen(&mut self, more: usize)
+        ensures { self.new ≡ self.old }
+    {
+        widen(&mut self.values, more);
+        widen(&mut self.digests, more);
     }
 
     /// How many values there are.
@@ -100,6 +119,7 @@ impl Store {
             *self = later;
             return Ok(());
         }
+        self.widen(later.len());
         let digests = later.digests;
         let mut at = 0;
         for value in later.values {
@@ -144,7 +164,7 @@ impl Store {
     pub fn copy(&self, alloc: Global) -> Result<Store, NoMemory>
         ensures { IfOk result (λ copy. copy ≡ self.now) }
     {
-        let mut store = Store::new(alloc, *self.places.hasher());
+        let mut store = Store::with_room(alloc, self.len(), *self.places.hasher())?;
         for at in 0..self.values.len() {
             store.push_with(self.values[at].copy(alloc)?, self.digests[at])?;
         }
@@ -164,7 +184,7 @@ impl Store {
         requires { digest ≡ digest_of value }
         ensures { self.new ≡ (if is_ok result then self.old ++ value ∷ [] else self.old) }
     {
-        self.digests.reserve(1)?;
+        make_place(&mut self.digests)?;
         push(&mut self.values, &mut self.places, digest.0, value)?;
         self.digests.push_reserved(digest);
         Ok(())

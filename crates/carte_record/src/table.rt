@@ -1,5 +1,5 @@
 //! Tables from keys to places in a list.
-ghost use Rattle.std.specs.Prelude.{◌≡◌, ◌<◌, ◌^◌, ◌++◌, ◌∷◌, [], Bool, None, Some, IsTrue, ◌↔◌, length, map, find, slice_get, option_copied, is_ok, OnOk, OnErr, if◌then◌else◌};
+ghost use Rattle.std.specs.Prelude.{◌≡◌, ◌<◌, ◌^◌, ◌++◌, ◌∷◌, [], Bool, None, Some, IsTrue, ◌↔◌, length, map, find, slice_get, option_copied, is_ok, OnOk, OnErr, vec_len, vec_capacity, if◌then◌else◌};
 ghost use Rattle.std.specs.HashMap.{get};
 ghost use Rattle.std.specs.List.{IsDistinct};
 ghost use Rattle.carte_record.specs.Places.{first_place, IsFirstPlaces, AddsPlace, ForgetsPlace};
@@ -15,6 +15,34 @@ pub(crate) type Table<K, V> = HashMap<K, V, Seeded>;
 
 /// The most items that a list has.
 pub(crate) const MOST: usize = 4294967295;
+
+/// From how many items on a list grows by less than doubling.
+const LONG: usize = 1024;
+
+/// Makes room at once for so many more items, where the list is short beside them: then it takes just what it needs. A
+/// longer one grows as items come, since else each of many small batches would copy it. Where there is no memory for the
+/// room, putting an item behind the others says so.
+pub(crate) fn widen<T>(items: &mut Vec<T>, more: usize)
+    ensures { items.new.items ≡ items.old.items }
+{
+    if items.len() < more / 2 {
+        let _room = items.reserve_exact(more);
+    }
+}
+
+/// Makes a place for one more item. A long list that is full grows by an eighth of itself and isn't doubled: what was
+/// loaded takes just what it needs, and one item more would make it twice that.
+pub(crate) fn make_place<T>(items: &mut Vec<T>) -> Result<(), NoMemory>
+    ensures items { items.new.items ≡ items.old.items }
+    ensures ok { OnOk result (vec_len items.new < vec_capacity items.new) }
+{
+    let len = items.len();
+    if len >= LONG && len == items.capacity() {
+        let _room = items.reserve_exact(len / 8);
+    }
+    items.reserve(1)?;
+    Ok(())
+}
 
 /// The first item of a key.
 pub(crate) fn first<'a, K: Eq + Hash, T>(
@@ -98,7 +126,7 @@ pub(crate) fn push<K: Eq + Hash + Drop, T: Drop>(
     if at >= MOST {
         return Err(NoMemory);
     }
-    items.reserve(1)?;
+    make_place(items)?;
     add(table, key, at as u32)?;
     items.push_reserved(item);
     Ok(())

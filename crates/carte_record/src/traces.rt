@@ -3,14 +3,14 @@ ghost use Rattle.std.specs.Prelude.{ℕ, OnOk, OnErr};
 ghost use Rattle.std.specs.HashMap.{get};
 ghost use Rattle.carte_value.specs.Names.{name_eq};
 ghost use Rattle.carte_record.specs.Lookups.{is_trace_of};
-ghost use Rattle.carte_record.specs.Places.{places, AddsToPlaces, DropsPlace};
+ghost use Rattle.carte_record.specs.Places.{places, ArePlaces, AddsToPlaces, DropsPlace};
 ghost use Rattle.carte_record.specs.Changes.{front};
 ghost use Rattle.carte_record.specs.Steps.{Begins};
 ghost use Rattle.carte_record.specs.KeyPlaces.{places_in};
 
 use crate::Trace;
 use crate::places::Places;
-use crate::table::{MOST, Table};
+use crate::table::{MOST, Table, make_place, widen};
 use carte_value::{Name, NoMemory, Same, Seeded};
 use std::alloc::Global;
 use std::marker::Model;
@@ -49,6 +49,41 @@ impl Traces {
             traces: Vec::new(alloc),
             places: Table::with_hasher(alloc, hasher),
         }
+    }
+
+    /// The empty list with room for so many traces, so that these take no more memory than they need.
+    pub(crate) fn with_room(alloc: Global, count: usize, hasher: Seeded) -> Result<Traces, NoMemory>
+        ensures { IfOk result (λ list. list ≡ []) }
+    {
+        Ok(Traces {
+            alloc,
+            traces: Vec::with_capacity(alloc, count)?,
+            places: Table::with_capacity_and_hasher(alloc, count, hasher)?,
+        })
+    }
+
+    /// These traces, with their places in a table.
+    pub(crate) fn with_places(
+        alloc: Global,
+        traces: Vec<Trace>,
+        hasher: Seeded,
+    ) -> Result<Traces, NoMemory>
+        requires { length traces.items < 2 ^ 32 }
+        ensures { IfOk result (λ list. list ≡ traces.items) }
+    {
+        let places = places_of_all(alloc, traces.as_slice(), hasher)?;
+        Ok(Traces {
+            alloc,
+            traces,
+            places,
+        })
+    }
+
+    // Room for so many traces more at once, where it has few beside these.
+    fn widen(&mut self, more: usize)
+        ensures { self.new ≡ self.old }
+    {
+        widen(&mut self.traces, more);
     }
 
     /// How many traces there are.
@@ -98,6 +133,7 @@ impl Traces {
             *self = later;
             return Ok(());
         }
+        self.widen(later.len());
         for trace in later.traces {
             self.push(trace)?;
         }
@@ -125,7 +161,7 @@ impl Traces {
     pub fn copy(&self, alloc: Global) -> Result<Traces, NoMemory>
         ensures { IfOk result (λ copy. copy ≡ self.now) }
     {
-        let mut traces = Traces::new(alloc, *self.places.hasher());
+        let mut traces = Traces::with_room(alloc, self.len(), *self.places.hasher())?;
         for trace in self.traces.iter() {
             traces.push(trace.same(alloc)?)?;
         }
@@ -141,11 +177,27 @@ impl Traces {
             return Err(NoMemory);
         }
         let key = trace.key.copy(self.alloc)?;
-        self.traces.reserve(1)?;
+        make_place(&mut self.traces)?;
         add(self.alloc, &mut self.places, key, at as u32)?;
         self.traces.push_reserved(trace);
         Ok(())
     }
+}
+
+fn places_of_all(
+    alloc: Global,
+    traces: &[Trace],
+    hasher: Seeded,
+) -> Result<Table<Name, Places>, NoMemory>
+    requires { length traces.now < 2 ^ 32 }
+    ensures { IfOk result (λ table. ArePlaces is_trace_of traces.now (λ q. places_in (get name_eq table q))) }
+{
+    let mut table = Table::with_capacity_and_hasher(alloc, traces.len(), hasher)?;
+    for at in 0..traces.len() {
+        let key = traces[at].key.copy(alloc)?;
+        add(alloc, &mut table, key, at as u32)?;
+    }
+    Ok(table)
 }
 
 fn add(alloc: Global, table: &mut Table<Name, Places>, key: Name, at: u32) -> Result<(), NoMemory>

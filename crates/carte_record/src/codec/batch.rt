@@ -117,11 +117,7 @@ impl Batch {
     }
 
     /// The batch whose bytes these are, and none where they are no batch's.
-    pub fn decode(
-        alloc: Global,
-        bytes: &[u8],
-        hasher: Seeded,
-    ) -> Result<Option<Batch>, NoMemory>
+    pub fn decode(alloc: Global, bytes: &[u8], hasher: Seeded) -> Result<Option<Batch>, NoMemory>
         ensures { IsDecoded bytes.now result }
     {
         match Batch::read(alloc, bytes, hasher) {

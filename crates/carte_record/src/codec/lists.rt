@@ -25,8 +25,9 @@ impl Store {
     pub(crate) fn of(alloc: Global, values: Plain<Value>, hasher: Seeded) -> Result<Store, NoMemory>
         ensures { IfOk result (λ list. list ≡ values) }
     {
-        let mut list = Store::new(alloc, hasher);
-        for value in values.into_items() {
+        let values = values.into_items();
+        let mut list = Store::with_room(alloc, values.len(), hasher)?;
+        for value in values {
             list.push(value)?;
         }
         Ok(list)
@@ -47,8 +48,9 @@ impl Seen {
     pub(crate) fn of(alloc: Global, links: Plain<Link>, hasher: Seeded) -> Result<Seen, NoMemory>
         ensures { IfOk result (λ list. list ≡ links) }
     {
-        let mut list = Seen::new(alloc, hasher);
-        for link in links.into_items() {
+        let links = links.into_items();
+        let mut list = Seen::with_room(alloc, links.len(), hasher)?;
+        for link in links {
             list.push(link)?;
         }
         Ok(list)
@@ -66,11 +68,16 @@ impl Entries {
     }
 
     /// The list of entries that were read.
-    pub(crate) fn of(alloc: Global, entries: Plain<Entry>, hasher: Seeded) -> Result<Entries, NoMemory>
+    pub(crate) fn of(
+        alloc: Global,
+        entries: Plain<Entry>,
+        hasher: Seeded,
+    ) -> Result<Entries, NoMemory>
         ensures { IfOk result (λ list. list ≡ entries) }
     {
-        let mut list = Entries::new(alloc, hasher);
-        for entry in entries.into_items() {
+        let entries = entries.into_items();
+        let mut list = Entries::with_room(alloc, entries.len(), hasher)?;
+        for entry in entries {
             list.push(entry)?;
         }
         Ok(list)
@@ -87,14 +94,14 @@ impl Traces {
         write_list(self.as_slice(), out)
     }
 
-    /// The list of traces that were read.
-    pub(crate) fn of(alloc: Global, traces: Plain<Trace>, hasher: Seeded) -> Result<Traces, NoMemory>
+    /// The list of traces that were read: it is theirs, with a table beside it.
+    pub(crate) fn of(
+        alloc: Global,
+        traces: Plain<Trace>,
+        hasher: Seeded,
+    ) -> Result<Traces, NoMemory>
         ensures { IfOk result (λ list. list ≡ traces) }
     {
-        let mut list = Traces::new(alloc, hasher);
-        for trace in traces.into_items() {
-            list.push(trace)?;
-        }
-        Ok(list)
+        Traces::with_places(alloc, traces.into_items(), hasher)
     }
 }

@@ -1,4 +1,4 @@
-ghost use Rattle.std.specs.Prelude.{◌≡◌};
+ghost use Rattle.std.specs.Prelude.{◌≡◌, ◌<◌, ◌^◌, length};
 ghost use Rattle.carte_codec.specs.Each.{EachFits};
 ghost use Rattle.carte_codec.specs.Parts.{spelled_list, FitsList};
 ghost use Rattle.carte_codec.specs.Laws.{list_one};
@@ -32,7 +32,8 @@ impl<T> Model for Plain<T> {
 impl<T: Drop> Plain<T> {
     /// The items.
     pub(crate) fn into_items(self) -> Vec<T>
-        ensures { result.items ≡ self }
+        ensures items { result.items ≡ self }
+        ensures bound { length result.items < 2 ^ 32 }
     {
         self.items
     }
@@ -59,7 +60,8 @@ impl<T: Drop> ListOf<T> for Plain<T> {
     }
 }
 
-/// How many there are, and each in order.
+/// How many there are, and each in order. What was read grew by doubling, since a count isn't believed before its items
+/// are there; then it gives the room back that it doesn't need.
 impl<T: Spelled + Drop> Spelled for Plain<T> {
     ghost spelling = { spelled_list T.spelling };
 
@@ -72,7 +74,9 @@ impl<T: Spelled + Drop> Spelled for Plain<T> {
     }
 
     fn read(alloc: Global, bytes: &[u8]) -> Result<(Plain<T>, &[u8]), Unread> {
-        read_list(alloc, bytes)
+        let (mut list, rest): (Plain<T>, &[u8]) = read_list(alloc, bytes)?;
+        list.items.shrink_to_fit();
+        Ok((list, rest))
     }
 
     ghost one_spelling = { list_one T.one_spelling };

@@ -12,7 +12,7 @@ loop-entry-preserved c =
     let below : at < length items = search rules in
     let more = take_more items at c.entry-item.result below ∙ ap (λ x. take at items ++ x ∷ []) (sym c.entry-item.is) in
     let room = (c.in_ok-make_room_for.ensures {u = tt}).ok in (
-      subst (λ xs. HasRoom is_entry_of xs c.args.self.now c.make_room_for.new.self) (sym more)
-          (more_room (λ x. x.key) (take at items) c.args.self.now c.loop-entry.self c.make_room_for.new.self c.entry-item.result c.loop-entry.invariant.0 room),
-      begins_on c.args.self.now c.loop-entry.self c.make_room_for.new.self c.loop-entry.invariant.1 (room_begins (λ x. x.key) c.loop-entry.self c.make_room_for.new.self c.entry-item.result.key room),
+      subst (λ xs. HasRoom is_entry_of xs c.widen.new.self c.make_room_for.new.self) (sym more)
+          (more_room (λ x. x.key) (take at items) c.widen.new.self c.loop-entry.self c.make_room_for.new.self c.entry-item.result c.loop-entry.invariant.0 room),
+      begins_on c.widen.new.self c.loop-entry.self c.make_room_for.new.self c.loop-entry.invariant.1 (room_begins (λ x. x.key) c.loop-entry.self c.make_room_for.new.self c.entry-item.result.key room),
     )

@@ -12,7 +12,7 @@ loop-link-preserved c =
     let below : at < length items = search rules in
     let more = take_more items at c.link-item.result below ∙ ap (λ x. take at items ++ x ∷ []) (sym c.link-item.is) in
     let room = (c.in_ok-make_room_for.ensures {u = tt}).ok in (
-      subst (λ xs. HasRoom is_link_of xs c.args.self.now c.make_room_for.new.self) (sym more)
-          (more_room (λ x. x.name) (take at items) c.args.self.now c.loop-link.self c.make_room_for.new.self c.link-item.result c.loop-link.invariant.0 room),
-      begins_on c.args.self.now c.loop-link.self c.make_room_for.new.self c.loop-link.invariant.1 (room_begins (λ x. x.name) c.loop-link.self c.make_room_for.new.self c.link-item.result.name room),
+      subst (λ xs. HasRoom is_link_of xs c.widen.new.self c.make_room_for.new.self) (sym more)
+          (more_room (λ x. x.name) (take at items) c.widen.new.self c.loop-link.self c.make_room_for.new.self c.link-item.result c.loop-link.invariant.0 room),
+      begins_on c.widen.new.self c.loop-link.self c.make_room_for.new.self c.loop-link.invariant.1 (room_begins (λ x. x.name) c.loop-link.self c.make_room_for.new.self c.link-item.result.name room),
     )

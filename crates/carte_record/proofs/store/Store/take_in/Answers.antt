@@ -12,6 +12,6 @@ loop-value-preserved c =
     let put = c.in_ok-put.ensures {u = tt} in (
       omega (arith, before.0, length-append c.loop-value.yielded (c.in-Some.value ∷ [])),
       λ d. put.ok d ∙ (ap (λ o. option_or o (if is_value_of d c.in-Some.value then Some c.in-Some.value else None)) (before.1 d)
-          ∙ (or_twice (first_value c.args.self.now d) (first_value c.loop-value.yielded d) _ ∙ ap (option_or (first_value c.args.self.now d)) (sym (find_end (is_value_of d) c.loop-value.yielded c.in-Some.value)))),
-      begins_on c.args.self.now c.loop-value.self c.put.new.self before.2 put.front,
+          ∙ (or_twice (first_value c.widen.new.self d) (first_value c.loop-value.yielded d) _ ∙ ap (option_or (first_value c.widen.new.self d)) (sym (find_end (is_value_of d) c.loop-value.yielded c.in-Some.value)))),
+      begins_on c.widen.new.self c.loop-value.self c.put.new.self before.2 put.front,
     )

@@ -1,0 +1,22 @@
+use Rattle.std.proofs.Common.{◌≡◌, ◌<◌, [], ◌∷◌, ◌++◌, length, take, subst, ap, sym, ◌∙◌, rules}
+use Rattle.std.specs.HashMap.{get}
+use Rattle.std.proofs.lemmas.List.{take_more}
+use Rattle.carte_value.specs.Names.{name_eq}
+use Rattle.carte_record.specs.Lookups.{is_trace_of}
+use Rattle.carte_record.specs.Places.{ArePlaces}
+use Rattle.carte_record.specs.KeyPlaces.{places_in}
+use Rattle.carte_record.proofs.Names.{name_eq_sym}
+use Rattle.carte_record.proofs.AllPlaces.{places_added}
+use Rattle.carte_record.proofs.traces.places_of_all.Goals as goal
+
+pub loop-at-preserved : goal.loop-at-preserved
+loop-at-preserved c =
+    let traces = c.args.traces.now in
+    let at = c.loop-at.at in
+    let trace = c.index-traces-at.result in
+    let below : at < length traces = search rules in
+    let more = take_more traces at trace below ∙ ap (λ t. take at traces ++ t ∷ []) (sym c.index-traces-at.is) in
+    let end : at ≡ length (take at traces) = search rules in
+    subst (λ xs. ArePlaces is_trace_of xs (λ q. places_in (get name_eq c.add.new.table q))) (sym more)
+    (places_added name_eq is_trace_of (take at traces) trace c.in_ok-key.key (λ q. places_in (get name_eq c.loop-at.table q)) (λ q. places_in (get name_eq c.add.new.table q)) at end
+    (λ q. name_eq_sym q trace.key ∙ ap (λ t. name_eq t.key q) c.index-traces-at.is ∙ sym (ap (λ k. name_eq k q) (c.in_ok-key.ensures {u = tt}))) c.loop-at.invariant ((c.in_ok-add.ensures {u = tt}).ok))
