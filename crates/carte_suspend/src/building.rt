@@ -31,7 +31,7 @@ pub fn build<R: Rebuilder>(
     ensures { IfOk result (EndsSuspending (R.how rebuilder.now) (kept_view kept.now) (book_view book.now) targets.now) }
 {
     let mut bench = Bench::new(alloc, book);
-    let mut work = Work::new(alloc);
+    let mut work = Work::new(alloc, book.hasher());
     treat_all(
         alloc,
         rebuilder,
