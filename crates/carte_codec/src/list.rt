@@ -9,8 +9,12 @@ use crate::{Spelled, Unread};
 use carte_value::NoMemory;
 use std::alloc::Global;
 
-/// The most items that a list gets room for before any is read.
+/// So many items get room before any is read, whatever bytes there are.
 const FEW: usize = 16;
+
+/// Beyond them, one item for so many bytes that are left: about what an entry or a trace takes. A count that is wrong then
+/// takes little more memory than its bytes.
+const BYTES_AN_ITEM: usize = 64;
 
 /// A list that grows at its end, whatever it has beside its items.
 pub trait ListOf<T>: Sized {
@@ -53,8 +57,8 @@ fn write_items<T: Spelled>(items: &[T], out: &mut Vec<u8>) -> Result<(), NoMemor
     Ok(())
 }
 
-/// The list that the bytes begin with, and the bytes behind it. A short one has no more room than it needs; a longer one
-/// takes memory as items come, whatever the count says.
+/// The list that the bytes begin with, and the bytes behind it. It has no more room than it needs where it is short or its
+/// items are long; else it takes memory as items come, whatever the count says.
 pub fn read_list<T: Spelled + Drop, L: ListOf<T> + Drop>(
     alloc: Global,
     bytes: &[u8],
@@ -73,7 +77,7 @@ fn read_items<T: Spelled + Drop, L: ListOf<T> + Drop>(
 ) -> Result<(L, &[u8]), Unread>
     ensures { IsRead (λ list. flat_map T.spelling (L.items list)) (λ list. FitsMany T.fits count (L.items list)) (λ x. (x.0, x.1.now)) bytes.now result }
 {
-    let mut list = L::empty(alloc, count.min(FEW))?;
+    let mut list = L::empty(alloc, count.min(FEW.max(bytes.len() / BYTES_AN_ITEM)))?;
     let mut rest = bytes;
     for _at in 0..count {
         match T::read(alloc, rest) {

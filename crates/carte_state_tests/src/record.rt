@@ -3,7 +3,7 @@
 mod bytes;
 
 use carte_record::{Seen, Store, Trace, Traces};
-use carte_value::{Digest, Link, Links, Name, NoMemory, Value};
+use carte_value::{Digest, Link, Links, Name, NoMemory, Seeded, Value};
 use std::alloc::Global;
 use std::test::Fail;
 
@@ -13,7 +13,7 @@ fn number(value: i64) -> Digest {
 
 /// The inputs a, b and a again were 1, 2 and 3.
 fn seen(alloc: Global) -> Result<Seen, Fail> {
-    let mut seen = Seen::new(alloc);
+    let mut seen = Seen::new(alloc, Seeded::of(7));
     for (text, value) in [("a", 1), ("b", 2), ("a", 3)] {
         let name = Name::rule(alloc, text)?;
         let digest = number(value);
@@ -35,7 +35,7 @@ fn put(store: &mut Store, value: Value) -> Result<(), NoMemory> {
 
 /// Nothing and 7.
 fn store(alloc: Global) -> Result<Store, NoMemory> {
-    let mut store = Store::new(alloc);
+    let mut store = Store::new(alloc, Seeded::of(7));
     store.push(Value::Empty)?;
     put(&mut store, Value::Number(7))?;
     store.copy(alloc)
@@ -59,7 +59,7 @@ fn lists_find_the_first(rt: HostRuntime) -> Result<(), Fail> {
 
 /// Traces of a, b, a and a.
 fn traces(alloc: Global) -> Result<Traces, Fail> {
-    let mut traces = Traces::new(alloc);
+    let mut traces = Traces::new(alloc, Seeded::of(7));
     for key in ["a", "b", "a", "a"] {
         let key = Name::rule(alloc, key)?;
         let links = Links::new(alloc);

@@ -16,17 +16,17 @@ use std::test::Fail;
 fn number_batch(alloc: Global, start: Start, number: i64) -> Result<Batch, NoMemory>
     ensures { IfOk result (λ batch. EachFits IsUnmarked batch.entries) }
 {
-    let mut values = Store::new(alloc);
+    let mut values = Store::new(alloc, Seeded::of(7));
     values.push(Value::Number(number))?;
     Ok(Batch {
         start,
         values,
-        seen: Seen::new(alloc),
+        seen: Seen::new(alloc, Seeded::of(7)),
         stale: Names::new(alloc),
-        entries: Entries::new(alloc),
-        verifying: Traces::new(alloc),
-        constructive: Traces::new(alloc),
-        deep: Traces::new(alloc),
+        entries: Entries::new(alloc, Seeded::of(7)),
+        verifying: Traces::new(alloc, Seeded::of(7)),
+        constructive: Traces::new(alloc, Seeded::of(7)),
+        deep: Traces::new(alloc, Seeded::of(7)),
         chain: None,
     })
 }

@@ -1,7 +1,7 @@
 //! A batch as bytes.
 
 use carte_record::Batch;
-use carte_value::{Digest, NoMemory, Value};
+use carte_value::{Digest, NoMemory, Seeded, Value};
 use std::alloc::Global;
 use std::test::Fail;
 
@@ -31,7 +31,7 @@ fn small(alloc: Global) -> Result<Vec<u8>, NoMemory> {
 
 /// What the bytes are written as where they are a batch, and else nothing.
 fn again(alloc: Global, body: &[u8]) -> Result<Vec<u8>, NoMemory> {
-    match Batch::decode(alloc, body)? {
+    match Batch::decode(alloc, body, Seeded::of(7))? {
         Some(batch) => batch.encode(alloc),
         None => Ok(Vec::new(alloc)),
     }
@@ -88,7 +88,7 @@ fn has_b1(batch: &Batch) -> bool {
 /// What the batch of the small example has.
 fn found(alloc: Global) -> Result<[bool; 5], NoMemory> {
     let body = small(alloc)?;
-    match Batch::decode(alloc, body.as_slice())? {
+    match Batch::decode(alloc, body.as_slice(), Seeded::of(7))? {
         Some(batch) => Ok(told(&batch)),
         None => Ok([false; 5]),
     }
