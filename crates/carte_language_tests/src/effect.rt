@@ -7,7 +7,7 @@ use carte_effect::{
     Answers, Digests, Each, Effect, Ended, FetchList, Hashed, Made, RefsOnly, Snapshot, Stuck,
     Tracked,
 };
-use carte_value::{Links, Name, Names, NoMemory, Seeded};
+use carte_value::{Links, Name, Names, NoMemory, Seeded, SharedLinks};
 use std::alloc::Global;
 use std::test::Fail;
 
@@ -76,7 +76,8 @@ fn first_byte(
     let of = digests.of(value.value());
     let hashed = digests.hashed(value.value().copy(alloc)?);
     let unhashed = Hashed::unhashed(value.value().copy(alloc)?);
-    let mut made = Made::Ran(Ended::new(name.copy(alloc)?, unhashed, Links::new(alloc)));
+    let links = SharedLinks::of(alloc, Links::new(alloc))?;
+    let mut made = Made::Ran(Ended::new(alloc, name.copy(alloc)?, unhashed, links)?);
     made.hash(digests);
     let all = [value.digest(), hashed.digest(), made.hashed().digest()];
     Ok(if all.iter().all(|digest| *digest == of) {

@@ -9,7 +9,7 @@ use crate::texts::stop_text;
 use carte_effect::{Each, Runs, Snapshot};
 use carte_formula::read;
 use carte_task::{Machine, StaticTask, Task};
-use carte_value::{Kind, Name, NoMemory};
+use carte_value::{Kind, Name, NoMemory, Seeded};
 use std::alloc::Global;
 use std::test::Fail;
 
@@ -19,7 +19,7 @@ fn task_of(alloc: Global, kind: Kind, key: &str, formula: &str) -> Result<Option
         return Ok(None);
     };
     match read(alloc, kind, formula) {
-        Ok(expr) => Ok(Some(Task::of(alloc, kind, &key, &expr)?)),
+        Ok(expr) => Ok(Some(Task::of(alloc, kind, &key, &expr, Seeded::of(7))?)),
         Err(_) => Ok(None),
     }
 }

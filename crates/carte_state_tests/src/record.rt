@@ -3,7 +3,7 @@
 mod bytes;
 
 use carte_record::{Seen, Store, Trace, Traces};
-use carte_value::{Digest, Link, Links, Name, NoMemory, Seeded, Value};
+use carte_value::{Digest, Link, Links, Name, NoMemory, Seeded, SharedLinks, Value};
 use std::alloc::Global;
 use std::test::Fail;
 
@@ -62,7 +62,7 @@ fn traces(alloc: Global) -> Result<Traces, Fail> {
     let mut traces = Traces::new(alloc, Seeded::of(7));
     for key in ["a", "b", "a", "a"] {
         let key = Name::rule(alloc, key)?;
-        let links = Links::new(alloc);
+        let links = SharedLinks::of(alloc, Links::new(alloc))?;
         let result = number(1);
         traces.push(Trace { key, links, result })?;
     }

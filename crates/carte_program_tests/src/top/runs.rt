@@ -1,8 +1,8 @@
 //! Runs of the top call over memory, as texts.
 
-use carte_value::Seeded;
 use carte_io::{Disk, MemDisk, MemSink, MemSource, Sink, Source};
 use carte_top::{Word, carte};
+use carte_value::Seeded;
 use std::alloc::Global;
 use std::str;
 use std::test::Fail;
@@ -25,7 +25,16 @@ pub(crate) fn code_of<B: Source, S: Source, D: Disk, O: Sink, E: Sink>(
     err: &mut E,
 ) -> Result<u8, Fail> {
     let words = words_of(alloc, words)?;
-    let status = carte(alloc, words.as_slice(), book, script, state, out, err, Seeded::of(7));
+    let status = carte(
+        alloc,
+        words.as_slice(),
+        book,
+        script,
+        state,
+        out,
+        err,
+        Seeded::of(7),
+    );
     Ok(status.code())
 }
 
