@@ -18,6 +18,7 @@ differ, or where the states are not the same bytes.
 import filecmp
 import os
 import pathlib
+import re
 import subprocess
 import sys
 import tempfile
@@ -70,8 +71,10 @@ def sheet(count):
 
     drawn = draws(SEED)
     cells = [row(at, drawn) for at in range(1, rows + 1)]
+    few = re.findall(r"[A-Z]+(?=\d)", cells[-1][48])[1:]
+    columns = {letters(column): column for column in range(48)}
     books = [cells, cells]
-    for places in ([(rows - 1, 3), (rows - 1, 4), (rows - 1, 5)], [(0, 0)]):
+    for places in ({(rows - 1, columns[name]) for name in few}, [(0, 0)]):
         cells = [list(fields) for fields in cells]
         for at, column in places:
             cells[at][column] = str(int(cells[at][column]) + 1)
