@@ -11,8 +11,9 @@ use std::alloc::Global;
 pub(crate) fn clearing(alloc: Global, state: &State) -> Batch
     ensures { result ≡ clearing state.now }
 {
-    let mut batch = Batch::new(alloc, state.kept().hasher());
-    if !is_bare(state.kept()) {
+    let kept = state.kept();
+    let mut batch = Batch::new(alloc, kept.hasher());
+    if !is_bare(kept) {
         batch.start = Start::Cleared;
     }
     batch
