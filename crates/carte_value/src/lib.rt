@@ -9,7 +9,8 @@
 //!
 //! A name of at most 16 bytes stands in itself, and two numbers tell it from others: names are what lists and maps are
 //! made of. Longer names and texts share their bytes with their copies, since a long text may be looked up by thousands
-//! of rules. An `Rc` would do so too, but no name could then pass to another thread.
+//! of rules. An `Rc` would do so too, but no name could then pass to another thread. Hash maps of names begin with a
+//! seed (`Seeded`), since names can be chosen that collide in a fixed hash.
 //!
 //! What is promised of a format is a relation between bytes and values in `specs/`, never the reader's loop again:
 //! bytes begin with a spelling, a text is the printed form of a text, a prefix begins some name. Laws over all values

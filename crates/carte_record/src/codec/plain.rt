@@ -60,8 +60,8 @@ impl<T: Drop> ListOf<T> for Plain<T> {
     }
 }
 
-/// How many there are, and each in order. What was read grew by doubling, since a count isn't believed before its items
-/// are there; then it gives the room back that it doesn't need.
+/// How many there are, and each in order. A count isn't believed before its items are there, so what was read has room
+/// by the bytes that follow, and more as items come; at the end it gives back what it doesn't need.
 impl<T: Spelled + Drop> Spelled for Plain<T> {
     ghost spelling = { spelled_list T.spelling };
 
