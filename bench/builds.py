@@ -3,15 +3,15 @@
 
 Both read the same generated book and keep the same state file with the same syncs (plain_builds.rs). Four builds in a
 row: from nothing; the same again; after an edit of three inputs; after an edit of an input on which about half of the
-reached keys depend. Of each: instructions a key of the book, counted by callgrind, user and system time and the greatest
-memory in runs of their own, each beside the plain program's. The two states must be the same bytes in length, and both
-programs must print the same values and counts. With a bound given by BOUND=4 the script ends with 1 where a ratio of
-instructions is above it. Other words: --rebuilder NAME and --scheduler NAME are handed to the program.
+reached keys depend. Of each: instructions and allocations a key of the book, counted by callgrind, user and system time
+and the greatest memory in runs of their own, each beside the plain program's. Both programs must print the same values
+and counts. The script ends with 1 where a bound isn't kept: instructions at most 3 times the plain program's, at most 8
+allocations a key, with 65,536 keys at most 64 MB (96 in the last build), and at most 1.1 times the instructions a key of
+8,192 keys. BOUND=4 sets the first. Other words: --rebuilder NAME and --scheduler NAME are handed to the program.
 """
 import os
 import pathlib
 import re
-import resource
 import shutil
 import subprocess
 import sys
@@ -22,6 +22,8 @@ sys.path.insert(0, str(BENCH))
 from generated import generated  # noqa: E402
 
 SEED = 1
+ALLOCATIONS, GROWTH, MEGABYTES = 8, 1.1, {"from nothing": 64, "nothing changed": 64, "3 inputs changed": 64, "half of the keys": 96}
+ALLOCATING = re.compile(r"cfn=\((\d+)\)(?: (.*))?$|calls=(\d+) ")
 
 
 def edited(book, edits):
@@ -85,9 +87,27 @@ def choose(book, target):
 
 
 def instructions(words, folder):
+    """What a program says, and its instructions. Its profile is left in the folder."""
     done = subprocess.run(["valgrind", "--tool=callgrind", f"--callgrind-out-file={folder}/callgrind", *words],
                           capture_output=True, text=True)
     return done.stdout, int(re.search(r"Collected : (\d+)", done.stderr)[1])
+
+
+def allocations(profile):
+    """How often malloc, calloc and realloc were called from elsewhere, by a profile of callgrind."""
+    names, called, count = {}, None, 0
+    with open(profile) as lines:
+        for line in lines:
+            for number, name, calls in ALLOCATING.findall(line):
+                if number:
+                    names.setdefault(number, name)
+                    called = names[number]
+                elif called in ("malloc", "calloc", "realloc"):
+                    count += int(calls)
+            if line.startswith("fn=("):
+                number, _, name = line[4:].rstrip().partition(")")
+                names.setdefault(number, name.strip())
+    return count
 
 
 def run_bare(words):
@@ -109,53 +129,71 @@ def fresh(folder, state):
     return pair
 
 
-def build(program, extra, book, state, target, folder, plain):
-    counted, timed = fresh(folder, state)
-    words = lambda path: [plain, book, path, target] if plain else [program, "build", book, path, target, *extra]
-    if plain:
-        for path in (counted, timed):
-            open(path, "ab").close()
-    said, count = instructions(words(counted), folder)
-    seconds, memory = run_bare(words(timed))
-    shutil.copyfile(counted, state)
-    return said, count, seconds, memory
+class Build:
+    """One build by one program: what it said, and what it cost."""
+
+    def __init__(self, words, state, folder):
+        counted, timed = fresh(folder, state)
+        self.said, self.instructions = instructions(words(counted), folder)
+        self.allocations = allocations(f"{folder}/callgrind")
+        self.seconds, self.kilobytes = run_bare(words(timed))
+        shutil.copyfile(counted, state)
+        self.state = os.path.getsize(state)
+
+
+def books_of(keys, target):
+    """The books of the four builds."""
+    text = generated(SEED, keys)
+    few, half = choose(text, target)
+    edited_few = edited(text, {name: 1 for name in few})
+    return zip(MEGABYTES, (text, text, edited_few, edited(edited_few, {half: 1})))
+
+
+def is_past(bound, *values):
+    return "" if max(values) <= bound else f", ABOVE {bound}"
+
+
+def told(keys, name, carte, plain, bounds):
+    """One build as text. Bounds that aren't kept stand in capitals."""
+    ratio, each = carte.instructions / plain.instructions, carte.allocations / keys
+    megabytes = carte.kilobytes / 1000
+    most = MEGABYTES[name] if keys == 65_536 else 1e9
+    return (f"{keys} keys, {name}: {carte.said.splitlines()[-1] if carte.said else 'nothing said'}; "
+            f"{carte.instructions / keys:.0f} and {plain.instructions / keys:.0f} instructions a key, ratio {ratio:.2f}{is_past(bounds, ratio)}; "
+            f"{each:.1f} and {plain.allocations / keys:.1f} allocations a key{is_past(ALLOCATIONS, each)}; "
+            f"{carte.seconds:.2f} and {plain.seconds:.2f} s; {megabytes:.1f} and {plain.kilobytes / 1000:.1f} MB{is_past(most, megabytes)}; "
+            f"states of {carte.state} and {plain.state} bytes")
 
 
 def measure(program, extra, plain, keys, folder, bound):
-    text, target = generated(SEED, keys), f"k{keys - 1}"
-    few, half = choose(text, target)
-    books = [("from nothing", text), ("nothing changed", text)]
-    books.append(("3 inputs changed", edited(text, {name: 1 for name in few})))
-    books.append(("half of the keys", edited(books[-1][1], {half: 1})))
-    states = {name: f"{folder}/{name}.state" for name in ("carte", "plain")}
-    for path in states.values():
-        if os.path.exists(path):
-            os.remove(path)
-    failed = False
-    for name, book_text in books:
-        book = f"{folder}/book.toml"
-        pathlib.Path(book).write_text(book_text)
-        said, count, seconds, memory = build(program, extra, book, states["carte"], target, folder, None)
-        other, plain_count, plain_seconds, plain_memory = build(program, extra, book, states["plain"], target, folder, plain)
-        same = said == other
-        sizes = [os.path.getsize(path) for path in states.values()]
-        ratio = count / plain_count
-        print(f"{keys} keys, {name}: {said.splitlines()[-1] if said else 'nothing said'}; {count / keys:.0f} and {plain_count / keys:.0f} "
-              f"instructions a key, ratio {ratio:.2f}; {seconds:.2f} and {plain_seconds:.2f} s; "
-              f"{memory} and {plain_memory} KB; states of {sizes[0]} and {sizes[1]} bytes{'' if same else '; THE REPLIES DIFFER'}", flush=True)
-        failed |= (bound is not None and ratio > bound) or (not extra and not same)
-    return failed
+    """The instructions of the four builds, and whether all that is wanted of them by themselves holds."""
+    target, book = f"k{keys - 1}", f"{folder}/book.toml"
+    states = [f"{folder}/{name}.{keys}.state" for name in ("carte", "plain")]
+    costs, kept = [], True
+    for name, text in books_of(keys, target):
+        pathlib.Path(book).write_text(text)
+        carte = Build(lambda path: [program, "build", book, path, target, *extra], states[0], folder)
+        open(states[1], "ab").close()
+        other = Build(lambda path: [plain, book, path, target], states[1], folder)
+        line = told(keys, name, carte, other, bound)
+        same = carte.said == other.said or bool(extra)
+        print(line + ("" if same else "; THE REPLIES DIFFER"), flush=True)
+        kept &= same and "ABOVE" not in line
+        costs.append(carte.instructions / keys)
+    return costs, kept
 
 
 def main(program, *words):
     extra = [word for at, word in enumerate(words) if word.startswith("--") or (at and words[at - 1].startswith("--"))]
     keys = [int(word) for word in words if word.isdigit()] or [8_192, 65_536]
-    bound = float(os.environ["BOUND"]) if "BOUND" in os.environ else None
+    bound = float(os.environ.get("BOUND", "3"))
     with tempfile.TemporaryDirectory() as folder:
         plain = f"{folder}/plain"
         subprocess.run(["rustc", "-O", "--edition", "2021", "-o", plain, BENCH / "plain_builds.rs"], check=True)
-        failed = [measure(os.path.abspath(program), extra, plain, count, folder, bound) for count in keys]
-    return 1 if any(failed) else 0
+        all_costs, all_kept = zip(*(measure(os.path.abspath(program), extra, plain, count, folder, bound) for count in keys))
+    growth = [large / small for small, large in zip(all_costs[0], all_costs[-1])]
+    print(f"a key of {keys[-1]} beside one of {keys[0]}: {', '.join(f'{ratio:.2f}' for ratio in growth)}{is_past(GROWTH, *growth)}")
+    return 0 if all(all_kept) and max(growth) <= GROWTH else 1
 
 
 if __name__ == "__main__":
