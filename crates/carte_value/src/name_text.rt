@@ -87,14 +87,11 @@ pub(crate) fn first(text: &[u8]) -> u8
     }
 }
 
+/// `.` and `/` stand before the digits, so two runs and `_` are all.
 fn of_rules(byte: u8) -> bool
     ensures { result ≡ is_name_byte byte }
 {
-    byte.is_ascii_lowercase()
-        || byte.is_ascii_digit()
-        || byte == b'_'
-        || byte == b'.'
-        || byte == b'/'
+    (b'.' <= byte && byte <= b'9') || (b'a' <= byte && byte <= b'z') || byte == b'_'
 }
 
 fn all_of_rules(text: &[u8]) -> bool
