@@ -73,7 +73,7 @@ impl<'a, L: Look> Effect for Snapshot<'a, L> {
             Seen::Value(value) => {
                 let value = value.copy(alloc)?;
                 Ok(match &mut self.digests {
-                    Some(digests) => digests.hashed(value),
+                    Some(digests) => digests.hashed_at(name, value),
                     None => Hashed::unhashed(value),
                 })
             }
