@@ -19,9 +19,13 @@ const LONG: usize = 256;
 #[derive(Debug, Drop)]
 pub struct Digests {
     alloc: Global,
+    hasher: Seeded,
     numbers: HashMap<i64, Digest, Seeded>,
-    texts: HashMap<Name, Hashed, Seeded>,
+    // Behind a pointer, since digests go from hand to hand in each turn of a build, and few builds have long texts.
+    texts: Option<Box<Texts>>,
 }
+
+type Texts = HashMap<Name, Hashed, Seeded>;
 
 impl Model for Digests {
     ghost use Rattle.std.specs.Ordering.{int_eq};
@@ -40,8 +44,9 @@ impl Digests {
     pub fn new(alloc: Global, hasher: Seeded) -> Digests {
         Digests {
             alloc,
+            hasher,
             numbers: HashMap::with_hasher(alloc, hasher),
-            texts: HashMap::with_hasher(alloc, hasher),
+            texts: None,
         }
     }
 
@@ -96,16 +101,12 @@ impl Digests {
         digest
     }
 
-    // The digest that is kept at a name, where it is this value's. Comparing texts costs far less than taking a digest.
+    // The digest that is kept at a name, where it is this value's.
     fn known(&self, name: &Name, value: &Value) -> Option<Digest>
         ensures { IfSome result (λ digest. digest ≡ digest_of value.now) }
     {
-        match self.texts.get(name) {
-            Some(known) => if is_same_text(known.value(), value) {
-                Some(known.digest())
-            } else {
-                None
-            },
+        match &self.texts {
+            Some(texts) => known_in(texts, name, value),
             None => None,
         }
     }
@@ -114,8 +115,12 @@ impl Digests {
     fn keep_text(&mut self, name: &Name, value: &Value, digest: Digest)
         requires { digest ≡ digest_of value.now }
     {
-        if let (Ok(name), Ok(value)) = (name.copy(self.alloc), value.copy(self.alloc)) {
-            let _ = self.texts.insert(name, Hashed::with(value, digest));
+        if self.texts.is_none() {
+            let texts = HashMap::with_hasher(self.alloc, self.hasher);
+            self.texts = Box::new(self.alloc, texts).ok();
+        }
+        if let Some(texts) = &mut self.texts {
+            put_into(self.alloc, texts, name, value, digest);
         }
     }
 
@@ -137,6 +142,28 @@ impl Digests {
         if self.numbers.len() < MOST {
             let _ = self.numbers.insert(number, digest);
         }
+    }
+}
+
+// Comparing texts costs far less than taking a digest.
+fn known_in(texts: &Texts, name: &Name, value: &Value) -> Option<Digest>
+    ensures { IfSome result (λ digest. digest ≡ digest_of value.now) }
+{
+    match texts.get(name) {
+        Some(known) => if is_same_text(known.value(), value) {
+            Some(known.digest())
+        } else {
+            None
+        },
+        None => None,
+    }
+}
+
+fn put_into(alloc: Global, texts: &mut Texts, name: &Name, value: &Value, digest: Digest)
+    requires { digest ≡ digest_of value.now }
+{
+    if let (Ok(name), Ok(value)) = (name.copy(alloc), value.copy(alloc)) {
+        let _ = texts.insert(name, Hashed::with(value, digest));
     }
 }
 

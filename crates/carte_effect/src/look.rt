@@ -68,6 +68,7 @@ impl<'a, L: Look> Effect for Snapshot<'a, L> {
 
     ghost log = { λ s. None };
 
+    #[inline(always)]
     fn fetch(&mut self, alloc: Global, name: &Name) -> Result<Hashed, Halt<Stuck>> {
         match self.look.look(name) {
             Seen::Value(value) => {
