@@ -11,6 +11,7 @@ mod applied;
 mod arithmetic;
 mod coercions;
 mod found;
+mod joining;
 mod lines;
 mod logic;
 mod numbers;
@@ -19,3 +20,4 @@ mod texts;
 
 pub use applied::{apply, call, condition, negate};
 pub use found::{name_in, names_in};
+pub use joining::join_onto;
