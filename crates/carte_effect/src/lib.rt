@@ -5,7 +5,8 @@
 //! for many at once; a `Look`, of which a `Snapshot` makes an effect; and a `Job`, which is driven over an effect and comes to a `Made`.
 //!
 //! A value that a job made goes about with its digest, so that this is taken once, however many look at the value (`Hashed`). The digests of
-//! numbers, which many keys share, are kept beside them (`Digests`), so that each number's is taken once.
+//! numbers, which many keys share, are kept beside them (`Digests`), so that each number's is taken once, and so are those of long texts that
+//! no job made, by the names at which they were met.
 //!
 //! The form chosen: an effect means a truth (what each name has), the stops that are its own for a name, and a log where it keeps one. A
 //! job has a meaning too, in ghost members: what a drive over a truth gives by which further answers, and when a job fits a key. The law of a job,

@@ -68,12 +68,13 @@ impl<'a, L: Look> Effect for Snapshot<'a, L> {
 
     ghost log = { λ s. None };
 
+    #[inline(always)]
     fn fetch(&mut self, alloc: Global, name: &Name) -> Result<Hashed, Halt<Stuck>> {
         match self.look.look(name) {
             Seen::Value(value) => {
                 let value = value.copy(alloc)?;
                 Ok(match &mut self.digests {
-                    Some(digests) => digests.hashed(value),
+                    Some(digests) => digests.hashed_at(name, value),
                     None => Hashed::unhashed(value),
                 })
             }

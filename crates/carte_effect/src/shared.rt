@@ -38,6 +38,7 @@ impl Model for Shared {
 }
 
 impl Shared {
+    #[inline(always)]
     pub(crate) fn of(alloc: Global, outcome: Record) -> Result<Shared, NoMemory>
         ensures { IfOk result (λ s. s ≡ outcome) }
     {

@@ -1,3 +1,4 @@
 pub mod Bests
 pub mod Sums
 pub mod Lined
+pub mod Pairs

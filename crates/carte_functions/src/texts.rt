@@ -37,7 +37,7 @@ pub(crate) fn text_of<'a>(alloc: Global, value: &'a Value) -> Result<CowStr<'a>,
 }
 
 /// Puts the text of a value behind a text.
-fn append(text: &mut String, value: &Value) -> Result<(), NoMemory>
+pub(crate) fn append(text: &mut String, value: &Value) -> Result<(), NoMemory>
     ensures { OnOk result (string_bytes text.new ≡ string_bytes text.old ++ text_of value.now) }
 {
     match value {
@@ -49,7 +49,7 @@ fn append(text: &mut String, value: &Value) -> Result<(), NoMemory>
 }
 
 /// A text as a value, or `#LEN!` where it is too long for one.
-fn made(text: String) -> Result<Value, NoMemory>
+pub(crate) fn made(text: String) -> Result<Value, NoMemory>
     ensures { IfOk result (λ v. v ≡ text_value (string_bytes text)) }
 {
     match Text::made(text)? {

@@ -4,6 +4,7 @@ use Rattle.std.proofs.Math.Path.{fun_ext}
 use Rattle.std.proofs.Math.Seq.{drop-append_seam, take-append_seam}
 use Rattle.carte_value.specs.declared.value.Value.{Value}
 use Rattle.carte_value.specs.Asks.{Asks, done, ask, and_then}
+use Rattle.carte_tree.specs.Texts.{joined}
 use Rattle.carte_tree.specs.Meaning.{asks_all}
 use Rattle.carte_task.specs.Code.{newest, below, put, pushed}
 use Rattle.carte_task.proofs.Binding.{and_then_assoc, and_then_same, Always, always_then}
@@ -19,6 +20,13 @@ below_on vs us n is = rw (height vs us n is) (take-append_seam vs us)
 
 pub put_on : (vs us : List Value) (n : ℕ) (v : Value) → length us ≡ n → put n (vs ++ us) v ≡ vs ++ v ∷ []
 put_on vs us n v is = ap (λ ws. ws ++ v ∷ []) (below_on vs us n is)
+
+-- the two newest values were taken off, and what they are joined was put on
+pub two_joined : (old mid rest new : List Value) (l r v : Value) → old ≡ mid ++ r ∷ [] → mid ≡ rest ++ l ∷ [] → v ≡ joined (l ∷ r ∷ []) → new ≡ rest ++ v ∷ [] → new ≡ put 2 old (joined (newest 2 old))
+two_joined old mid rest new l r v first second is then =
+    let us = l ∷ r ∷ [] in
+    let whole : old ≡ rest ++ us = first ∙ ap (λ m. m ++ r ∷ []) second ∙ append_assoc rest (l ∷ []) (r ∷ []) in
+    then ∙ ap (λ w. rest ++ w ∷ []) is ∙ sym (ap (λ o. put 2 o (joined (newest 2 o))) whole ∙ put_on rest us 2 (joined (newest 2 (rest ++ us))) refl ∙ ap (λ ws. rest ++ joined ws ∷ []) (newest_on rest us 2 refl))
 
 -- looked up onto a stack, or looked up and then put on it
 pub pushed_all : {A : Type 0} (ks : List (List ℕ)) (vs : List Value) (go : List Value → Asks A) → pushed ks vs go ≡ and_then (asks_all ks) (λ us. go (vs ++ us))

@@ -9,7 +9,7 @@ ghost use Rattle.carte_task.specs.declared.code.Instr.TheVariants as i;
 
 use crate::code::{Instr, Next, Pending, Wanted};
 use crate::range::Range;
-use carte_functions::{condition, name_in, names_in};
+use carte_functions::{condition, join_onto, name_in, names_in};
 use carte_tree::{Func, Op};
 use carte_value::{Kind, Name, NoMemory, Value};
 use std::alloc::Global;
@@ -49,6 +49,7 @@ fn behind(count: usize) -> Pending
 }
 
 // A value in the place of the newest ones.
+#[inline(always)]
 fn replace(values: &mut Vec<Value>, count: usize, value: Value) -> Result<(), NoMemory>
     ensures ok { OnOk result (values.new.items ≡ put count values.old.items value) }
     ensures err { OnErr result (values.new.items ≡ values.old.items) }
@@ -138,9 +139,41 @@ fn operate(
 ) -> Result<Option<Pending>, NoMemory>
     ensures { Applies kind (i.Apply op) values.old.items values.new.items result }
 {
+    if op == Op::Join {
+        join_two(alloc, values)?;
+        return Ok(None);
+    }
     let value = carte_functions::apply(alloc, op, newest(values, 2))?;
     replace(values, 2, value)?;
     Ok(None)
+}
+
+// Joins the two newest values as texts, in the place of the first, which grows where it stands.
+#[tactic(auto, using(crate::proofs::Stack::two_joined))]
+fn join_two(alloc: Global, values: &mut Vec<Value>) -> Result<(), NoMemory>
+    ensures ok { OnOk result (values.new.items ≡ put 2 values.old.items (joined (newest 2 values.old.items))) }
+    ensures err { OnErr result (values.new.items ≡ values.old.items) }
+{
+    if values.len() < 2 {
+        return join(alloc, values, 2);
+    }
+    let Some(right) = values.pop() else {
+        unreachable!()
+    };
+    let Some(mut left) = values.pop() else {
+        unreachable!()
+    };
+    match join_onto(alloc, &mut left, &right) {
+        Ok(()) => {
+            values.push_reserved(left);
+            Ok(())
+        }
+        Err(refused) => {
+            values.push_reserved(left);
+            values.push_reserved(right);
+            Err(refused)
+        }
+    }
 }
 
 fn call(

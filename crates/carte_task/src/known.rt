@@ -1,5 +1,6 @@
-ghost use Rattle.std.specs.Prelude.{◌≡◌, ◌++◌, ◌∷◌, [], None, true, IfOk, OnOk, option_copied, vec_len};
-ghost use Rattle.indexmap.specs.IndexMap.{index_map_len};
+ghost use Rattle.std.specs.Prelude.{◌≡◌, ◌<◌, ◌++◌, ◌∷◌, [], None, true, IfOk, OnOk, option_copied, vec_len};
+ghost use Rattle.indexmap.specs.IndexMap.{index_map_len, insert_entry, spare};
+ghost use Rattle.carte_value.specs.Names.{name_eq};
 ghost use Rattle.carte_value.specs.Once.{answer_in};
 ghost use Rattle.carte_effect.specs.Outcomes.{links_of};
 ghost use Rattle.carte_task.specs.Keeping.{are_few};
@@ -50,6 +51,7 @@ impl Known {
     }
 
     /// The answer for a name.
+    #[inline(always)]
     pub(crate) fn find(&self, name: &Name) -> Option<&Hashed>
         ensures { option_copied result ≡ answer_in self.now.entries name.now }
     {
@@ -61,7 +63,7 @@ impl Known {
         if self.more.len() == 0 {
             return None;
         }
-        self.more.get(name)
+        find_more(&self.more, name)
     }
 
     /// Makes room for one answer more.
@@ -78,6 +80,7 @@ impl Known {
     }
 
     /// Puts the answer for a name behind the others.
+    #[inline(always)]
     pub(crate) fn put(&mut self, name: Name, value: Hashed)
         requires room { self.old.room ≡ true }
         requires new { answer_in self.old.entries name ≡ None }
@@ -87,10 +90,7 @@ impl Known {
             self.few.push_reserved((name, value));
             return;
         }
-        match self.more.insert(name, value) {
-            Ok(_) => {}
-            Err(_) => unreachable!(),
-        }
+        put_more(&mut self.more, name, value);
     }
 
     /// The names that were asked, in order, with the digests of their values.
@@ -102,6 +102,27 @@ impl Known {
         link_few(alloc, &self.few, &mut links)?;
         link_more(alloc, &self.more, &mut links)?;
         Ok(links)
+    }
+}
+
+// What follows the first few answers stands apart, since few runs come to it, and the way there would make each of their
+// look-ups dearer.
+
+#[inline(never)]
+fn find_more<'a>(more: &'a IndexMap<Name, Hashed, Seeded>, name: &Name) -> Option<&'a Hashed>
+    ensures { option_copied result ≡ answer_in more.now.entries name.now }
+{
+    more.get(name)
+}
+
+#[inline(never)]
+fn put_more(more: &mut IndexMap<Name, Hashed, Seeded>, name: Name, value: Hashed)
+    requires { 0 < spare more.old }
+    ensures { more.new.entries ≡ insert_entry name_eq more.old.entries name value }
+{
+    match more.insert(name, value) {
+        Ok(_) => {}
+        Err(_) => unreachable!(),
     }
 }
 

@@ -150,6 +150,7 @@ impl Progress {
     }
 
     /// Goes on once the names are looked up.
+    #[inline(always)]
     fn settle(&mut self, alloc: Global, len: usize) -> Result<(), NoMemory>
         requires { pending self.old ≡ [] }
         ensures answers { answers_in self.new ≡ answers_in self.old }
