@@ -1,10 +1,11 @@
 -- What a text is read as does not change while its tokens are read.
-use Rattle.std.proofs.Common.{ℕ, false, List, ◌∷◌, length, drop, ◌≡◌, ◌<◌, ◌+◌, nat_lt, Some, None, Result, Ok, Err, refl, sym, ◌∙◌, ap, subst, slice_index}
+use Rattle.std.proofs.Common.{ℕ, false, List, [], ◌∷◌, length, drop, ◌≡◌, ◌<◌, ◌+◌, nat_lt, Some, None, Result, Ok, Err, refl, sym, ◌∙◌, ap, subst, slice_index}
 use Rattle.carte_value.specs.declared.kind.Kind.{Kind}
 use Rattle.carte_tree.specs.Tree.{Tree}
 use Rattle.carte_formula.specs.Tokens.{Token, Sign, sign_token}
-use Rattle.carte_formula.specs.Machine.{State, next_state}
+use Rattle.carte_formula.specs.Machine.{State, wants, next_state}
 use Rattle.carte_formula.specs.Ranges.{wide_after}
+use Rattle.carte_formula.specs.Whole.{wide_from, with_tokens}
 use Rattle.carte_formula.specs.Takes.{MeetsTo}
 use Rattle.carte_formula.specs.Reading.{depth, FormulaFault, BadToken, BadSyntax, TooDeep, TooLong, TooWide, NoMemory, Placed}
 use Rattle.carte_formula.specs.Lexer.{start_of, blank, single, wrong, idle, before, lexed}
@@ -65,3 +66,11 @@ fault_advances q bytes at end t p n f g m s k =
 -- a sign
 pub sign_here : (q : Kind) (bytes : List ℕ) (at : ℕ) (s : Sign) → at < length bytes → start_of q (slice_index bytes at) ≡ single (sign_token s) → MeetsTo q bytes at (Ok (Some (sign_token s), at + 1))
 sign_here q bytes at s h is = sign_met q bytes at (sign_token s) h is
+
+-- before the first token
+begins_reading : (s : State) (w : Ranges) (size : ℕ) (r : Result (List Placed) ℕ) → s ≡ wants [] → ((ps : List Placed) → wide_after w ps ≡ wide_from 0 ps) → resumed s w size r ≡ with_tokens r size
+begins_reading s w size (Err place) is wide = refl
+begins_reading s w size (Ok ps) is wide = rw (is, wide ps) refl
+
+pub whole_remains : (q : Kind) (bytes : List ℕ) (p : Progress) → reached p.parser ≡ wants [] → ((ps : List Placed) → wide_after p.ranges ps ≡ wide_from 0 ps) → remaining q bytes 0 p ≡ with_tokens (lexed q idle 0 bytes) (length bytes)
+whole_remains q bytes p is wide = begins_reading (reached p.parser) p.ranges (length bytes) (lexed q idle 0 bytes) is wide

@@ -36,22 +36,51 @@ pub struct Progress {
     ranges: Ranges,
 }
 
+impl Progress {
+    ghost use Rattle.std.specs.Prelude.{List};
+    ghost use Rattle.carte_formula.specs.Machine.{wants};
+    ghost use Rattle.carte_formula.specs.Reading.{Placed as PlacedToken};
+    ghost use Rattle.carte_formula.specs.Ranges.{wide_after};
+    ghost use Rattle.carte_formula.specs.Whole.{wide_from};
+
+    pub fn new(alloc: Global) -> Progress {
+        Progress {
+            parser: Parser {
+                state: State::Wants,
+                operand: Expr::Number(0),
+                range: Range::Nothing,
+                stack: Stack::new(alloc),
+            },
+            ranges: Ranges::new(),
+        }
+    }
+
+    /// Back to where a text begins, whatever was read before. The stack keeps its memory.
+    #[inline(always)]
+    fn restart(&mut self)
+        ensures parser { reached self.new.parser ≡ wants [] }
+        ensures ranges { (ps : List PlacedToken) → wide_after self.new.ranges ps ≡ wide_from 0 ps }
+    {
+        self.parser.state = State::Wants;
+        self.parser.stack.clear();
+        self.ranges = Ranges::new();
+    }
+}
+
 /// Reads a text token by token, and beside it how wide its ranges are.
-pub fn formula_of(alloc: Global, kind: Kind, text: &str) -> Result<Expr, FormulaFault>
+#[tactic(auto, using(crate::proofs::Resuming::whole_remains))]
+pub fn formula_of(
+    alloc: Global,
+    progress: &mut Progress,
+    kind: Kind,
+    text: &str,
+) -> Result<Expr, FormulaFault>
     ensures { ReadsTo result (with_tokens (lexed kind idle 0 text.now) (length text.now)) }
 {
-    let mut progress = Progress {
-        parser: Parser {
-            state: State::Wants,
-            operand: Expr::Number(0),
-            range: Range::Nothing,
-            stack: Stack::new(alloc),
-        },
-        ranges: Ranges::new(),
-    };
+    progress.restart();
     let mut at = 0;
     while at < text.len() {
-        at = advance(alloc, kind, text, at, &mut progress)?;
+        at = advance(alloc, kind, text, at, progress)?;
     }
     whole(alloc, &mut progress.parser, &progress.ranges, text.len())
 }
@@ -77,8 +106,31 @@ fn advance(
     }
 }
 
+/// Each sign has a way of its own, so that it is told from the others once.
 #[inline(always)]
 fn advance_sign(
+    alloc: Global,
+    kind: Kind,
+    text: &str,
+    at: usize,
+    sign: Sign,
+    progress: &mut Progress,
+) -> Result<usize, FormulaFault>
+    requires place { at < length text.now }
+    requires start { start_of kind (slice_index text.now at) ≡ single (sign_token sign) }
+    ensures { Advances kind text.now at progress.old result progress.new }
+{
+    match sign {
+        Sign::Op(op) => advance_one(alloc, kind, text, at, Sign::Op(op), progress),
+        Sign::Open => advance_one(alloc, kind, text, at, Sign::Open, progress),
+        Sign::Close => advance_one(alloc, kind, text, at, Sign::Close, progress),
+        Sign::Comma => advance_one(alloc, kind, text, at, Sign::Comma, progress),
+        Sign::Colon => advance_one(alloc, kind, text, at, Sign::Colon, progress),
+    }
+}
+
+#[inline(always)]
+fn advance_one(
     alloc: Global,
     kind: Kind,
     text: &str,

@@ -71,7 +71,7 @@ fn corner_at(cell: Cell, parser: &mut Parser)
 
 /// A sign before an operand.
 #[inline(always)]
-fn sign_at(op: Op, parser: &mut Parser) -> Result<bool, NoMemory>
+pub fn sign_at(op: Op, parser: &mut Parser) -> Result<bool, NoMemory>
     ensures { GoesTo result parser.new (sign_at op (frames_of parser.old.stack.frames.items)) }
 {
     match op {
