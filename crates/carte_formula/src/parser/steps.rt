@@ -17,24 +17,10 @@ use carte_value::{Area, NoMemory};
 use std::alloc::Global;
 use std::mem;
 
-/// Takes a token, and tells whether a formula may go on with it. What a rule file's formulas are made of goes first, since a
-/// token that is handed on is copied.
-#[tactic(auto, using(crate::proofs::Wanting::word_next))]
-#[inline(always)]
-pub fn step(alloc: Global, token: Token, parser: &mut Parser) -> Result<bool, NoMemory>
-    ensures { GoesTo result parser.new (next_state (reached parser.old) token) }
-{
-    match token {
-        Token::Word(name) => take_operand(alloc, Expr::Ref(name), parser),
-        Token::Func(func) => Ok(take_func(func, parser)),
-        token => step_rare(alloc, token, parser),
-    }
-}
-
-/// The same for any token.
+/// Takes a token, and tells whether a formula may go on with it.
 #[tactic(auto, using(crate::proofs::Wanting::number_next, crate::proofs::Wanting::text_next, crate::proofs::Wanting::word_next))]
 #[inline(never)]
-fn step_rare(alloc: Global, token: Token, parser: &mut Parser) -> Result<bool, NoMemory>
+pub fn step(alloc: Global, token: Token, parser: &mut Parser) -> Result<bool, NoMemory>
     ensures { GoesTo result parser.new (next_state (reached parser.old) token) }
 {
     match token {
@@ -53,7 +39,7 @@ fn step_rare(alloc: Global, token: Token, parser: &mut Parser) -> Result<bool, N
 
 /// Whether an operand comes.
 #[inline(always)]
-fn is_wanting(parser: &Parser) -> bool
+pub fn is_wanting(parser: &Parser) -> bool
     ensures { result ≡ is_wanting parser.now.state parser.now.range }
 {
     match parser.state {
@@ -87,7 +73,7 @@ fn take_operand(alloc: Global, operand: Expr, parser: &mut Parser) -> Result<boo
 /// A function's name.
 #[tactic(auto, using(crate::proofs::Wanting::func_next))]
 #[inline(always)]
-fn take_func(func: Func, parser: &mut Parser) -> bool
+pub fn take_func(func: Func, parser: &mut Parser) -> bool
     ensures { OptionGoesTo result parser.new (next_state (reached parser.old) (tokens.Func func)) }
 {
     if !is_wanting(parser) {
@@ -151,7 +137,7 @@ fn step_op(alloc: Global, op: Op, parser: &mut Parser) -> Result<bool, NoMemory>
 {
     match parser.state {
         State::Wants => sign_at(op, parser),
-        State::Had => go_on(alloc, Sign::Op(op), parser),
+        State::Had => go_on(alloc, Sign::Op(op), taken(&mut parser.operand), parser),
         State::Named(_) => Ok(false),
         State::InRange => in_range(alloc, Sign::Op(op), parser),
     }
@@ -215,17 +201,22 @@ fn in_range(alloc: Global, sign: Sign, parser: &mut Parser) -> Result<bool, NoMe
 
 /// A sign behind an operand.
 #[inline(always)]
-fn go_on(alloc: Global, sign: Sign, parser: &mut Parser) -> Result<bool, NoMemory>
-    ensures { GoesTo result parser.new (go_on (sign_token sign) (tree_of parser.old.operand) (frames_of parser.old.stack.frames.items)) }
+pub fn go_on(
+    alloc: Global,
+    sign: Sign,
+    operand: Expr,
+    parser: &mut Parser,
+) -> Result<bool, NoMemory>
+    ensures { GoesTo result parser.new (go_on (sign_token sign) (tree_of operand) (frames_of parser.old.stack.frames.items)) }
 {
     match sign {
         Sign::Op(op) => {
-            join(alloc, op, taken(&mut parser.operand), &mut parser.stack)?;
+            join(alloc, op, operand, &mut parser.stack)?;
             parser.state = State::Wants;
             Ok(true)
         }
-        Sign::Close => close(alloc, taken(&mut parser.operand), parser),
-        Sign::Comma => split(alloc, taken(&mut parser.operand), parser),
+        Sign::Close => close(alloc, operand, parser),
+        Sign::Comma => split(alloc, operand, parser),
         Sign::Open | Sign::Colon => Ok(false),
     }
 }
@@ -257,8 +248,7 @@ fn at_corner(
         }
         sign => {
             parser.stack.push(Frame::Call(func, done))?;
-            parser.operand = Expr::Ref(cell.into_name());
-            go_on(alloc, sign, parser)
+            go_on(alloc, sign, Expr::Ref(cell.into_name()), parser)
         }
     }
 }
