@@ -1,5 +1,5 @@
 -- Digits, letters and names, byte by byte.
-use Rattle.std.proofs.Common.{ℕ, Bool, true, false, List, [], ◌∷◌, length, ◌≡◌, ◌≤◌, ◌<◌, ◌^◌, ◌&&◌, ◌||◌, if◌then◌else◌, refl, arith, nat_le, slice_index, map}
+use Rattle.std.proofs.Common.{ℕ, Bool, true, false, List, [], ◌∷◌, length, ◌≡◌, ◌≤◌, ◌<◌, ◌^◌, ◌&&◌, ◌||◌, ◌==◌, if◌then◌else◌, refl, arith, nat_le, slice_index, map}
 use Rattle.std.specs.Fmt.{decimal}
 use Rattle.std.specs.List.{list_all}
 use Rattle.std.specs.Char.{to_ascii_uppercase}
@@ -42,6 +42,13 @@ below lo hi b h = grind (arith, nat_tests)
 
 pub above : (lo hi b : ℕ) → hi < b → (nat_le lo b && nat_le b hi) ≡ false
 above lo hi b h = grind (arith, nat_tests)
+
+-- the bytes of names, by two looks at those up to `9`
+pub low_name : (b : ℕ) → b ≤ 57 → nat_le 46 b ≡ is_name_byte b
+low_name b h = grind (arith, nat_tests)
+
+pub high_name : (b : ℕ) → 57 < b → (is_lower b || b == 95) ≡ is_name_byte b
+high_name b h = grind (arith, nat_tests)
 
 pub digits_test : IsDigitsTest (λ ds. list_all is_digit ds ≡ true)
 digits_test = record {

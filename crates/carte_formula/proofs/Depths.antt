@@ -1,6 +1,6 @@
 -- The depth that the stack counts is that of its frames.
-use Rattle.std.proofs.Common.{List, [], ◌∷◌, length, ◌≡◌, ◌≤◌, ◌+◌, refl, ap, arith}
-use Rattle.carte_formula.specs.Frames.{depth_in}
+use Rattle.std.proofs.Common.{List, [], ◌∷◌, true, length, ◌≡◌, ◌≤◌, ◌+◌, refl, ap, arith}
+use Rattle.carte_formula.specs.Frames.{depth_in, is_empty_at}
 use Rattle.carte_formula.specs.Parser.{frames_of, range_of, range_depth}
 use Rattle.carte_formula.specs.Reading.{depth_of, depth}
 use Rattle.carte_formula.specs.declared.parser.states.Range.{Range}
@@ -27,3 +27,7 @@ depth_at_most (code.Sign b ∷ S) = let h = depth_at_most S in omega arith
 depth_at_most (code.Chain c ∷ S) = let h = depth_at_most S in omega arith
 depth_at_most (code.Group ∷ S) = let h = depth_at_most S in omega arith
 depth_at_most (code.Call f xs ∷ S) = let h = depth_at_most S in omega arith
+
+pub no_frames : (S : List Frame) → is_empty_at S ≡ true → S ≡ []
+no_frames [] h = refl
+no_frames (f ∷ S) h = absurd (let no : ⊥ = cc in no)

@@ -5,8 +5,8 @@ use Rattle.carte_tree.specs.Tree.{Tree, Arg, one, chain, level_of, rank, steps_o
 use Rattle.carte_tree.specs.Code.{tree_of, terms_of, args_trees}
 use Rattle.carte_tree.specs.declared.expr.Arg.{Arg as CodeArg}
 use Rattle.carte_formula.specs.Tokens.{Op, Func}
-use Rattle.carte_formula.specs.Frames.{joint_at, joint_of, called_at}
-use Rattle.carte_formula.specs.Machine.{Frame as Begun, wants, chain_at, args, grown, joined, split, next_args}
+use Rattle.carte_formula.specs.Frames.{joint_at, joint_of, called_at, is_empty_at}
+use Rattle.carte_formula.specs.Machine.{Frame as Begun, wants, chain_at, args, grown, joined, split, next_args, ended}
 use Rattle.carte_formula.specs.Parser.{open_frame, frames_of, with_arg, args_next}
 use Rattle.carte_formula.specs.declared.parser.frames.OpenChain.{OpenChain}
 use Rattle.carte_formula.specs.declared.parser.frames.Frame.{Frame}
@@ -75,3 +75,8 @@ split_next v f n (code.Sign b ∷ S) h = absurd (let no : ⊥ = cc in no)
 split_next v f n (code.Chain c ∷ S) h = absurd (let no : ⊥ = cc in no)
 split_next v f n (code.Group ∷ S) h = absurd (let no : ⊥ = cc in no)
 split_next v f n (code.Call g xs ∷ S) h = refl
+
+-- where nothing is begun, the operand is the formula
+pub ended_whole : (v : Tree) (S : List Frame) → is_empty_at S ≡ true → ended v (frames_of S) ≡ Some v
+ended_whole v [] h = refl
+ended_whole v (f ∷ S) h = absurd (let no : ⊥ = cc in no)

@@ -1,17 +1,19 @@
 -- What a text is read as does not change while its tokens are read.
-use Rattle.std.proofs.Common.{ℕ, false, List, ◌∷◌, length, drop, ◌≡◌, ◌<◌, ◌+◌, nat_lt, Some, None, Result, Ok, Err, refl, sym, ◌∙◌, ap, subst, slice_index}
+use Rattle.std.proofs.Common.{ℕ, false, List, [], ◌∷◌, length, drop, ◌≡◌, ◌<◌, ◌≤◌, ◌+◌, nat_lt, Some, None, Result, Ok, Err, refl, sym, ◌∙◌, ap, subst, slice_index, arith}
 use Rattle.carte_value.specs.declared.kind.Kind.{Kind}
 use Rattle.carte_tree.specs.Tree.{Tree}
 use Rattle.carte_formula.specs.Tokens.{Token, Sign, sign_token}
-use Rattle.carte_formula.specs.Machine.{State, next_state}
+use Rattle.carte_formula.specs.Machine.{State, wants, next_state}
 use Rattle.carte_formula.specs.Ranges.{wide_after}
+use Rattle.carte_formula.specs.Whole.{wide_from, with_tokens}
 use Rattle.carte_formula.specs.Takes.{MeetsTo}
 use Rattle.carte_formula.specs.Reading.{depth, FormulaFault, BadToken, BadSyntax, TooDeep, TooLong, TooWide, NoMemory, Placed}
 use Rattle.carte_formula.specs.Lexer.{start_of, blank, single, wrong, idle, before, lexed}
 use Rattle.carte_formula.specs.Parser.{reached, StepsTo, ReadsTo}
-use Rattle.carte_formula.specs.Resumed.{resumed, fault_of, remaining, Advances}
+use Rattle.carte_formula.specs.Resumed.{resumed, fault_of, remaining, carrying, Advances, Follows}
 use Rattle.carte_formula.specs.declared.parser.Progress.{Progress}
 use Rattle.carte_formula.proofs.Taking.{blank_met, sign_met, wrong_taken}
+use Rattle.carte_tree.specs.declared.expr.Expr.{Expr}
 use Rattle.carte_formula.specs.declared.width.Ranges.{Ranges}
 use Rattle.carte_formula.specs.declared.parser.states.Parser.{Parser}
 
@@ -65,3 +67,21 @@ fault_advances q bytes at end t p n f g m s k =
 -- a sign
 pub sign_here : (q : Kind) (bytes : List ℕ) (at : ℕ) (s : Sign) → at < length bytes → start_of q (slice_index bytes at) ≡ single (sign_token s) → MeetsTo q bytes at (Ok (Some (sign_token s), at + 1))
 sign_here q bytes at s h is = sign_met q bytes at (sign_token s) h is
+
+-- before the first token
+begins_reading : (s : State) (w : Ranges) (size : ℕ) (r : Result (List Placed) ℕ) → s ≡ wants [] → ((ps : List Placed) → wide_after w ps ≡ wide_from 0 ps) → resumed s w size r ≡ with_tokens r size
+begins_reading s w size (Err place) is wide = refl
+begins_reading s w size (Ok ps) is wide = rw (is, wide ps) refl
+
+pub whole_remains : (q : Kind) (bytes : List ℕ) (p : Progress) → reached p.parser ≡ wants [] → ((ps : List Placed) → wide_after p.ranges ps ≡ wide_from 0 ps) → remaining q bytes 0 p ≡ with_tokens (lexed q idle 0 bytes) (length bytes)
+whole_remains q bytes p is wide = begins_reading (reached p.parser) p.ranges (length bytes) (lexed q idle 0 bytes) is wide
+
+-- an operand stands behind a token, and what follows takes it
+pub follows_on : (q : Kind) (bytes : List ℕ) (at : ℕ) (e : Expr) (p : Progress) (r : Result ℕ FormulaFault) (n : Progress) → Advances q bytes at (carrying p e) r n → Follows q bytes at e p r n
+follows_on q bytes at e p (Ok end) n h = let low : at < end = h.0 in (omega arith, h.1, h.2)
+follows_on q bytes at e p (Err f) n h = h
+
+-- both are one way from before the token
+pub operand_advances : (q : Kind) (bytes : List ℕ) (at end : ℕ) (e : Expr) (p m n : Progress) (r : Result ℕ FormulaFault) → Advances q bytes at p (Ok end) (carrying m e) → Follows q bytes end e m r n → Advances q bytes at p r n
+operand_advances q bytes at end e p m n (Ok last) h k = let low : at < end = h.0 in let on : end ≤ last = k.0 in (omega arith, k.1, h.2 ∙ k.2)
+operand_advances q bytes at end e p m n (Err f) h k = subst (λ r. ReadsTo (Err f) r) (sym h.2) k

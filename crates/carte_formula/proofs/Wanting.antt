@@ -1,10 +1,11 @@
 -- Where an operand comes, a token that is one follows, and else none does.
-use Rattle.std.proofs.Common.{ℕ, ℤ, List, Some, None, ◌≡◌, if◌then◌else◌, refl}
+use Rattle.std.proofs.Common.{ℕ, ℤ, Bool, true, false, List, Some, None, ◌≡◌, ◌∙◌, if◌then◌else◌, refl, sym, ap}
 use Rattle.carte_tree.specs.Tree.{number, text, ref}
+use Rattle.carte_tree.specs.Code.{tree_of}
 use Rattle.carte_tree.specs.declared.expr.Expr.{Expr}
 use Rattle.carte_formula.specs.Tokens.{Func, digits, quoted, word, func}
-use Rattle.carte_formula.specs.Machine.{after, named, next_state}
-use Rattle.carte_formula.specs.Parser.{frames_of, state_of, reached, is_wanting, operand_at}
+use Rattle.carte_formula.specs.Machine.{State as Begun, after, had, named, next_state}
+use Rattle.carte_formula.specs.Parser.{frames_of, state_of, reached, holding, is_wanting, operand_at}
 use Rattle.carte_formula.specs.declared.parser.frames.Frame.{Frame}
 use Rattle.carte_formula.specs.declared.parser.states.Parser.{Parser}
 use Rattle.carte_formula.specs.declared.parser.states.State.{State}
@@ -48,6 +49,10 @@ func_by g states.InRange e (ranges.Corner k f xs) S = refl
 func_by g states.InRange e (ranges.Half k f xs) S = refl
 func_by g states.InRange e (ranges.Whole a f xs) S = refl
 
+wanted : (b : Bool) (s : Begun) → b ≡ true → (if b then Some s else None) ≡ Some s
+wanted true s h = refl
+wanted false s h = absurd (let no : ⊥ = cc in no)
+
 pub number_next : (n : ℤ) (p : Parser) → operand_at p (number n) ≡ next_state (reached p) (digits n)
 number_next n p = number_by n p.state p.operand p.range p.stack.frames.items
 
@@ -59,3 +64,7 @@ word_next k p = word_by k p.state p.operand p.range p.stack.frames.items
 
 pub func_next : (f : Func) (p : Parser) → next_state (reached p) (func f) ≡ (if is_wanting p.state p.range then Some (named f (frames_of p.stack.frames.items)) else None)
 func_next f p = func_by f p.state p.operand p.range p.stack.frames.items
+
+-- the operand that a name is
+pub word_stands : (k : List ℕ) (e : Expr) (o n : Parser) → is_wanting o.state o.range ≡ true → after (ref k) (frames_of o.stack.frames.items) ≡ had (tree_of e) (frames_of n.stack.frames.items) → next_state (reached o) (word k) ≡ Some (reached (holding n e))
+word_stands k e o n h is = sym (word_next k o) ∙ wanted (is_wanting o.state o.range) (after (ref k) (frames_of o.stack.frames.items)) h ∙ ap (λ s. Some s) is

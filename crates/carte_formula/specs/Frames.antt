@@ -39,6 +39,11 @@ abbrev pub PopsChain : List Frame → List Frame → Option OpenChain → Type 0
 PopsChain old new (Some c) = old ≡ code.Chain c ∷ new
 PopsChain old new None = new ≡ old
 
+-- nothing is begun
+abbrev pub is_empty_at : List Frame → Bool
+is_empty_at [] = true
+is_empty_at (f ∷ S) = false
+
 abbrev pub is_chained_at : List Frame → Bool
 is_chained_at (code.Chain c ∷ S) = true
 is_chained_at _ = false

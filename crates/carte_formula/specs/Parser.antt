@@ -57,6 +57,10 @@ operand_at p v = if is_wanting p.state p.range then Some (after v (frames_of p.s
 abbrev pub reached : Parser → State
 reached p = state_of p.state p.operand p.range p.stack.frames.items
 
+-- the same with an operand that stands
+abbrev pub holding : Parser → Expr → Parser
+holding p e = record { state = states.Had; operand = e; range = p.range; stack = p.stack }
+
 -- the newest frame, a call, has an argument more
 abbrev pub with_arg : Arg → List Frame → List Frame
 with_arg a (args f xs ∷ S) = args f (xs ++ a ∷ []) ∷ S
@@ -94,3 +98,8 @@ abbrev pub ReadsTo : Result Expr FormulaFault → Result Tree FormulaFault → T
 ReadsTo (Ok e) r = r ≡ Ok (tree_of e)
 ReadsTo (Err OutOfMemory) r = Unit {0}
 ReadsTo (Err f) r = r ≡ Err f
+
+-- the same for a token behind which an operand stands, and isn't put away yet
+abbrev pub StandsTo : Result Expr FormulaFault → Parser → Option State → ℕ → Type 0
+StandsTo (Ok e) p o place = StepsTo (Ok tt) (holding p e) o place
+StandsTo (Err f) p o place = StepsTo (Err f) p o place

@@ -7,7 +7,8 @@ use Rattle.carte_formula.specs.Reading.{FormulaFault, BadToken, Placed, tokens_r
 use Rattle.carte_formula.specs.Whole.{with_width}
 use Rattle.carte_formula.specs.Ranges.{wide_after}
 use Rattle.carte_formula.specs.Lexer.{idle, lexed}
-use Rattle.carte_formula.specs.Parser.{reached, ReadsTo}
+use Rattle.carte_formula.specs.Parser.{reached, holding, ReadsTo}
+use Rattle.carte_tree.specs.declared.expr.Expr.{Expr}
 use Rattle.carte_formula.specs.declared.width.Ranges.{Ranges}
 use Rattle.carte_formula.specs.declared.parser.Progress.{Progress}
 
@@ -29,3 +30,11 @@ remaining q bytes at p = resumed (reached p.parser) p.ranges (length bytes) (lex
 abbrev pub Advances : Kind → List ℕ → ℕ → Progress → Result ℕ FormulaFault → Progress → Type 0
 Advances q bytes at p (Ok end) n = (at < end) × (end ≤ length bytes) × (remaining q bytes at p ≡ remaining q bytes end n)
 Advances q bytes at p (Err f) n = ReadsTo (Err f) (remaining q bytes at p)
+
+-- the same with an operand that stands before a place and isn't put away yet
+abbrev pub carrying : Progress → Expr → Progress
+carrying p e = record { parser = holding p.parser e; ranges = p.ranges }
+
+abbrev pub Follows : Kind → List ℕ → ℕ → Expr → Progress → Result ℕ FormulaFault → Progress → Type 0
+Follows q bytes at e p (Ok end) n = (at ≤ end) × (end ≤ length bytes) × (remaining q bytes at (carrying p e) ≡ remaining q bytes end n)
+Follows q bytes at e p (Err f) n = ReadsTo (Err f) (remaining q bytes at (carrying p e))

@@ -14,6 +14,8 @@
 //! A token goes to the machine from its first byte on (`parser.rt`): a sign is a value that owns nothing, and a number, a text or a
 //! name is an operand where it is made, since a token of any kind that is handed from call to call is copied by each.
 //!
+//! A book has many formulas: `read_in` reads one after the other in a `Room`, which keeps the memory of its stack from text to text.
+//!
 //! Turned down:
 //! - Recursive descent: its contracts would have to say for each call what may follow it, and to place a fault it would need to know
 //!   all that is begun, which the stack has.
@@ -35,4 +37,4 @@ pub use carte_tree::{
 pub use laws::{
     lexes_blanks, lexes_longest, reads_one, reads_print, reads_reading, reads_some, spells_one,
 };
-pub use reader::read;
+pub use reader::{Room, read, read_in};

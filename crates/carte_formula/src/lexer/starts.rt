@@ -120,10 +120,17 @@ fn is_upper(byte: u8) -> bool
     byte.is_ascii_uppercase()
 }
 
+/// A small letter, a digit, `_`, `.` or `/`. These two stand right before the digits, so that a digit takes no more than two looks.
+#[tactic(auto, using(crate::proofs::Bytes::low_name, crate::proofs::Bytes::high_name))]
+#[inline(always)]
 fn is_name_byte(byte: u8) -> bool
     ensures { result ≡ is_name_byte byte }
 {
-    is_lower(byte) || is_digit(byte) || byte == b'_' || byte == b'.' || byte == b'/'
+    if byte <= b'9' {
+        byte >= b'.'
+    } else {
+        is_lower(byte) || byte == b'_'
+    }
 }
 
 /// Space, tab, line feed and carriage return.

@@ -204,18 +204,30 @@ pub fn next_args(
     put(Frame::Call(func, with_arg(done, arg)?), parser)
 }
 
-/// The text ends behind an operand.
-#[cycle(end)]
+/// The text ends behind an operand. Mostly at most one chain ends with it.
+#[inline(always)]
 pub fn end(alloc: Global, operand: Expr, stack: &mut Stack) -> Result<Option<Expr>, NoMemory>
     ensures { EndsTo result (ended (tree_of operand) (frames_of stack.old.frames.items)) }
 {
     match stack.pop_chain() {
-        Some(begun) => end(alloc, whole_chain(alloc, begun, operand)?, stack),
-        None => end_inner(alloc, operand, stack),
+        Some(begun) => end_whole(alloc, whole_chain(alloc, begun, operand)?, stack),
+        None => end_whole(alloc, operand, stack),
     }
 }
 
-/// The text ends behind an operand that may end signs.
+/// The same where nothing may be begun any more.
+#[tactic(auto, using(crate::proofs::Joints::ended_whole))]
+#[inline(always)]
+fn end_whole(alloc: Global, operand: Expr, stack: &mut Stack) -> Result<Option<Expr>, NoMemory>
+    ensures { EndsTo result (ended (tree_of operand) (frames_of stack.old.frames.items)) }
+{
+    if stack.is_empty() {
+        return Ok(Some(operand));
+    }
+    end_inner(alloc, operand, stack)
+}
+
+/// The text ends behind an operand that may end signs and chains.
 #[cycle(end)]
 fn end_inner(alloc: Global, operand: Expr, stack: &mut Stack) -> Result<Option<Expr>, NoMemory>
     ensures { EndsTo result (ended (tree_of operand) (frames_of stack.old.frames.items)) }
@@ -236,8 +248,8 @@ fn end_behind(
     ensures { EndsTo result (ended (tree_of operand) (frame_of frame ∷ frames_of stack.old.frames.items)) }
 {
     match frame {
-        Frame::Sign(minus) => end(alloc, signed(alloc, minus, operand)?, stack),
-        Frame::Chain(begun) => end(alloc, whole_chain(alloc, begun, operand)?, stack),
+        Frame::Sign(minus) => end_inner(alloc, signed(alloc, minus, operand)?, stack),
+        Frame::Chain(begun) => end_inner(alloc, whole_chain(alloc, begun, operand)?, stack),
         _ => Ok(None),
     }
 }

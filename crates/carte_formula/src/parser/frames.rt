@@ -1,5 +1,5 @@
 ghost use Rattle.std.specs.Prelude.{◌≡◌, [], ◌∷◌, drop, slice_get, IsSome, OnOk};
-ghost use Rattle.carte_formula.specs.Frames.{weight_of, depth_in, PopsSign, PopsCall, PopsChain, is_called_at, is_chained_at, is_signed_at, called_at, called_by, may_range, chain_joint, joint_at, joint_of};
+ghost use Rattle.carte_formula.specs.Frames.{weight_of, depth_in, PopsSign, PopsCall, PopsChain, is_empty_at, is_called_at, is_chained_at, is_signed_at, called_at, called_by, may_range, chain_joint, joint_at, joint_of};
 
 use crate::parser::lists::add;
 use crate::{Arg, Expr, Func, Level, Op};
@@ -61,6 +61,28 @@ impl Stack {
         Stack {
             frames: VecDeque::new(alloc),
             depth: 0,
+        }
+    }
+
+    /// Nothing is begun any more. Behind a whole formula nothing is anyway.
+    #[tactic(auto, using(crate::proofs::Depths::no_frames))]
+    #[inline(always)]
+    pub fn clear(&mut self)
+        ensures { self.new.frames.items ≡ [] }
+    {
+        if !self.is_empty() {
+            self.frames.clear();
+            self.depth = 0;
+        }
+    }
+
+    #[inline(always)]
+    pub fn is_empty(&self) -> bool
+        ensures { result ≡ is_empty_at self.now.frames.items }
+    {
+        match self.frames.front() {
+            Some(_) => false,
+            None => true,
         }
     }
 

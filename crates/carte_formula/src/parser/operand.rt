@@ -1,13 +1,13 @@
-ghost use Rattle.std.specs.Prelude.{◌≡◌, ◌∷◌, true, OnOk};
-ghost use Rattle.carte_formula.specs.Machine.{after, cell_at, begin, sign_at, wants};
+ghost use Rattle.std.specs.Prelude.{◌≡◌, ◌∷◌, true, OnOk, IfOk};
+ghost use Rattle.carte_formula.specs.Machine.{after, had, cell_at, begin, sign_at, wants};
 ghost use Rattle.carte_formula.specs.Frames.{may_range};
 ghost use Rattle.carte_formula.specs.Tokens.{sign_token};
 ghost use Rattle.carte_tree.specs.Code.{tree_of};
-ghost use Rattle.carte_formula.specs.Parser.{frame_of, frames_of, reached, GoesTo};
+ghost use Rattle.carte_formula.specs.Parser.{frame_of, frames_of, holding, reached, GoesTo};
 
 use crate::cell::Cell;
 use crate::parser::building::signed;
-use crate::parser::frames::Frame;
+use crate::parser::frames::{Frame, Stack};
 use crate::parser::states::{Parser, Range, State};
 use crate::tokens::Sign;
 use crate::{Expr, Op};
@@ -15,31 +15,43 @@ use carte_value::NoMemory;
 use std::alloc::Global;
 
 /// An operand is whole, and so are the signs before it.
-#[tactic(auto, using(crate::proofs::Signs::had_after))]
 #[inline(always)]
 pub fn after(alloc: Global, operand: Expr, parser: &mut Parser) -> Result<(), NoMemory>
     ensures { OnOk result (reached parser.new ≡ after (tree_of operand) (frames_of parser.old.stack.frames.items)) }
 {
-    if parser.stack.is_signed() {
-        return after_signs(alloc, operand, parser);
-    }
-    parser.operand = operand;
-    parser.state = State::Had;
+    let whole = with_signs(alloc, operand, &mut parser.stack)?;
+    put_away(whole, parser);
     Ok(())
 }
 
-/// The same, sign by sign.
-#[tactic(auto, using(crate::proofs::Signs::unsigned_after))]
-fn after_signs(alloc: Global, operand: Expr, parser: &mut Parser) -> Result<(), NoMemory>
-    ensures { OnOk result (reached parser.new ≡ after (tree_of operand) (frames_of parser.old.stack.frames.items)) }
+/// An operand that is whole is kept until a token shows what becomes of it.
+#[inline(always)]
+pub fn put_away(operand: Expr, parser: &mut Parser)
+    ensures { parser.new ≡ holding parser.old operand }
 {
-    match parser.stack.pop_sign() {
-        Some(minus) => after_signs(alloc, signed(alloc, minus, operand)?, parser),
-        None => {
-            parser.operand = operand;
-            parser.state = State::Had;
-            Ok(())
-        }
+    parser.operand = operand;
+    parser.state = State::Had;
+}
+
+/// An operand with the signs before it, which are ended by it. Mostly there are none.
+#[tactic(auto, using(crate::proofs::Signs::had_after))]
+#[inline(always)]
+pub fn with_signs(alloc: Global, operand: Expr, stack: &mut Stack) -> Result<Expr, NoMemory>
+    ensures { IfOk result (λ e. after (tree_of operand) (frames_of stack.old.frames.items) ≡ had (tree_of e) (frames_of stack.new.frames.items)) }
+{
+    if stack.is_signed() {
+        return with_each_sign(alloc, operand, stack);
+    }
+    Ok(operand)
+}
+
+#[tactic(auto, using(crate::proofs::Signs::unsigned_after))]
+fn with_each_sign(alloc: Global, operand: Expr, stack: &mut Stack) -> Result<Expr, NoMemory>
+    ensures { IfOk result (λ e. after (tree_of operand) (frames_of stack.old.frames.items) ≡ had (tree_of e) (frames_of stack.new.frames.items)) }
+{
+    match stack.pop_sign() {
+        Some(minus) => with_each_sign(alloc, signed(alloc, minus, operand)?, stack),
+        None => Ok(operand),
     }
 }
 
@@ -71,7 +83,7 @@ fn corner_at(cell: Cell, parser: &mut Parser)
 
 /// A sign before an operand.
 #[inline(always)]
-fn sign_at(op: Op, parser: &mut Parser) -> Result<bool, NoMemory>
+pub fn sign_at(op: Op, parser: &mut Parser) -> Result<bool, NoMemory>
     ensures { GoesTo result parser.new (sign_at op (frames_of parser.old.stack.frames.items)) }
 {
     match op {

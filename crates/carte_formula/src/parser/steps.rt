@@ -1,5 +1,5 @@
 ghost use Rattle.std.specs.Prelude.{◌≡◌, Some};
-ghost use Rattle.carte_formula.specs.Machine.{cell_at, go_on, at_name, at_corner, at_range, next_state, end_of};
+ghost use Rattle.carte_formula.specs.Machine.{cell_at, go_on, at_corner, at_range, next_state, end_of};
 ghost use Rattle.carte_tree.specs.Code.{tree_of, args_trees};
 ghost use Rattle.carte_formula.specs.Tokens.{sign_token};
 ghost use Rattle.carte_formula.specs.declared.tokens.Token.TheVariants as tokens;
@@ -9,17 +9,17 @@ ghost use Rattle.carte_formula.specs.Parser.{frames_of, range_of, reached, is_wa
 use crate::cell::Cell;
 use crate::parser::chains::{close, end, end_args, join, next_args, split};
 use crate::parser::frames::Frame;
-use crate::parser::operand::{after, begin, cell_at, put};
+use crate::parser::operand::{after, begin, cell_at, put, sign_at};
 use crate::parser::states::{Parser, Range, State};
 use crate::tokens::{Sign, Token};
-use crate::{Arg, Expr, Func};
+use crate::{Arg, Expr, Func, Op};
 use carte_value::{Area, NoMemory};
 use std::alloc::Global;
 use std::mem;
 
 /// Takes a token, and tells whether a formula may go on with it.
 #[tactic(auto, using(crate::proofs::Wanting::number_next, crate::proofs::Wanting::text_next, crate::proofs::Wanting::word_next))]
-#[inline(always)]
+#[inline(never)]
 pub fn step(alloc: Global, token: Token, parser: &mut Parser) -> Result<bool, NoMemory>
     ensures { GoesTo result parser.new (next_state (reached parser.old) token) }
 {
@@ -29,17 +29,17 @@ pub fn step(alloc: Global, token: Token, parser: &mut Parser) -> Result<bool, No
         Token::Word(name) => take_operand(alloc, Expr::Ref(name), parser),
         Token::Cell(cell) => take_cell(alloc, cell, parser),
         Token::Func(func) => Ok(take_func(func, parser)),
-        Token::Op(op) => step_sign(alloc, Sign::Op(op), parser),
-        Token::Open => step_sign(alloc, Sign::Open, parser),
-        Token::Close => step_sign(alloc, Sign::Close, parser),
-        Token::Comma => step_sign(alloc, Sign::Comma, parser),
-        Token::Colon => step_sign(alloc, Sign::Colon, parser),
+        Token::Op(op) => step_op(alloc, op, parser),
+        Token::Open => step_open(alloc, parser),
+        Token::Close => step_close(alloc, parser),
+        Token::Comma => step_comma(alloc, parser),
+        Token::Colon => step_colon(alloc, parser),
     }
 }
 
 /// Whether an operand comes.
 #[inline(always)]
-fn is_wanting(parser: &Parser) -> bool
+pub fn is_wanting(parser: &Parser) -> bool
     ensures { result ≡ is_wanting parser.now.state parser.now.range }
 {
     match parser.state {
@@ -73,7 +73,7 @@ fn take_operand(alloc: Global, operand: Expr, parser: &mut Parser) -> Result<boo
 /// A function's name.
 #[tactic(auto, using(crate::proofs::Wanting::func_next))]
 #[inline(always)]
-fn take_func(func: Func, parser: &mut Parser) -> bool
+pub fn take_func(func: Func, parser: &mut Parser) -> bool
     ensures { OptionGoesTo result parser.new (next_state (reached parser.old) (tokens.Func func)) }
 {
     if !is_wanting(parser) {
@@ -122,11 +122,68 @@ fn cell_in_range(alloc: Global, cell: Cell, parser: &mut Parser) -> Result<bool,
 pub fn step_sign(alloc: Global, sign: Sign, parser: &mut Parser) -> Result<bool, NoMemory>
     ensures { GoesTo result parser.new (next_state (reached parser.old) (sign_token sign)) }
 {
+    match sign {
+        Sign::Op(op) => step_op(alloc, op, parser),
+        Sign::Open => step_open(alloc, parser),
+        Sign::Close => step_close(alloc, parser),
+        Sign::Comma => step_comma(alloc, parser),
+        Sign::Colon => step_colon(alloc, parser),
+    }
+}
+
+#[inline(always)]
+fn step_op(alloc: Global, op: Op, parser: &mut Parser) -> Result<bool, NoMemory>
+    ensures { GoesTo result parser.new (next_state (reached parser.old) (tokens.Op op)) }
+{
     match parser.state {
-        State::Wants => begin(sign, parser),
-        State::Had => go_on(alloc, sign, parser),
-        State::Named(func) => at_name(alloc, sign, func, parser),
-        State::InRange => in_range(alloc, sign, parser),
+        State::Wants => sign_at(op, parser),
+        State::Had => go_on(alloc, Sign::Op(op), taken(&mut parser.operand), parser),
+        State::Named(_) => Ok(false),
+        State::InRange => in_range(alloc, Sign::Op(op), parser),
+    }
+}
+
+#[inline(always)]
+fn step_open(alloc: Global, parser: &mut Parser) -> Result<bool, NoMemory>
+    ensures { GoesTo result parser.new (next_state (reached parser.old) tokens.Open) }
+{
+    match parser.state {
+        State::Wants => put(Frame::Group, parser),
+        State::Had => Ok(false),
+        State::Named(func) => put(Frame::Call(func, Vec::new(alloc)), parser),
+        State::InRange => in_range(alloc, Sign::Open, parser),
+    }
+}
+
+#[inline(always)]
+fn step_close(alloc: Global, parser: &mut Parser) -> Result<bool, NoMemory>
+    ensures { GoesTo result parser.new (next_state (reached parser.old) tokens.Close) }
+{
+    match parser.state {
+        State::Had => close(alloc, taken(&mut parser.operand), parser),
+        State::InRange => in_range(alloc, Sign::Close, parser),
+        _ => Ok(false),
+    }
+}
+
+#[inline(always)]
+fn step_comma(alloc: Global, parser: &mut Parser) -> Result<bool, NoMemory>
+    ensures { GoesTo result parser.new (next_state (reached parser.old) tokens.Comma) }
+{
+    match parser.state {
+        State::Had => split(alloc, taken(&mut parser.operand), parser),
+        State::InRange => in_range(alloc, Sign::Comma, parser),
+        _ => Ok(false),
+    }
+}
+
+#[inline(always)]
+fn step_colon(alloc: Global, parser: &mut Parser) -> Result<bool, NoMemory>
+    ensures { GoesTo result parser.new (next_state (reached parser.old) tokens.Colon) }
+{
+    match parser.state {
+        State::InRange => in_range(alloc, Sign::Colon, parser),
+        _ => Ok(false),
     }
 }
 
@@ -144,17 +201,22 @@ fn in_range(alloc: Global, sign: Sign, parser: &mut Parser) -> Result<bool, NoMe
 
 /// A sign behind an operand.
 #[inline(always)]
-fn go_on(alloc: Global, sign: Sign, parser: &mut Parser) -> Result<bool, NoMemory>
-    ensures { GoesTo result parser.new (go_on (sign_token sign) (tree_of parser.old.operand) (frames_of parser.old.stack.frames.items)) }
+pub fn go_on(
+    alloc: Global,
+    sign: Sign,
+    operand: Expr,
+    parser: &mut Parser,
+) -> Result<bool, NoMemory>
+    ensures { GoesTo result parser.new (go_on (sign_token sign) (tree_of operand) (frames_of parser.old.stack.frames.items)) }
 {
     match sign {
         Sign::Op(op) => {
-            join(alloc, op, taken(&mut parser.operand), &mut parser.stack)?;
+            join(alloc, op, operand, &mut parser.stack)?;
             parser.state = State::Wants;
             Ok(true)
         }
-        Sign::Close => close(alloc, taken(&mut parser.operand), parser),
-        Sign::Comma => split(alloc, taken(&mut parser.operand), parser),
+        Sign::Close => close(alloc, operand, parser),
+        Sign::Comma => split(alloc, operand, parser),
         Sign::Open | Sign::Colon => Ok(false),
     }
 }
@@ -165,17 +227,6 @@ fn taken(operand: &mut Expr) -> Expr
     ensures { result ≡ operand.old }
 {
     mem::replace(operand, Expr::Number(0))
-}
-
-/// A sign behind a function's name.
-#[inline(always)]
-fn at_name(alloc: Global, sign: Sign, func: Func, parser: &mut Parser) -> Result<bool, NoMemory>
-    ensures { GoesTo result parser.new (at_name (sign_token sign) func (frames_of parser.old.stack.frames.items)) }
-{
-    match sign {
-        Sign::Open => put(Frame::Call(func, Vec::new(alloc)), parser),
-        _ => Ok(false),
-    }
 }
 
 /// A sign behind the cell that begins an argument.
@@ -197,8 +248,7 @@ fn at_corner(
         }
         sign => {
             parser.stack.push(Frame::Call(func, done))?;
-            parser.operand = Expr::Ref(cell.into_name());
-            go_on(alloc, sign, parser)
+            go_on(alloc, sign, Expr::Ref(cell.into_name()), parser)
         }
     }
 }

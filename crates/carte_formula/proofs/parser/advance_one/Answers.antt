@@ -1,7 +1,7 @@
 use Rattle.std.proofs.Common.{◌+◌}
 use Rattle.carte_formula.specs.Tokens.{sign_token}
 use Rattle.carte_formula.proofs.Resuming.{sign_here, token_advances, fault_advances}
-use Rattle.carte_formula.proofs.parser.advance_sign.Goals as goal
+use Rattle.carte_formula.proofs.parser.advance_one.Goals as goal
 
 pub returns-in-Ok : goal.returns-in-Ok
 returns-in-Ok c =
