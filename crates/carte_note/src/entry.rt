@@ -84,7 +84,7 @@ pub(crate) fn entry(
 fn names(alloc: Global, links: &Links) -> Result<Names, NoMemory>
     ensures { IfOk result (λ names. names ≡ names_in links.now) }
 {
-    let mut names = Names::new(alloc);
+    let mut names = Names::with_room(alloc, links.len())?;
     for link in links.as_slice() {
         names.push(link.name.copy(alloc)?)?;
     }

@@ -137,11 +137,11 @@ fn add(places: &mut Places, key: Name, at: u32) -> Result<(), NoMemory>
     ensures ok { OnOk result (AddsPlace name_eq (get name_eq places.old) (get name_eq places.new) key at) }
     ensures no_memory { OnErr result ((q : List ℕ) → get name_eq places.new q ≡ get name_eq places.old q) }
 {
-    if places.contains_key(&key) {
-        return Ok(());
-    }
-    match places.insert(key, at) {
-        Ok(_) => Ok(()),
+    match places.entry(key) {
+        Ok(entry) => {
+            entry.or_insert(at);
+            Ok(())
+        }
         Err(_) => Err(NoMemory),
     }
 }

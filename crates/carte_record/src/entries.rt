@@ -1,8 +1,10 @@
 ghost use Rattle.std.specs.Prelude.{◌≡◌, ◌<◌, ◌^◌, ◌∷◌, ◌++◌, [], List, length, slice_get, option_copied, ◌==◌, is_ok, take, IfOk, OnOk, OnErr, IsTrue, ℕ, Bool, option_map, if◌then◌else◌};
+ghost use Rattle.std.specs.HashMap.{get};
+ghost use Rattle.carte_value.specs.Names.{name_eq};
 ghost use Rattle.carte_record.specs.Lookups.{first_entry, is_entry_of};
 ghost use Rattle.carte_record.specs.Kept.{staled};
 ghost use Rattle.carte_record.specs.Marked.{all_marked, marked_as};
-ghost use Rattle.carte_record.specs.Places.{first_place};
+ghost use Rattle.carte_record.specs.Places.{first_place, IsFirstPlaces};
 ghost use Rattle.carte_record.specs.Changes.{change_first, front};
 ghost use Rattle.carte_record.specs.Folds.{is_among};
 ghost use Rattle.carte_record.specs.Steps.{Begins, Replaces, HasRoomFor, HasRoom, CanBecome, IsReady};
@@ -10,7 +12,7 @@ ghost use Rattle.carte_record.specs.Growth.{TakesEntries};
 ghost use Rattle.carte_record.specs.declared.entry.Entry.{Entry as SomeEntry};
 
 use crate::Entry;
-use crate::table::{Table, each_once, first, forget, place, push, set, widen};
+use crate::table::{Table, add, each_once, first, forget, place, push, set, widen};
 use carte_value::{Name, Names, NoMemory, Same, Seeded};
 use std::alloc::Global;
 use std::marker::Model;
@@ -62,6 +64,23 @@ impl Entries {
             alloc,
             entries: Vec::with_capacity(alloc, count)?,
             places: Table::with_capacity_and_hasher(alloc, count, hasher)?,
+        })
+    }
+
+    /// These entries, with the places of their keys in a table.
+    pub(crate) fn with_places(
+        alloc: Global,
+        entries: Vec<Entry>,
+        hasher: Seeded,
+    ) -> Result<Entries, NoMemory>
+        requires { length entries.items < 2 ^ 32 }
+        ensures { IfOk result (λ list. list ≡ entries.items) }
+    {
+        let places = places_of_all(alloc, entries.as_slice(), hasher)?;
+        Ok(Entries {
+            alloc,
+            entries,
+            places,
         })
     }
 
@@ -243,6 +262,22 @@ impl Entries {
         let key = entry.key.copy(self.alloc)?;
         push(&mut self.entries, &mut self.places, key, entry)
     }
+}
+
+fn places_of_all(
+    alloc: Global,
+    entries: &[Entry],
+    hasher: Seeded,
+) -> Result<Table<Name, u32>, NoMemory>
+    requires { length entries.now < 2 ^ 32 }
+    ensures { IfOk result (λ table. IsFirstPlaces is_entry_of entries.now (get name_eq table)) }
+{
+    let mut table = Table::with_capacity_and_hasher(alloc, entries.len(), hasher)?;
+    for at in 0..entries.len() {
+        let key = entries[at].key.copy(alloc)?;
+        add(&mut table, key, at as u32)?;
+    }
+    Ok(table)
 }
 
 fn mark(entries: &mut Vec<Entry>, at: Option<usize>, stale: bool)

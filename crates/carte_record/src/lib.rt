@@ -23,6 +23,7 @@
 mod apply;
 mod batch;
 mod codec;
+mod digest_key;
 mod entries;
 mod entry;
 mod kept;

@@ -1,4 +1,4 @@
-ghost use Rattle.std.specs.Prelude.{◌≡◌, ◌++◌, ◌∷◌, [], is_ok, if◌then◌else◌};
+ghost use Rattle.std.specs.Prelude.{◌≡◌, ◌++◌, ◌∷◌, [], IfOk, is_ok, if◌then◌else◌};
 ghost use Rattle.carte_record.specs.KeyPlaces.{places_of};
 ghost use Rattle.carte_record.specs.Changes.{front};
 
@@ -6,11 +6,13 @@ use carte_value::NoMemory;
 use std::alloc::Global;
 use std::slice;
 
-/// The places of a key's traces, ascending. Most keys have one trace, whose place takes no memory of its own.
+/// The places of a key's traces, ascending. Most keys have one trace, whose place takes no memory of its own; the list of
+/// others is boxed, so that the places of each key take no more room than they need for one.
 #[derive(Drop)]
 pub(crate) enum Places {
+    Gone,
     One(u32),
-    Many(Vec<u32>),
+    Many(Box<Vec<u32>>),
 }
 
 impl Places {
@@ -18,6 +20,7 @@ impl Places {
         ensures { result.now ≡ places_of self.now }
     {
         match self {
+            Places::Gone => &[],
             Places::One(place) => slice::from_ref(place),
             Places::Many(places) => places.as_slice(),
         }
@@ -28,29 +31,32 @@ impl Places {
         ensures { places_of self.new ≡ (if is_ok result then places_of self.old ++ at ∷ [] else places_of self.old) }
     {
         match self {
-            Places::One(first) => {
-                let mut both = Vec::new(alloc);
-                both.push(*first)?;
-                both.push(at)?;
-                *self = Places::Many(both);
-                Ok(())
-            }
-            Places::Many(places) => {
-                places.push(at)?;
-                Ok(())
-            }
+            Places::Gone => *self = Places::One(at),
+            Places::One(first) => *self = both(alloc, *first, at)?,
+            Places::Many(places) => places.push(at)?,
         }
+        Ok(())
     }
 
     /// Takes the last place out.
-    pub(crate) fn pop(&mut self, alloc: Global)
+    pub(crate) fn pop(&mut self)
         ensures { places_of self.new ≡ front (places_of self.old) }
     {
         match self {
-            Places::One(_) => *self = Places::Many(Vec::new(alloc)),
+            Places::Gone => {}
+            Places::One(_) => *self = Places::Gone,
             Places::Many(places) => {
                 places.pop();
             }
         }
     }
+}
+
+fn both(alloc: Global, first: u32, second: u32) -> Result<Places, NoMemory>
+    ensures { IfOk result (λ places. places_of places ≡ first ∷ second ∷ []) }
+{
+    let mut both = Vec::with_capacity(alloc, 2)?;
+    both.push(first)?;
+    both.push(second)?;
+    Ok(Places::Many(Box::new(alloc, both)?))
 }

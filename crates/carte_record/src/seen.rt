@@ -1,9 +1,12 @@
 ghost use Rattle.std.specs.Prelude.{◌≡◌, ◌<◌, ◌^◌, ◌∷◌, ◌++◌, [], List, length, slice_get, option_copied, ◌==◌, is_ok, take, IfOk, OnOk, OnErr, IsTrue, if◌then◌else◌};
+ghost use Rattle.std.specs.HashMap.{get};
+ghost use Rattle.carte_value.specs.Names.{name_eq};
 ghost use Rattle.carte_record.specs.Lookups.{first_link, is_link_of};
+ghost use Rattle.carte_record.specs.Places.{IsFirstPlaces};
 ghost use Rattle.carte_record.specs.Changes.{change_first, front};
 ghost use Rattle.carte_record.specs.Steps.{Begins, Replaces, HasRoomFor, HasRoom, CanBecome, IsReady, TakesIn};
 
-use crate::table::{Table, each_once, first, forget, place, push, set, widen};
+use crate::table::{Table, add, each_once, first, forget, place, push, set, widen};
 use carte_value::{Digest, Link, Name, NoMemory, Same, Seeded};
 use std::alloc::Global;
 use std::marker::Model;
@@ -52,6 +55,23 @@ impl Seen {
             alloc,
             links: Vec::with_capacity(alloc, count)?,
             places: Table::with_capacity_and_hasher(alloc, count, hasher)?,
+        })
+    }
+
+    /// These links, with the places of their names in a table.
+    pub(crate) fn with_places(
+        alloc: Global,
+        links: Vec<Link>,
+        hasher: Seeded,
+    ) -> Result<Seen, NoMemory>
+        requires { length links.items < 2 ^ 32 }
+        ensures { IfOk result (λ list. list ≡ links.items) }
+    {
+        let places = places_of_all(alloc, links.as_slice(), hasher)?;
+        Ok(Seen {
+            alloc,
+            links,
+            places,
         })
     }
 
@@ -215,4 +235,20 @@ impl Seen {
         let name = link.name.copy(self.alloc)?;
         push(&mut self.links, &mut self.places, name, link)
     }
+}
+
+fn places_of_all(
+    alloc: Global,
+    links: &[Link],
+    hasher: Seeded,
+) -> Result<Table<Name, u32>, NoMemory>
+    requires { length links.now < 2 ^ 32 }
+    ensures { IfOk result (λ table. IsFirstPlaces is_link_of links.now (get name_eq table)) }
+{
+    let mut table = Table::with_capacity_and_hasher(alloc, links.len(), hasher)?;
+    for at in 0..links.len() {
+        let name = links[at].name.copy(alloc)?;
+        add(&mut table, name, at as u32)?;
+    }
+    Ok(table)
 }

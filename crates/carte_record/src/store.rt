@@ -1,12 +1,16 @@
-ghost use Rattle.std.specs.Prelude.{◌≡◌, ◌<◌, ◌^◌, ◌∷◌, ◌++◌, [], List, length, slice_get, option_map, option_copied, ◌==◌, is_ok, take, IfOk, OnOk, Some, None, if◌then◌else◌};
+ghost use Rattle.std.specs.Prelude.{◌≡◌, ◌<◌, ◌^◌, ◌∷◌, ◌++◌, [], List, length, map, slice_get, option_map, option_copied, ◌==◌, is_ok, take, IfOk, OnOk, Some, None, if◌then◌else◌};
 ghost use Rattle.carte_value.specs.Spelling.{digest_of};
+ghost use Rattle.std.specs.HashMap.{get};
+ghost use Rattle.carte_value.specs.Names.{name_eq};
 ghost use Rattle.carte_record.specs.Lookups.{first_value, is_value_of};
+ghost use Rattle.carte_record.specs.Places.{IsFirstPlaces};
 ghost use Rattle.carte_record.specs.Changes.{front};
 ghost use Rattle.carte_value.specs.declared.digest.Digest.{Digest as SomeDigest};
 ghost use Rattle.std.specs.Option.{option_or};
 ghost use Rattle.carte_record.specs.Steps.{Begins};
 
-use crate::table::{Table, first, forget, make_place, push, widen};
+use crate::digest_key::DigestKey;
+use crate::table::{Table, add, first, forget, make_place, push, widen};
 use carte_value::{Digest, NoMemory, Seeded, Value};
 use std::alloc::Global;
 use std::marker::Model;
@@ -17,7 +21,7 @@ use std::marker::Model;
 pub struct Store {
     values: Vec<Value>,
     digests: Vec<Digest>,
-    places: Table<[u8; 32], u32>,
+    places: Table<DigestKey, u32>,
 }
 
 impl Model for Store {
@@ -56,6 +60,23 @@ impl Store {
             values: Vec::with_capacity(alloc, count)?,
             digests: Vec::with_capacity(alloc, count)?,
             places: Table::with_capacity_and_hasher(alloc, count, hasher)?,
+        })
+    }
+
+    /// These values, with their digests, and the places of these in a table.
+    pub(crate) fn with_places(
+        alloc: Global,
+        values: Vec<Value>,
+        hasher: Seeded,
+    ) -> Result<Store, NoMemory>
+        requires { length values.items < 2 ^ 32 }
+        ensures { IfOk result (λ list. list ≡ values.items) }
+    {
+        let (digests, places) = digests_of_all(alloc, values.as_slice(), hasher)?;
+        Ok(Store {
+            values,
+            digests,
+            places,
         })
     }
 
@@ -99,7 +120,8 @@ impl Store {
     pub fn find(&self, digest: &Digest) -> Option<&Value>
         ensures { option_copied result ≡ first_value self.now digest.now }
     {
-        first(self.values.as_slice(), &self.places, &digest.0)
+        let key = DigestKey::of(digest);
+        first(self.values.as_slice(), &self.places, &key)
     }
 
     /// The digest of the value at a place counted from 0, where the list is longer than that.
@@ -155,7 +177,8 @@ impl Store {
     {
         if let Some(_value) = self.values.pop() {
             if let Some(digest) = self.digests.pop() {
-                forget(&mut self.places, &digest.0, self.values.len());
+                let key = DigestKey::of(&digest);
+                forget(&mut self.places, &key, self.values.len());
             }
         }
     }
@@ -185,8 +208,29 @@ impl Store {
         ensures { self.new ≡ (if is_ok result then self.old ++ value ∷ [] else self.old) }
     {
         make_place(&mut self.digests)?;
-        push(&mut self.values, &mut self.places, digest.0, value)?;
+        let key = DigestKey::of(&digest);
+        push(&mut self.values, &mut self.places, key, value)?;
         self.digests.push_reserved(digest);
         Ok(())
     }
+}
+
+/// The digests of values, and their places.
+fn digests_of_all(
+    alloc: Global,
+    values: &[Value],
+    hasher: Seeded,
+) -> Result<(Vec<Digest>, Table<DigestKey, u32>), NoMemory>
+    requires { length values.now < 2 ^ 32 }
+    ensures { IfOk result (λ r. (r.0.items ≡ map digest_of values.now) × IsFirstPlaces (λ d. is_value_of (record { 0 = d })) values.now (get name_eq r.1)) }
+{
+    let mut digests = Vec::with_capacity(alloc, values.len())?;
+    let mut table = Table::with_capacity_and_hasher(alloc, values.len(), hasher)?;
+    for at in 0..values.len() {
+        let digest = values[at].digest();
+        let key = DigestKey::of(&digest);
+        add(&mut table, key, at as u32)?;
+        digests.push(digest)?;
+    }
+    Ok((digests, table))
 }

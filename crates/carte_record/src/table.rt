@@ -132,15 +132,20 @@ pub(crate) fn push<K: Eq + Hash + Drop, T: Drop>(
     Ok(())
 }
 
-fn add<K: Eq + Hash + Drop>(table: &mut Table<K, u32>, key: K, at: u32) -> Result<(), NoMemory>
+/// Puts the place of a key into the table, where it has none.
+pub(crate) fn add<K: Eq + Hash + Drop>(
+    table: &mut Table<K, u32>,
+    key: K,
+    at: u32,
+) -> Result<(), NoMemory>
     ensures ok { OnOk result (AddsPlace K.eq (get K.eq table.old) (get K.eq table.new) key at) }
     ensures no_memory { OnErr result ((q : K) → get K.eq table.new q ≡ get K.eq table.old q) }
 {
-    if table.contains_key(&key) {
-        return Ok(());
-    }
-    match table.insert(key, at) {
-        Ok(_) => Ok(()),
+    match table.entry(key) {
+        Ok(entry) => {
+            entry.or_insert(at);
+            Ok(())
+        }
         Err(_) => Err(NoMemory),
     }
 }

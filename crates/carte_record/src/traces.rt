@@ -153,7 +153,7 @@ impl Traces {
         ensures { self.new ≡ front self.old }
     {
         if let Some(trace) = self.traces.pop() {
-            forget(self.alloc, &mut self.places, &trace.key);
+            forget(&mut self.places, &trace.key);
         }
     }
 
@@ -204,19 +204,16 @@ fn add(alloc: Global, table: &mut Table<Name, Places>, key: Name, at: u32) -> Re
     ensures ok { OnOk result (AddsToPlaces name_eq (λ q. places_in (get name_eq table.old q)) (λ q. places_in (get name_eq table.new q)) key at) }
     ensures no_memory { OnErr result ((q : List ℕ) → places_in (get name_eq table.new q) ≡ places_in (get name_eq table.old q)) }
 {
-    if let Some(places) = table.get_mut(&key) {
-        return places.push(alloc, at);
-    }
-    match table.insert(key, Places::One(at)) {
-        Ok(_) => Ok(()),
+    match table.entry(key) {
+        Ok(entry) => entry.or_insert(Places::Gone).push(alloc, at),
         Err(_) => Err(NoMemory),
     }
 }
 
-fn forget(alloc: Global, table: &mut Table<Name, Places>, key: &Name)
+fn forget(table: &mut Table<Name, Places>, key: &Name)
     ensures { DropsPlace name_eq (λ q. places_in (get name_eq table.old q)) (λ q. places_in (get name_eq table.new q)) key.now }
 {
     if let Some(places) = table.get_mut(key) {
-        places.pop(alloc);
+        places.pop();
     }
 }

@@ -106,12 +106,21 @@ impl Batch {
         }
     }
 
+    /// About how many bytes it is spelled as, where names are short. Room for so many is made at once: if the bytes grew by
+    /// doubling, each of their former places would be held beside what is kept. Where there are more, they grow.
+    fn about_how_long(&self) -> usize {
+        let traces = self.verifying.len() + self.constructive.len() + self.deep.len();
+        let entries = self.entries.len() + self.seen.len();
+        traces * 128 + entries * 64 + self.values.len() * 16 + 64
+    }
+
     /// The bytes of the batch, as the state file keeps it.
     pub fn encode(&self, alloc: Global) -> Result<Vec<u8>, NoMemory>
         requires { EachFits IsUnmarked self.now.entries }
         ensures { IfOk result (λ bytes. IsBody self.now bytes.items) }
     {
         let mut bytes = Vec::new(alloc);
+        let _room = bytes.reserve_exact(self.about_how_long());
         self.write(&mut bytes)?;
         Ok(bytes)
     }

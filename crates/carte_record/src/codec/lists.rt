@@ -21,16 +21,11 @@ impl Store {
         write_list(self.as_slice(), out)
     }
 
-    /// The list of values that were read.
+    /// The list of values that were read: it is theirs, with a table beside it.
     pub(crate) fn of(alloc: Global, values: Plain<Value>, hasher: Seeded) -> Result<Store, NoMemory>
         ensures { IfOk result (λ list. list ≡ values) }
     {
-        let values = values.into_items();
-        let mut list = Store::with_room(alloc, values.len(), hasher)?;
-        for value in values {
-            list.push(value)?;
-        }
-        Ok(list)
+        Store::with_places(alloc, values.into_items(), hasher)
     }
 }
 
@@ -44,16 +39,11 @@ impl Seen {
         write_list(self.as_slice(), out)
     }
 
-    /// The list of links that were read.
+    /// The list of links that were read: it is theirs, with a table beside it.
     pub(crate) fn of(alloc: Global, links: Plain<Link>, hasher: Seeded) -> Result<Seen, NoMemory>
         ensures { IfOk result (λ list. list ≡ links) }
     {
-        let links = links.into_items();
-        let mut list = Seen::with_room(alloc, links.len(), hasher)?;
-        for link in links {
-            list.push(link)?;
-        }
-        Ok(list)
+        Seen::with_places(alloc, links.into_items(), hasher)
     }
 }
 
@@ -67,7 +57,7 @@ impl Entries {
         write_list(self.as_slice(), out)
     }
 
-    /// The list of entries that were read.
+    /// The list of entries that were read: it is theirs, with a table beside it.
     pub(crate) fn of(
         alloc: Global,
         entries: Plain<Entry>,
@@ -75,12 +65,7 @@ impl Entries {
     ) -> Result<Entries, NoMemory>
         ensures { IfOk result (λ list. list ≡ entries) }
     {
-        let entries = entries.into_items();
-        let mut list = Entries::with_room(alloc, entries.len(), hasher)?;
-        for entry in entries {
-            list.push(entry)?;
-        }
-        Ok(list)
+        Entries::with_places(alloc, entries.into_items(), hasher)
     }
 }
 

@@ -18,7 +18,7 @@ invariant_of-self c =
     let end : c.len.result ≡ length c.pop.new.self.items = search rules in (
       omega (arith, ap length was, length-append c.pop.new.self.items (c.in-Some._value ∷ []), c.self.invariant.0),
       ends.0,
-      place_forgotten name_eq (λ d. is_value_of (record { 0 = d })) c.pop.new.self.items c.in-Some._value c.in-Some-pop.digest.0 (get name_eq c.self.inside.places) (get name_eq c.forget.new.table) c.len.result end
-          (λ q. name_eq_sym q (digest_of c.in-Some._value).0 ∙ sym (ap (λ d. name_eq d.0 q) ends.1)) (λ q. name_eq_is c.in-Some-pop.digest.0 q) (name_eq_self c.in-Some-pop.digest.0)
+      place_forgotten name_eq (λ d. is_value_of (record { 0 = d })) c.pop.new.self.items c.in-Some._value c.of-key.result (get name_eq c.self.inside.places) (get name_eq c.forget.new.table) c.len.result end
+          (λ q. name_eq_sym q (digest_of c.in-Some._value).0 ∙ sym (ap (λ d. name_eq d.0 q) ends.1) ∙ sym (ap (λ k. name_eq k q) c.of-key.ensures)) (λ q. name_eq_is c.of-key.result q) (name_eq_self c.of-key.result)
           (subst (λ xs. IsFirstPlaces (λ d. is_value_of (record { 0 = d })) xs (get name_eq c.self.inside.places)) was c.self.invariant.2) c.forget.ensures,
     )
