@@ -16,8 +16,8 @@ use Rattle.carte_bench.specs.declared.slot.Slot.{Slot}
 use Rattle.carte_bench.specs.declared.slot.Slot.TheVariants.{Out}
 use Rattle.carte_bench.specs.Spots.{Spots, PutAt, job_in, name_of, slot_after, sight_in, seen_in}
 use Rattle.carte_bench.specs.Steps.{FitsOf, GivesOf, IsCore, IsPartOf, step_of}
-use Rattle.carte_bench.specs.declared.bench.Bench.{Bench}
-use Rattle.carte_bench.specs.Held.{spots_of, book_of}
+use Rattle.carte_bench.specs.declared.look.Shown.{Shown}
+use Rattle.carte_bench.specs.Held.{shown_spots, shown_book}
 use Rattle.carte_bench.specs.Turns.{stops_in, TurnedTo, Turned}
 use Rattle.carte_bench.proofs.Puts.{put_here, put_apart}
 use Rattle.carte_bench.proofs.Cores.{put_core, job_fits, after_fits, sees_inputs}
@@ -70,7 +70,7 @@ module _ {J : Type 0} (name : J → List ℕ) (started : J → Bool) (gives : Gi
   turn_names (Some m) turned all = turn_named (Ok m) turned all
   turn_names None (x, turned) all = turn_named (Err x) turned all
 
--- the same bench and the same outcome
-pub gave_same : {J : Type 0} (gives : GivesOf J) (m l : Bench J) (p q : J) (o d : Result Made (Halt Stuck)) → m ≡ l → d ≡ o → Gave gives (seen_in (book_of m) (spots_of m)) (stops_in (book_of m) (spots_of m)) None None p q o → Gave gives (seen_in (book_of l) (spots_of l)) (stops_in (book_of l) (spots_of l)) None None p q d
-gave_same {J = J} gives m l p q o d same is gave =
-    subst (λ (r : Result Made (Halt Stuck)). Gave gives (seen_in (book_of l) (spots_of l)) (stops_in (book_of l) (spots_of l)) None None p q r) (sym is) (subst (λ (n : Bench J). Gave gives (seen_in (book_of n) (spots_of n)) (stops_in (book_of n) (spots_of n)) None None p q o) same gave)
+-- the same is shown, and the same outcome
+pub gave_same : {J : Type 0} (gives : GivesOf J) {m l : Shown J} (p q : J) (o d : Result Made (Halt Stuck)) → m ≡ l → d ≡ o → Gave gives (seen_in (shown_book m) (shown_spots m)) (stops_in (shown_book m) (shown_spots m)) None None p q o → Gave gives (seen_in (shown_book l) (shown_spots l)) (stops_in (shown_book l) (shown_spots l)) None None p q d
+gave_same {J = J} gives {m = m} {l = l} p q o d same is gave =
+    subst (λ (r : Result Made (Halt Stuck)). Gave gives (seen_in (shown_book l) (shown_spots l)) (stops_in (shown_book l) (shown_spots l)) None None p q r) (sym is) (subst (λ (n : Shown J). Gave gives (seen_in (shown_book n) (shown_spots n)) (stops_in (shown_book n) (shown_spots n)) None None p q o) same gave)

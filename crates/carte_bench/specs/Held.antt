@@ -3,6 +3,7 @@ use Rattle.std.specs.HashMap.{get}
 use Rattle.carte_value.specs.Names.{name_eq}
 use Rattle.carte_book.specs.Book.{Book, book_view}
 use Rattle.carte_bench.specs.declared.bench.Bench.{Bench}
+use Rattle.carte_bench.specs.declared.look.Shown.{Shown}
 use Rattle.carte_bench.specs.Spots.{Spots}
 
 abbrev pub spots_of : {J : Type 0} → Bench J → Spots J
@@ -10,3 +11,9 @@ spots_of b k = get name_eq b.slots k
 
 abbrev pub book_of : {J : Type 0} → Bench J → Book
 book_of b = book_view b.book.now
+
+abbrev pub shown_spots : {J : Type 0} → Shown J → Spots J
+shown_spots s k = get name_eq s.slots.now k
+
+abbrev pub shown_book : {J : Type 0} → Shown J → Book
+shown_book s = book_view s.book.now

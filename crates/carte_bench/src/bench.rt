@@ -1,7 +1,7 @@
-ghost use Rattle.std.specs.Prelude.{◌≡◌, Some, None, IsSome, OnOk, OnErr, IfOk};
+ghost use Rattle.std.specs.Prelude.{◌≡◌, true, Some, None, IsSome, OnOk, OnErr, IfOk};
 ghost use Rattle.carte_book.specs.Book.{book_view};
 ghost use Rattle.carte_bench.specs.Held.{spots_of, book_of};
-ghost use Rattle.carte_bench.specs.Spots.{PutAt, IsSame, Takes, TakenOut, place_of, slot_after};
+ghost use Rattle.carte_bench.specs.Spots.{PutAt, IsSame, Takes, TakenOut, job_in, is_ready, place_of, slot_after};
 ghost use Rattle.carte_bench.specs.declared.slot.Slot.TheVariants as slot;
 
 use crate::{Place, Slot};
@@ -89,6 +89,22 @@ impl<'b, J: Job + Drop> Bench<'b, J> {
                 None
             }
             Some(Slot::Out) | None => None,
+        }
+    }
+
+    // Takes a job that is known to be ready, without a look at its stop.
+    pub(crate) fn take_ready(&mut self, name: &Name) -> J
+        requires { is_ready (spots_of self.old) (spots_of self.old name.now) ≡ true }
+        ensures stood { job_in (spots_of self.old name.now) ≡ Some result }
+        ensures out { PutAt (spots_of self.old) (spots_of self.new) name.now slot.Out }
+        ensures book { book_of self.new ≡ book_of self.old }
+    {
+        match self.take_slot(name) {
+            Some(Slot::Ready(job)) => job,
+            Some(Slot::Stopped(job, _)) => job,
+            Some(Slot::Out) => unreachable!(),
+            Some(Slot::Done(_)) => unreachable!(),
+            None => unreachable!(),
         }
     }
 

@@ -1,11 +1,16 @@
 ghost use Rattle.std.specs.Prelude.{◌≡◌};
+ghost use Rattle.carte_value.specs.Names.{name_eq};
+ghost use Rattle.carte_effect.specs.Sights.{Sees};
+ghost use Rattle.carte_book.specs.Book.{book_view};
 ghost use Rattle.carte_bench.specs.Held.{spots_of, book_of};
 ghost use Rattle.carte_bench.specs.Spots.{is_done, sight_in};
+ghost use Rattle.std.specs.HashMap.{get};
 
 use crate::{Bench, Slot};
-use carte_book::Looked;
+use carte_book::{Book, Looked};
 use carte_effect::{Look, Seen};
-use carte_value::Name;
+use carte_value::{Name, Seeded};
+use indexmap::IndexMap;
 
 impl<J> Bench<'_, J> {
     /// Whether a key has its value.
@@ -21,13 +26,37 @@ impl<J> Look for Bench<'_, J> {
     ghost sight = { λ bench k. sight_in (book_of bench) (spots_of bench) k };
 
     fn look(&self, name: &Name) -> Seen<'_> {
-        match self.book.lookup(name) {
-            Looked::Input(value) => Seen::Value(value),
-            Looked::Rule(_) => match self.slots.get(name) {
-                Some(Slot::Done(made)) => Seen::Made(made.hashed()),
-                _ => Seen::NotDone,
-            },
-            Looked::None => Seen::Missing,
-        }
+        seen(self.book, &self.slots, name)
+    }
+}
+
+/// What a bench shows, beside its table of digests, which is written to meanwhile.
+#[derive(Drop)]
+pub(crate) struct Shown<'a, J> {
+    pub(crate) book: &'a Book,
+    pub(crate) slots: &'a IndexMap<Name, Slot<J>, Seeded>,
+}
+
+/// What the bench sees.
+impl<J> Look for Shown<'_, J> {
+    ghost use Rattle.carte_bench.specs.Held.{shown_spots, shown_book};
+
+    ghost sight = { λ shown k. sight_in (shown_book shown) (shown_spots shown) k };
+
+    fn look(&self, name: &Name) -> Seen<'_> {
+        seen(self.book, self.slots, name)
+    }
+}
+
+fn seen<'a, J>(book: &'a Book, slots: &'a IndexMap<Name, Slot<J>, Seeded>, name: &Name) -> Seen<'a>
+    ensures { Sees result (sight_in (book_view book.now) (get name_eq slots.now) name.now) }
+{
+    match book.lookup(name) {
+        Looked::Input(value) => Seen::Value(value),
+        Looked::Rule(_) => match slots.get(name) {
+            Some(Slot::Done(made)) => Seen::Made(made.hashed()),
+            _ => Seen::NotDone,
+        },
+        Looked::None => Seen::Missing,
     }
 }

@@ -1,14 +1,14 @@
-ghost use Rattle.std.specs.Prelude.{◌≡◌, true, None, IfOk};
+ghost use Rattle.std.specs.Prelude.{◌≡◌, true, Some, None, IfOk};
 ghost use Rattle.carte_bench.specs.Held.{spots_of, book_of};
 ghost use Rattle.carte_effect.specs.Jobs.{Gave, Counted};
 ghost use Rattle.carte_bench.specs.Spots.{is_ready, seen_in, AreNamed};
-ghost use Rattle.carte_bench.specs.Turns.{stops_in, Turned};
+ghost use Rattle.carte_bench.specs.Turns.{stops_in, Turned, TurnedTo};
 
 use crate::Bench;
+use crate::look::Shown;
 use carte_effect::{Digests, Halt, Job, Made, Runs, Snapshot, Stuck};
 use carte_value::{Name, NoMemory};
 use std::alloc::Global;
-use std::mem;
 
 impl<J: Job + Drop> Bench<'_, J> {
     /// One turn of a key that is ready: its job is taken, driven over what the bench shows, and put back. The answer is
@@ -24,37 +24,54 @@ impl<J: Job + Drop> Bench<'_, J> {
         ensures turned { IfOk result (Turned J.name J.started J.gives (book_of self.old) (spots_of self.old) (spots_of self.new) runs.old runs.new name.now) }
         ensures book { book_of self.new ≡ book_of self.old }
     {
-        let Some(mut job) = self.take(name) else {
-            unreachable!()
-        };
+        match self.turn_to(alloc, name, runs)? {
+            Ok(made) => Ok(Some(made)),
+            Err(_) => Ok(None),
+        }
+    }
+
+    /// The same, where the answer tells at which name it stopped, and why.
+    pub fn turn_to(
+        &mut self,
+        alloc: Global,
+        name: &Name,
+        runs: &mut Runs,
+    ) -> Result<Result<Made, Stuck>, NoMemory>
+        requires ready { is_ready (spots_of self.old) (spots_of self.old name.now) ≡ true }
+        requires named { AreNamed J.name (spots_of self.old) }
+        ensures turned { IfOk result (TurnedTo J.name J.started J.gives (book_of self.old) (spots_of self.old) (spots_of self.new) runs.old runs.new name.now) }
+        ensures book { book_of self.new ≡ book_of self.old }
+    {
+        let mut job = self.take_ready(name);
         match self.drive(alloc, &mut job, runs) {
             Ok(made) => {
                 let copy = made.copy()?;
                 self.put_back(job, Ok(made));
-                Ok(Some(copy))
+                Ok(Ok(copy))
             }
             Err(Halt::Stop(stuck)) => {
+                let copy = copy_of(alloc, &stuck)?;
                 self.put_back(job, Err(stuck));
-                Ok(None)
+                Ok(Err(copy))
             }
             Err(Halt::NoMemory) => Err(NoMemory),
         }
     }
 
-    // Drives a job over what the bench shows. The digests come from the table of the bench, which is no part of what it
-    // shows and so is taken out of it meanwhile.
+    // Drives a job over what the bench shows. The digests come from the table of the bench, which is no part of that.
     fn drive(&mut self, alloc: Global, job: &mut J, runs: &mut Runs) -> Result<Made, Halt<Stuck>>
         ensures bench { self.new ≡ self.old }
         ensures name { J.name job.new ≡ J.name job.old }
         ensures gave { Gave J.gives (seen_in (book_of self.old) (spots_of self.old)) (stops_in (book_of self.old) (spots_of self.old)) None None job.old job.new result }
         ensures counted { Counted (J.name job.old) (J.started job.old) (J.started job.new) runs.old runs.new result }
     {
-        let none = Digests::new(self.alloc, self.book.hasher());
-        let mut digests = mem::replace(&mut self.digests, none);
-        let driven = job.drive(alloc, &mut Snapshot::with(&*self, &mut digests), runs);
-        let driven = hashed(driven, &mut digests);
-        self.digests = digests;
-        driven
+        let shown = Shown {
+            book: self.book,
+            slots: &self.slots,
+        };
+        let mut snapshot = Snapshot::with(&shown, &mut self.digests);
+        let driven = job.drive(alloc, &mut snapshot, runs);
+        hashed(driven, &mut self.digests)
     }
 }
 
@@ -69,4 +86,13 @@ fn hashed(driven: Result<Made, Halt<Stuck>>, digests: &mut Digests) -> Result<Ma
         }
         Err(halt) => Err(halt),
     }
+}
+
+fn copy_of(alloc: Global, stuck: &Stuck) -> Result<Stuck, NoMemory>
+    ensures { IfOk result (λ copy. copy ≡ stuck.now) }
+{
+    Ok(match stuck {
+        Stuck::NotDone(name) => Stuck::NotDone(name.copy(alloc)?),
+        Stuck::Missing(name) => Stuck::Missing(name.copy(alloc)?),
+    })
 }

@@ -19,8 +19,10 @@ pub fn checks_of(
 ) -> Result<Vec<Check>, NoMemory>
     ensures { IfOk result (λ checks. checks.items ≡ checks_in (option_copied wanted.entry) values.now key.now traces.now) }
 {
-    let mut checks = Vec::new(alloc);
-    for at in traces.places(key) {
+    let places = traces.places(key);
+    // A key has mostly one trace, and a list that grows as it needs has room for four at once.
+    let mut checks = Vec::with_capacity(alloc, places.len().min(1))?;
+    for at in places {
         add(
             alloc,
             traces.get(*at as usize),

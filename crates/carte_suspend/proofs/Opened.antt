@@ -1,9 +1,12 @@
 -- What stands once a name was demanded, or a path dropped.
-use Rattle.std.proofs.Common.{◌≡◌, ℕ, Bool, List, [], ◌∷◌, Option, Some, None, refl, sym, ◌∙◌, subst, inl, inr, ◌⊎◌}
+use Rattle.std.specs.Prelude.{is_none}
+use Rattle.std.proofs.Common.{◌≡◌, ℕ, Bool, true, false, List, [], ◌∷◌, Option, Some, None, refl, sym, ◌∙◌, subst, inl, inr, ◌⊎◌}
 use Rattle.carte_value.specs.Truths.{Among}
 use Rattle.carte_value.proofs.Members.{same_or_not}
 use Rattle.carte_book.specs.Book.{Item, input, rule, Book, content}
 use Rattle.carte_book.specs.Needs.{IsRule}
+use Rattle.carte_effect.specs.declared.look.Stuck.{Stuck}
+use Rattle.carte_effect.specs.declared.look.Stuck.TheVariants.{NotDone}
 use Rattle.carte_bench.specs.declared.slot.Slot.{Slot}
 use Rattle.carte_bench.specs.declared.slot.Slot.TheVariants.{Ready, Stopped}
 use Rattle.carte_bench.specs.Spots.{Spots, IsSame}
@@ -11,7 +14,7 @@ use Rattle.carte_bench.specs.Ended.{IsOpen}
 use Rattle.carte_bench.proofs.Puts.{put_here, put_apart}
 use Rattle.carte_bench.proofs.Turning.{jobs_put}
 use Rattle.carte_suspend.specs.Standing.{IsLeft, IsAside, IsStanding, IsHalted, StaysKnown}
-use Rattle.carte_suspend.specs.Opening.{Demands, Leaves, Opens}
+use Rattle.carte_suspend.specs.Opening.{IsFreshRule, IsStopIn, Demands, Leaves, Opens}
 use Rattle.carte_suspend.proofs.Standings.{rules_put, known_put, behind_put, behind_of, left_moves, open_before}
 
 module _ {J : Type 0} (name : J → List ℕ) (b : Book) where
@@ -101,3 +104,17 @@ module _ {J : Type 0} (name : J → List ℕ) (b : Book) where
 pub known_opens : {J : Type 0} (name : J → List ℕ) (started : J → Bool) (begins : List ℕ → J → Type 0) (b : Book) (old new : Spots J) (path path' : List (List ℕ)) (n : List ℕ) → Opens name started begins b old new path path' n → StaysKnown old new × (IsRule b n → (x : Slot J) × (new n ≡ Some x))
 known_opens name started begins b old new path path' n (inl d) = (known_put old new n (Ready d.job) d.put, λ is. (Ready d.job, put_here old new n (Ready d.job) d.put))
 known_opens name started begins b old new path path' n (inr (known, same, none)) = ((λ q x is. (x, same q ∙ is)), λ is. (let k = known is in (k.0, same n ∙ k.1)))
+
+-- a rule is a fresh one where the bench doesn't know it
+pub fresh_rule : {J : Type 0} (b : Book) (s : Spots J) (n : List ℕ) (fresh : Bool) → IsRule b n → fresh ≡ is_none (s n) → IsFreshRule b s n fresh
+fresh_rule {J = J} b s n fresh held same = at (s n) refl fresh same
+  where
+    at : (o : Option (Slot J)) → s n ≡ o → (f : Bool) → f ≡ is_none o → IsFreshRule b s n f
+    at None is true same_there = (held, is)
+    at None is false apart = λ rule_there. cc
+    at (Some x) is true apart = cc
+    at (Some x) is false same_there = λ rule_there. (x, is)
+
+-- so is what isn't done at a stop
+pub fresh_stop : {J : Type 0} (b : Book) (s : Spots J) (x : Stuck) (n : List ℕ) (fresh : Bool) → IsStopIn b x → x ≡ NotDone n → fresh ≡ is_none (s n) → IsFreshRule b s n fresh
+fresh_stop b s x n fresh stop is same = fresh_rule b s n fresh (subst (IsStopIn b) is stop) same

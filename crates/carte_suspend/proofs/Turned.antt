@@ -6,13 +6,15 @@ use Rattle.carte_effect.specs.declared.look.Stuck.{Stuck}
 use Rattle.carte_effect.specs.declared.look.Stuck.TheVariants.{NotDone, Missing}
 use Rattle.carte_effect.specs.declared.outcome.Made.{Made}
 use Rattle.carte_effect.specs.Ledger.{Ledger}
-use Rattle.carte_effect.specs.Sights.{Sight, IsStuck}
-use Rattle.carte_book.specs.Book.{Book}
+use Rattle.carte_value.specs.declared.value.Value.{Value}
+use Rattle.carte_tree.specs.Tree.{Tree}
+use Rattle.carte_effect.specs.Sights.{Sight, not_done, missing, sight_of, IsStuck}
+use Rattle.carte_book.specs.Book.{Item, input, rule, Book, content}
 use Rattle.carte_book.specs.Edits.{IsInput}
 use Rattle.carte_book.specs.Needs.{IsRule}
 use Rattle.carte_bench.specs.declared.slot.Slot.{Slot}
 use Rattle.carte_bench.specs.declared.slot.Slot.TheVariants.{Ready, Stopped, Out, Done}
-use Rattle.carte_bench.specs.Spots.{Spots, PutAt, is_done, name_of, slot_after, sight_in, seen_in}
+use Rattle.carte_bench.specs.Spots.{Spots, PutAt, is_done, name_of, slot_after, sight_at, sight_in, seen_in, done_in}
 use Rattle.carte_bench.specs.Steps.{GivesOf}
 use Rattle.carte_bench.specs.Ended.{IsOpen}
 use Rattle.carte_bench.specs.Turns.{TurnedTo}
@@ -20,7 +22,7 @@ use Rattle.carte_bench.proofs.Puts.{put_here, put_apart}
 use Rattle.carte_bench.proofs.Turning.{jobs_put}
 use Rattle.carte_bench.proofs.Cores.{sees_inputs}
 use Rattle.carte_suspend.specs.Standing.{Behind, IsChain, IsLeft, IsAside, IsStanding, IsHalted}
-use Rattle.carte_suspend.specs.Opening.{WaitsAt}
+use Rattle.carte_suspend.specs.Opening.{IsStopIn, WaitsAt}
 use Rattle.carte_suspend.proofs.Puts.{put_twice, job_there, ready_there, not_both}
 use Rattle.carte_suspend.proofs.Standings.{rules_put, behind_put, left_moves, open_before}
 
@@ -98,7 +100,27 @@ stuck_name : (s : Sight) (k : List ℕ) (x : Stuck) → IsStuck s k x → name_o
 stuck_name s k (NotDone j) is = is.0
 stuck_name s k (Missing j) is = is.0
 
+-- a rule alone isn't done, and what is missing has nothing
+undone_rule : (o : Option Item) (v : Option Value) → sight_at o v ≡ not_done → (e : Tree) × (o ≡ Some (rule e))
+undone_rule None v is = cc
+undone_rule (Some (input w)) v is = cc
+undone_rule (Some (rule e)) v is = (e, refl)
+
+missing_none : (o : Option Item) (v : Option Value) → sight_at o v ≡ missing → o ≡ None
+missing_none None v is = refl
+missing_none (Some (input w)) v is = cc
+missing_none (Some (rule e)) None is = cc
+missing_none (Some (rule e)) (Some w) is = cc
+
+stuck_in : {J : Type 0} (b : Book) (s : Spots J) (k : List ℕ) (x : Stuck) → IsStuck (sight_in b s k) k x → IsStopIn b x
+stuck_in b s k (NotDone j) (same, is) = rw same (undone_rule (content b k) (done_in (s k)) is)
+stuck_in b s k (Missing j) (same, is) = rw same (missing_none (content b k) (done_in (s k)) is)
+
 module _ {J : Type 0} (name : J → List ℕ) (started : J → Bool) (gives : GivesOf J) (b : Book) (old new : Spots J) (r r' : Ledger) (k : List ℕ) where
+  -- a stop tells what stands in the book at its name
+  pub stop_in : (x : Stuck) (turned : TurnedTo name started gives b old new r r' k (Err x)) → IsStopIn b x
+  stop_in x turned = let stop = turned.gave.gave in stuck_in b turned.mid stop.0 x stop.2
+
   -- what stands at the key in the end
   pub turn_put : (o : Result Made Stuck) (turned : TurnedTo name started gives b old new r r' k o) → PutAt old new k (slot_after turned.after o)
   turn_put o turned = put_twice old turned.mid new k Out (slot_after turned.after o) turned.out turned.put

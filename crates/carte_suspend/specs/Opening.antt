@@ -1,7 +1,9 @@
 -- How a name is demanded, and what a stop is.
 use Rattle.std.specs.Prelude.{ℕ, ◌≡◌, ◌⊎◌, Bool, true, false, List, [], ◌∷◌, ◌++◌, Some, None}
-use Rattle.carte_book.specs.Book.{Book}
+use Rattle.carte_book.specs.Book.{Book, content}
 use Rattle.carte_book.specs.Needs.{IsRule}
+use Rattle.carte_effect.specs.declared.look.Stuck.{Stuck}
+use Rattle.carte_effect.specs.declared.look.Stuck.TheVariants.{NotDone, Missing}
 use Rattle.carte_effect.specs.declared.outcome.Made.{Made}
 use Rattle.carte_sound.specs.Held.{How}
 use Rattle.carte_note.specs.declared.finished.Finished.{Finished}
@@ -14,6 +16,11 @@ use Rattle.carte_suspend.specs.Standing.{IsDemanded}
 abbrev pub IsFreshRule : {J : Type 0} → Book → Spots J → List ℕ → Bool → Type 0
 IsFreshRule b s n true = IsRule b n × (s n ≡ None)
 IsFreshRule b s n false = IsRule b n → IsDemanded s n
+
+-- what isn't done is a rule, and what is missing has nothing
+abbrev pub IsStopIn : Book → Stuck → Type 0
+IsStopIn b (NotDone n) = IsRule b n
+IsStopIn b (Missing n) = content b n ≡ None
 
 -- a new job of it stands on the bench, and it goes before the path
 pub record Demands {J : Type 0} (name : J → List ℕ) (started : J → Bool) (begins : List ℕ → J → Type 0) (b : Book) (old new : Spots J) (path path' : List (List ℕ)) (n : List ℕ) : Type 0 where

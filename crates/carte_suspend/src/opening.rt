@@ -2,11 +2,12 @@ ghost use Rattle.std.specs.Prelude.{◌≡◌, ◌∷◌, ℕ, List, None, true,
 ghost use Rattle.carte_book.specs.Book.{book_view};
 ghost use Rattle.carte_record.specs.Kept.{kept_view};
 ghost use Rattle.carte_bench.specs.Held.{spots_of, book_of};
-ghost use Rattle.carte_suspend.specs.Opening.{IsFreshRule, Opens};
+ghost use Rattle.carte_bench.specs.Spots.{name_of};
+ghost use Rattle.carte_suspend.specs.Opening.{IsFreshRule, IsStopIn, Opens};
 
 use carte_bench::{Bench, Place};
 use carte_book::{Book, Looked};
-use carte_effect::Job;
+use carte_effect::{Job, Stuck};
 use carte_rebuild::Rebuilder;
 use carte_record::Kept;
 use carte_value::{Name, NoMemory};
@@ -27,7 +28,49 @@ pub(crate) fn open<R: Rebuilder>(
     ensures book { book_of bench.new ≡ book_of bench.old }
     ensures opens { OnOk result (Opens R.Job.name R.Job.started (λ k j. R.begun rebuilder.now (kept_view kept.now) (book_view book.now) (λ q. None) k j) (book_view book.now) (spots_of bench.old) (spots_of bench.new) path.old.items path.new.items name) }
 {
-    if !is_fresh(alloc, book, bench, &name)? {
+    let fresh = is_fresh(alloc, book, bench, &name)?;
+    open_if(alloc, rebuilder, kept, book, bench, path, name, fresh)
+}
+
+/// The same for the name at which a job stopped, of which the stop tells whether it is a rule.
+pub(crate) fn open_stop<R: Rebuilder>(
+    alloc: Global,
+    rebuilder: &R,
+    kept: &Kept,
+    book: &Book,
+    bench: &mut Bench<'_, R::Job>,
+    path: &mut VecDeque<Name>,
+    stuck: Stuck,
+) -> Result<(), NoMemory>
+    requires { IsStopIn (book_view book.now) stuck }
+    ensures book { book_of bench.new ≡ book_of bench.old }
+    ensures opens { OnOk result (Opens R.Job.name R.Job.started (λ k j. R.begun rebuilder.now (kept_view kept.now) (book_view book.now) (λ q. None) k j) (book_view book.now) (spots_of bench.old) (spots_of bench.new) path.old.items path.new.items (name_of stuck)) }
+{
+    match stuck {
+        Stuck::NotDone(name) => {
+            let fresh = is_unknown(alloc, bench, &name)?;
+            open_if(alloc, rebuilder, kept, book, bench, path, name, fresh)
+        }
+        Stuck::Missing(name) => open_if(alloc, rebuilder, kept, book, bench, path, name, false),
+    }
+}
+
+// The same, where it is known whether the name is a rule that the bench doesn't know.
+fn open_if<R: Rebuilder>(
+    alloc: Global,
+    rebuilder: &R,
+    kept: &Kept,
+    book: &Book,
+    bench: &mut Bench<'_, R::Job>,
+    path: &mut VecDeque<Name>,
+    name: Name,
+    fresh: bool,
+) -> Result<(), NoMemory>
+    requires { IsFreshRule (book_view book.now) (spots_of bench.old) name fresh }
+    ensures book { book_of bench.new ≡ book_of bench.old }
+    ensures opens { OnOk result (Opens R.Job.name R.Job.started (λ k j. R.begun rebuilder.now (kept_view kept.now) (book_view book.now) (λ q. None) k j) (book_view book.now) (spots_of bench.old) (spots_of bench.new) path.old.items path.new.items name) }
+{
+    if !fresh {
         path.clear();
         return Ok(());
     }

@@ -3,11 +3,11 @@ ghost use Rattle.carte_book.specs.Book.{book_view};
 ghost use Rattle.carte_record.specs.Kept.{kept_view};
 ghost use Rattle.carte_bench.specs.Held.{spots_of, book_of};
 ghost use Rattle.carte_suspend.specs.Going.{GoesOn};
-ghost use Rattle.carte_suspend.specs.Opening.{EndsKey, WaitsAt};
+ghost use Rattle.carte_suspend.specs.Opening.{EndsKey};
 ghost use Rattle.carte_suspend.specs.Standing.{IsStanding, StaysKnown, turns_left};
 
-use crate::opening::{open, push};
-use carte_bench::{Bench, Place, turn_keeps};
+use crate::opening::{open_stop, push};
+use carte_bench::{Bench, turn_keeps};
 use carte_book::Book;
 use carte_effect::{Job, Made};
 use carte_rebuild::{Rebuilder, Work, finish};
@@ -38,12 +38,12 @@ pub(crate) fn turn<R: Rebuilder>(
     ensures chain { OnOk result (work.new.chain ≡ work.old.chain) }
 {
     turn_keeps::<R::Job>();
-    match bench.turn(alloc, &name, &mut work.runs)? {
-        Some(made) => end(alloc, rebuilder, book, work, made),
-        None => {
-            let at = stop_of(alloc, bench, &name)?;
+    let came = bench.turn_to(alloc, &name, &mut work.runs)?;
+    match came {
+        Ok(made) => end(alloc, rebuilder, book, work, made),
+        Err(stuck) => {
             push(path, name)?;
-            open(alloc, rebuilder, kept, book, bench, path, at)
+            open_stop(alloc, rebuilder, kept, book, bench, path, stuck)
         }
     }
 }
@@ -62,22 +62,4 @@ fn end<R: Rebuilder>(
 {
     let finished = finish(alloc, rebuilder, book, &work.finished, made)?;
     work.finished.push(finished)
-}
-
-/// The name for which a job waits.
-fn stop_of<J: Job + Drop>(
-    alloc: Global,
-    bench: &Bench<'_, J>,
-    name: &Name,
-) -> Result<Name, NoMemory>
-    requires { (n : List ℕ) × WaitsAt (spots_of bench.now) name.now n }
-    ensures { IfOk result (WaitsAt (spots_of bench.now) name.now) }
-{
-    match bench.place(alloc, name)? {
-        Place::WaitsFor(at) => Ok(at),
-        Place::Unknown => unreachable!(),
-        Place::Ready => unreachable!(),
-        Place::Out => unreachable!(),
-        Place::Done => unreachable!(),
-    }
 }

@@ -2,4 +2,4 @@ use Rattle.carte_bench.proofs.Turning.{gave_same}
 use Rattle.carte_bench.proofs.bench.Bench.drive.Goals as goal
 
 pub returns-clause-gave : goal.returns-clause-gave
-returns-clause-gave g c = gave_same g.J.Job.gives c.with.result.look.now c.args.self.now c.args.job.now c.drive-driven.new.self c.drive-driven.result c.hashed-driven.result c.with.ensures c.hashed-driven.ensures c.drive-driven.ensures.gave
+returns-clause-gave g c = gave_same g.J.Job.gives c.args.job.now c.drive-driven.new.self c.drive-driven.result c.hashed.result c.with-snapshot.ensures c.hashed.ensures c.drive-driven.ensures.gave
