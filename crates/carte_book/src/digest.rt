@@ -1,4 +1,5 @@
-ghost use Rattle.std.specs.Prelude.{◌≡◌, ◌++◌, ℕ, List, All, IfOk, OnOk};
+ghost use Rattle.std.specs.Prelude.{◌≡◌, ◌++◌, ◌+◌, ◌≤◌, ℕ, List, All, IfOk, OnOk, length, take, drop};
+ghost use Rattle.std.specs.Int.{w32, to_be_bytes};
 ghost use Rattle.sha2.specs.Hashers.{Holds256};
 ghost use Rattle.carte_tree.specs.Code.{tree_of};
 ghost use Rattle.carte_tree.specs.Formula.{IsExpr};
@@ -12,6 +13,9 @@ use carte_tree::{Expr, print_expr};
 use carte_value::{Digest, Kind, Name, NoMemory};
 use sha2::{Digest as Hasher, Sha256};
 use std::alloc::Global;
+
+/// A hasher is handed as many bytes at once, since a call costs more than the few bytes of a name.
+const MANY_BYTES: usize = 4096;
 
 impl Book {
     /// SHA-256 (FIPS 180-4) of the kind and all rules in name order, each with its name and its printed formula.
@@ -34,43 +38,60 @@ fn kind_code(kind: Kind) -> u8
     }
 }
 
+// The rules are spelled into one buffer, which is handed to the hasher whenever it holds many bytes.
 fn feed_rules(alloc: Global, hasher: &mut Sha256, rules: &[HeldRule<'_>]) -> Result<(), NoMemory>
     requires { All IsFormulaOf rules.now }
     ensures { OnOk result ((m : List ℕ) → Holds256 hasher.old m → Holds256 hasher.new (m ++ spelled_rules (rules_view rules.now))) }
 {
-    let mut text = String::new(alloc);
+    let mut bytes = Vec::new(alloc);
     for rule in rules {
-        feed_name(hasher, rule.name);
-        feed_formula(alloc, hasher, &mut text, rule.formula)?;
+        spell_name(&mut bytes, rule.name)?;
+        spell_formula(alloc, &mut bytes, rule.formula)?;
+        feed_many(hasher, &mut bytes);
     }
+    hasher.update(bytes.as_slice());
     Ok(())
 }
 
-fn feed_name(hasher: &mut Sha256, name: &Name)
-    ensures { (m : List ℕ) → Holds256 hasher.old m → Holds256 hasher.new (m ++ spelled_name name.now) }
+fn feed_many(hasher: &mut Sha256, bytes: &mut Vec<u8>)
+    ensures { (m : List ℕ) → Holds256 hasher.old m → (front : List ℕ) × Holds256 hasher.new front × (front ++ bytes.new.items ≡ m ++ bytes.old.items) }
 {
-    let name = name.text();
-    hasher.update([name.len() as u8]);
-    hasher.update(name.as_bytes());
+    if bytes.len() >= MANY_BYTES {
+        hasher.update(bytes.as_slice());
+        bytes.clear();
+    }
 }
 
-// `text` is a buffer: what it holds is written over.
-fn feed_formula(
-    alloc: Global,
-    hasher: &mut Sha256,
-    text: &mut String,
-    formula: &Expr,
-) -> Result<(), NoMemory>
-    requires { IsExpr (tree_of formula.now) }
-    ensures { OnOk result ((m : List ℕ) → Holds256 hasher.old m → Holds256 hasher.new (m ++ spelled_formula (tree_of formula.now))) }
+fn spell_name(bytes: &mut Vec<u8>, name: &Name) -> Result<(), NoMemory>
+    ensures { OnOk result (bytes.new.items ≡ bytes.old.items ++ spelled_name name.now) }
 {
-    text.clear();
-    print_expr(alloc, text, formula)?;
+    name.text_is_name();
+    let text = name.bytes();
+    bytes.push(text.len() as u8)?;
+    bytes.extend_from_slice(text)?;
+    Ok(())
+}
+
+// The length stands before the text, and is known behind it.
+fn spell_formula(alloc: Global, bytes: &mut Vec<u8>, formula: &Expr) -> Result<(), NoMemory>
+    requires { IsExpr (tree_of formula.now) }
+    ensures { OnOk result (bytes.new.items ≡ bytes.old.items ++ spelled_formula (tree_of formula.now)) }
+{
+    let start = bytes.len();
+    bytes.extend_from_slice(&[0; 4])?;
+    print_expr(alloc, bytes, formula)?;
+    let length = bytes.len() - start - 4;
     // The length of a longer text doesn't fit its 4 bytes. Such a formula is refused as one that memory is too small for.
-    if text.len() > u32::MAX as usize {
+    if length > u32::MAX as usize {
         return Err(NoMemory);
     }
-    hasher.update((text.len() as u32).to_be_bytes());
-    hasher.update(text.as_bytes());
+    put_length(bytes, start, length as u32);
     Ok(())
+}
+
+fn put_length(bytes: &mut [u8], at: usize, count: u32)
+    requires { at + 4 ≤ length bytes.old }
+    ensures { bytes.new ≡ take at bytes.old ++ to_be_bytes w32 count ++ drop (at + 4) bytes.old }
+{
+    bytes[at..at + 4].copy_from_slice(&count.to_be_bytes());
 }

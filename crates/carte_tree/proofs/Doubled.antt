@@ -1,11 +1,9 @@
--- A text with its quotes doubled is UTF-8 where the text is.
-use Rattle.std.proofs.Common.{suc-add, zero, suc, ℕ, Bool, true, false, List, [], ◌∷◌, ◌++◌, length, take, drop, ◌≡◌, ◌<◌, ◌==◌, ◌+◌, if◌then◌else◌, refl, append_assoc, length-append, add-zero, ◌∙◌, subst, arith, get_or}
+-- What stands before a quote and behind it is UTF-8 where the whole is.
+use Rattle.std.proofs.Common.{suc-add, zero, suc, ℕ, List, [], ◌∷◌, ◌++◌, length, take, drop, ◌≡◌, ◌<◌, ◌+◌, refl, length-append, add-zero, ◌∙◌, subst, arith, get_or}
 use Rattle.std.proofs.Math.Nat.{le_refl}
 use Rattle.std.specs.Str.{IsUtf8}
-use Rattle.std.proofs.lemmas.Bool.{eqb-true}
 use Rattle.std.proofs.lemmas.List.{take-append-le, take_all, get_or-append-add}
-use Rattle.std.proofs.lemmas.Str.{IsUtf8-append, IsUtf8-take, IsUtf8-drop, IsUtf8-from_ascii, IsCharBoundary-before_ascii, IsCharBoundary-after_ascii}
-use Rattle.carte_tree.specs.Printed.{doubled}
+use Rattle.std.proofs.lemmas.Str.{IsUtf8-take, IsUtf8-drop, IsUtf8-from_ascii, IsCharBoundary-before_ascii, IsCharBoundary-after_ascii}
 
 at_seam : (xs ys : List ℕ) → get_or (xs ++ 34 ∷ ys) (length xs) 0 ≡ 34
 at_seam xs ys = rw (← add-zero (length xs)) (get_or-append-add xs (34 ∷ ys) 0 0)
@@ -35,17 +33,3 @@ ascii_quote (suc i) = omega arith
 
 pub quote : IsUtf8 (34 ∷ [])
 quote = IsUtf8-from_ascii (34 ∷ []) ascii_quote
-
-doubled_by : (d : Bool) (b : ℕ) (k xs : List ℕ) → (b == 34) ≡ d → IsUtf8 (xs ++ b ∷ k) → ((ys : List ℕ) → IsUtf8 (ys ++ k) → IsUtf8 (ys ++ doubled k)) → IsUtf8 (xs ++ ((if d then 34 ∷ 34 ∷ [] else b ∷ []) ++ doubled k))
-doubled_by false b k xs is h go = rw (append_assoc xs (b ∷ []) (doubled k)) at (go (xs ++ b ∷ []) (rw (append_assoc xs (b ∷ []) k) h))
-doubled_by true b k xs is h go =
-    let e : b ≡ 34 = eqb-true b 34 is in
-    let h' : IsUtf8 (xs ++ 34 ∷ k) = rw e at h in
-    IsUtf8-append xs (34 ∷ 34 ∷ doubled k) (before xs k h') (IsUtf8-append (34 ∷ []) (34 ∷ doubled k) quote (IsUtf8-append (34 ∷ []) (doubled k) quote (go [] (behind xs k h'))))
-
-doubled_on : (k xs : List ℕ) → IsUtf8 (xs ++ k) → IsUtf8 (xs ++ doubled k)
-doubled_on [] xs h = h
-doubled_on (b ∷ k) xs h = doubled_by (b == 34) b k xs refl h (λ ys q. doubled_on k ys q)
-
-pub doubled_utf8 : (k : List ℕ) → IsUtf8 k → IsUtf8 (doubled k)
-doubled_utf8 k h = doubled_on k [] h

@@ -7,7 +7,7 @@ ghost use Rattle.carte_tree.specs.Formula.{IsExpr, AreSteps, AreArgs, IsArg};
 
 mod pieces;
 
-use crate::printer::pieces::{put, put_number, put_text};
+use crate::printer::pieces::{put, put_byte, put_number, put_text};
 use crate::{Arg, Args, Chain, Expr, Func, Level, Rest};
 use carte_value::{Area, Name, NoMemory};
 use std::alloc::Global;
@@ -17,22 +17,26 @@ pub fn print(alloc: Global, expr: &Expr) -> Result<String, NoMemory>
     requires { IsExpr (tree_of expr.now) }
     ensures { IfOk result (λ t. string_bytes t ≡ printed (tree_of expr.now)) }
 {
-    let mut out = String::new(alloc);
+    let mut out = Vec::new(alloc);
     print_expr(alloc, &mut out, expr)?;
-    Ok(out)
+    match String::from_utf8(out) {
+        Ok(text) => Ok(text),
+        // It never comes to this: each piece that is printed is a text.
+        Err(_) => Err(NoMemory),
+    }
 }
 
-/// Puts the canonical text of a formula behind what a text holds, so that one buffer serves many formulas. Where there is
+/// Puts the canonical text of a formula behind what a buffer holds, so that one buffer serves many formulas. Where there is
 /// no memory a part of it may stand there.
 #[cycle(print)]
-pub fn print_expr(alloc: Global, out: &mut String, expr: &Expr) -> Result<(), NoMemory>
+pub fn print_expr(alloc: Global, out: &mut Vec<u8>, expr: &Expr) -> Result<(), NoMemory>
     requires { IsExpr (tree_of expr.now) }
-    ensures { OnOk result (string_bytes out.new ≡ string_bytes out.old ++ printed (tree_of expr.now)) }
+    ensures { OnOk result (out.new.items ≡ out.old.items ++ printed (tree_of expr.now)) }
 {
     match expr {
         Expr::Number(number) => put_number(out, *number),
-        Expr::Text(text) => put_text(alloc, out, text.text()),
-        Expr::Ref(name) => put(out, name.text()),
+        Expr::Text(text) => put_text(out, text.text()),
+        Expr::Ref(name) => put(out, name.bytes()),
         Expr::Neg(operand) => print_neg(alloc, out, operand),
         Expr::Chain(chain) => print_chain(alloc, out, chain),
         Expr::Call(func, args) => print_call(alloc, out, *func, args),
@@ -40,18 +44,18 @@ pub fn print_expr(alloc: Global, out: &mut String, expr: &Expr) -> Result<(), No
 }
 
 #[cycle(print)]
-fn print_neg(alloc: Global, out: &mut String, operand: &Expr) -> Result<(), NoMemory>
+fn print_neg(alloc: Global, out: &mut Vec<u8>, operand: &Expr) -> Result<(), NoMemory>
     requires { IsExpr (tree_of operand.now) }
-    ensures { OnOk result (string_bytes out.new ≡ string_bytes out.old ++ printed (neg (tree_of operand.now))) }
+    ensures { OnOk result (out.new.items ≡ out.old.items ++ printed (neg (tree_of operand.now))) }
 {
-    put(out, "-")?;
+    put_byte(out, b'-')?;
     print_held(alloc, out, 0, operand)
 }
 
 #[cycle(print)]
-fn print_chain(alloc: Global, out: &mut String, chain: &Chain) -> Result<(), NoMemory>
+fn print_chain(alloc: Global, out: &mut Vec<u8>, chain: &Chain) -> Result<(), NoMemory>
     requires { IsExpr (chain_tree chain.now) }
-    ensures { OnOk result (string_bytes out.new ≡ string_bytes out.old ++ printed (chain_tree chain.now)) }
+    ensures { OnOk result (out.new.items ≡ out.old.items ++ printed (chain_tree chain.now)) }
 {
     print_held(alloc, out, chain.level.rank(), &chain.first)?;
     print_rest(alloc, out, chain.level, &chain.rest)
@@ -59,49 +63,49 @@ fn print_chain(alloc: Global, out: &mut String, chain: &Chain) -> Result<(), NoM
 
 /// An operand where chains of operators that bind tighter than a rank need no bracket.
 #[cycle(print)]
-fn print_held(alloc: Global, out: &mut String, rank: u8, expr: &Expr) -> Result<(), NoMemory>
+fn print_held(alloc: Global, out: &mut Vec<u8>, rank: u8, expr: &Expr) -> Result<(), NoMemory>
     requires { IsExpr (tree_of expr.now) }
-    ensures { OnOk result (string_bytes out.new ≡ string_bytes out.old ++ in_brackets (tight rank (tree_of expr.now)) (printed (tree_of expr.now))) }
+    ensures { OnOk result (out.new.items ≡ out.old.items ++ in_brackets (tight rank (tree_of expr.now)) (printed (tree_of expr.now))) }
 {
     if is_tight(rank, expr) {
         return print_expr(alloc, out, expr);
     }
-    put(out, "(")?;
+    put_byte(out, b'(')?;
     print_expr(alloc, out, expr)?;
-    put(out, ")")
+    put_byte(out, b')')
 }
 
 #[cycle(print)]
-fn print_rest(alloc: Global, out: &mut String, level: Level, rest: &Rest) -> Result<(), NoMemory>
+fn print_rest(alloc: Global, out: &mut Vec<u8>, level: Level, rest: &Rest) -> Result<(), NoMemory>
     requires { AreSteps level (rest_steps rest.now) }
-    ensures { OnOk result (string_bytes out.new ≡ string_bytes out.old ++ steps_printed level (rest_steps rest.now)) }
+    ensures { OnOk result (out.new.items ≡ out.old.items ++ steps_printed level (rest_steps rest.now)) }
 {
     for (op, operand) in rest.items.iter() {
-        put(out, op.text())?;
+        put(out, op.text().as_bytes())?;
         print_held(alloc, out, level.rank(), operand)?;
     }
     Ok(())
 }
 
 #[cycle(print)]
-fn print_call(alloc: Global, out: &mut String, func: Func, args: &Args) -> Result<(), NoMemory>
+fn print_call(alloc: Global, out: &mut Vec<u8>, func: Func, args: &Args) -> Result<(), NoMemory>
     requires { AreArgs func (args_tree args.now) }
-    ensures { OnOk result (string_bytes out.new ≡ string_bytes out.old ++ (func_name func ++ (codes "(" ++ (args_printed (args_tree args.now) ++ codes ")")))) }
+    ensures { OnOk result (out.new.items ≡ out.old.items ++ (func_name func ++ (codes "(" ++ (args_printed (args_tree args.now) ++ codes ")")))) }
 {
-    put(out, func.name())?;
-    put(out, "(")?;
+    put(out, func.name().as_bytes())?;
+    put_byte(out, b'(')?;
     print_args(alloc, out, func, args)?;
-    put(out, ")")
+    put_byte(out, b')')
 }
 
 #[cycle(print)]
-fn print_args(alloc: Global, out: &mut String, func: Func, args: &Args) -> Result<(), NoMemory>
+fn print_args(alloc: Global, out: &mut Vec<u8>, func: Func, args: &Args) -> Result<(), NoMemory>
     requires { AreArgs func (args_tree args.now) }
-    ensures { OnOk result (string_bytes out.new ≡ string_bytes out.old ++ args_printed (args_tree args.now)) }
+    ensures { OnOk result (out.new.items ≡ out.old.items ++ args_printed (args_tree args.now)) }
 {
     for (at, arg) in args.items.iter().enumerate() {
         if at > 0 {
-            put(out, ",")?;
+            put_byte(out, b',')?;
         }
         print_arg(alloc, out, func, arg)?;
     }
@@ -109,31 +113,33 @@ fn print_args(alloc: Global, out: &mut String, func: Func, args: &Args) -> Resul
 }
 
 #[cycle(print)]
-fn print_arg(alloc: Global, out: &mut String, func: Func, arg: &Arg) -> Result<(), NoMemory>
+fn print_arg(alloc: Global, out: &mut Vec<u8>, func: Func, arg: &Arg) -> Result<(), NoMemory>
     requires { IsArg func (arg_tree arg.now) }
-    ensures { OnOk result (string_bytes out.new ≡ string_bytes out.old ++ arg_printed (arg_tree arg.now)) }
+    ensures { OnOk result (out.new.items ≡ out.old.items ++ arg_printed (arg_tree arg.now)) }
 {
     match arg {
+        // A name, which most arguments are, is put without a call.
+        Arg::One(Expr::Ref(name)) => put(out, name.bytes()),
         Arg::One(expr) => print_expr(alloc, out, expr),
         Arg::Cells(area) => print_area(alloc, out, area),
     }
 }
 
-fn print_area(alloc: Global, out: &mut String, area: &Area) -> Result<(), NoMemory>
+fn print_area(alloc: Global, out: &mut Vec<u8>, area: &Area) -> Result<(), NoMemory>
     requires { IsArea area.now }
-    ensures { OnOk result (string_bytes out.new ≡ string_bytes out.old ++ (first_corner area.now ++ (codes ":" ++ last_corner area.now))) }
+    ensures { OnOk result (out.new.items ≡ out.old.items ++ (first_corner area.now ++ (codes ":" ++ last_corner area.now))) }
 {
     print_cell(alloc, out, area.left, area.top)?;
-    put(out, ":")?;
+    put_byte(out, b':')?;
     print_cell(alloc, out, area.right, area.bottom)
 }
 
-fn print_cell(alloc: Global, out: &mut String, column: u32, row: u32) -> Result<(), NoMemory>
+fn print_cell(alloc: Global, out: &mut Vec<u8>, column: u32, row: u32) -> Result<(), NoMemory>
     requires { IsPlace column row }
-    ensures { OnOk result (string_bytes out.new ≡ string_bytes out.old ++ cell_at column row) }
+    ensures { OnOk result (out.new.items ≡ out.old.items ++ cell_at column row) }
 {
     let name = Name::cell_at(alloc, column, row)?;
-    put(out, name.text())
+    put(out, name.bytes())
 }
 
 /// Whether a formula needs no bracket where operators bind looser than a rank.

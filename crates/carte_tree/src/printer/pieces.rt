@@ -1,55 +1,50 @@
-ghost use Rattle.std.specs.Prelude.{◌≡◌, ◌++◌, OnOk, IfOk, string_bytes};
+ghost use Rattle.std.specs.Prelude.{◌≡◌, ◌++◌, [], ◌∷◌, OnOk};
 ghost use Rattle.std.specs.Fmt.{signed_decimal};
 ghost use Rattle.carte_tree.specs.Printed.{func_name, op_bytes, doubled, text_bytes};
 
 use crate::{Func, Op};
 use carte_value::NoMemory;
-use std::alloc::Global;
+use itoa::Buffer;
 
-pub fn put(out: &mut String, text: &str) -> Result<(), NoMemory>
-    ensures { OnOk result (string_bytes out.new ≡ string_bytes out.old ++ text.now) }
+pub fn put(out: &mut Vec<u8>, bytes: &[u8]) -> Result<(), NoMemory>
+    ensures { OnOk result (out.new.items ≡ out.old.items ++ bytes.now) }
 {
-    out.push_str(text)?;
+    out.extend_from_slice(bytes)?;
     Ok(())
 }
 
-pub fn put_number(out: &mut String, number: i64) -> Result<(), NoMemory>
-    ensures { OnOk result (string_bytes out.new ≡ string_bytes out.old ++ signed_decimal number) }
+pub fn put_byte(out: &mut Vec<u8>, byte: u8) -> Result<(), NoMemory>
+    ensures { OnOk result (out.new.items ≡ out.old.items ++ byte ∷ []) }
 {
-    write!(out, "{number}")?;
+    out.push(byte)?;
     Ok(())
+}
+
+pub fn put_number(out: &mut Vec<u8>, number: i64) -> Result<(), NoMemory>
+    ensures { OnOk result (out.new.items ≡ out.old.items ++ signed_decimal number) }
+{
+    put(out, Buffer::new().format(number).as_bytes())
 }
 
 /// A text in quotes, with each quote in it doubled.
-pub fn put_text(alloc: Global, out: &mut String, text: &str) -> Result<(), NoMemory>
-    ensures { OnOk result (string_bytes out.new ≡ string_bytes out.old ++ text_bytes text.now) }
+pub fn put_text(out: &mut Vec<u8>, text: &str) -> Result<(), NoMemory>
+    ensures { OnOk result (out.new.items ≡ out.old.items ++ text_bytes text.now) }
 {
-    put(out, "\"")?;
-    put_doubled(alloc, out, text)?;
-    put(out, "\"")
+    put_byte(out, b'"')?;
+    put_doubled(out, text.as_bytes())?;
+    put_byte(out, b'"')
 }
 
-fn put_doubled(alloc: Global, out: &mut String, text: &str) -> Result<(), NoMemory>
-    ensures { OnOk result (string_bytes out.new ≡ string_bytes out.old ++ doubled text.now) }
+fn put_doubled(out: &mut Vec<u8>, text: &[u8]) -> Result<(), NoMemory>
+    ensures { OnOk result (out.new.items ≡ out.old.items ++ doubled text.now) }
 {
-    let bytes = doubled(alloc, text.as_bytes())?;
-    match str::from_utf8(bytes.as_slice()) {
-        Ok(text) => put(out, text),
-        Err(_) => unreachable!(),
-    }
-}
-
-fn doubled(alloc: Global, text: &[u8]) -> Result<Vec<u8>, NoMemory>
-    ensures { IfOk result (λ v. v.items ≡ doubled text.now) }
-{
-    let mut bytes = Vec::new(alloc);
     for byte in text {
         if *byte == b'"' {
-            bytes.push(b'"')?;
+            out.push(b'"')?;
         }
-        bytes.push(*byte)?;
+        out.push(*byte)?;
     }
-    Ok(bytes)
+    Ok(())
 }
 
 impl Func {
