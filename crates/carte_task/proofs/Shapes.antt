@@ -28,7 +28,7 @@ use Rattle.carte_task.specs.Forms.{form_of, are_ones, is_one, HaveLevel}
 pub args_view : (xs : CodeArgs) → args_tree xs ≡ args_of (map arg_tree xs.items.items)
 args_view xs = search (rules, the_lemmas)
 
-pub rest_view : (r : Rest) → rest_steps r ≡ steps_of (map term_of (pairs_of r.items.items))
+pub rest_view : (r : Rest) → rest_steps r ≡ steps_of (map term_of (pairs_of (r.first ∷ r.more.items)))
 rest_view r = search (rules, the_lemmas)
 
 pub plain_code : (func : Func) (xs : Args) → form_of func xs ≡ Plain → code_of (call func xs) ≡ code_of_args xs ++ i.Call func (count xs) ∷ []

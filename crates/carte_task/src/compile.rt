@@ -2,8 +2,8 @@
 
 ghost use Rattle.std.specs.Prelude.{◌≡◌, true, ◌++◌, ◌∷◌, [], OnOk, IfOk, length};
 ghost use Rattle.std.specs.List.{list_all};
-ghost use Rattle.carte_tree.specs.Code.{tree_of, chain_tree, rest_steps, args_tree, arg_tree};
-ghost use Rattle.carte_tree.specs.Tree.{Tree, call as calls, arg, one, no_arg};
+ghost use Rattle.carte_tree.specs.Code.{tree_of, chain_tree, rest_steps, terms_of, args_tree, arg_tree};
+ghost use Rattle.carte_tree.specs.Tree.{Tree, call as calls, arg, one, no_arg, steps_of};
 ghost use Rattle.carte_tree.specs.Formula.{IsExpr, AreCallArgs, IsCallArg};
 ghost use Rattle.carte_task.specs.Forms.{form_of, are_ones, is_one, HaveLevel};
 ghost use Rattle.carte_value.specs.Areas.{cells_of};
@@ -11,7 +11,7 @@ ghost use Rattle.carte_task.specs.Coding.{code_of, code_of_steps, code_of_args, 
 
 use crate::code::Instr;
 use crate::range::Range;
-use carte_tree::{Arg, Args, Chain, Expr, Func, Rest};
+use carte_tree::{Arg, Args, Chain, Expr, Func, Op, Rest};
 use carte_value::{NoMemory, Value};
 use std::alloc::Global;
 
@@ -58,7 +58,22 @@ fn write_rest(alloc: Global, rest: &Rest, code: &mut Vec<Instr>) -> Result<(), N
     requires { HaveLevel (rest_steps rest.now) }
     ensures { OnOk result (code.new.items ≡ code.old.items ++ code_of_steps (rest_steps rest.now)) }
 {
-    for (op, operand) in rest.items.iter() {
+    let (op, operand) = &rest.first;
+    write(alloc, operand, code)?;
+    put(code, Instr::Apply(*op))?;
+    write_steps(alloc, rest.more.as_slice(), code)
+}
+
+#[cycle(write)]
+fn write_steps(
+    alloc: Global,
+    steps: &[(Op, Expr)],
+    code: &mut Vec<Instr>,
+) -> Result<(), NoMemory>
+    requires { HaveLevel (steps_of (terms_of steps.now)) }
+    ensures { OnOk result (code.new.items ≡ code.old.items ++ code_of_steps (steps_of (terms_of steps.now))) }
+{
+    for (op, operand) in steps {
         write(alloc, operand, code)?;
         put(code, Instr::Apply(*op))?;
     }

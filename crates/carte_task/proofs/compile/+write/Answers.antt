@@ -24,15 +24,15 @@ write_args-returns t c =
 pub write_call-returns-in-Plain : goal.write_call-returns-in-Plain
 write_call-returns-in-Plain t c = plain_on c.write_plain.result c.args.func (args_tree c.args.args.now) c.args.code.now.items c.write_plain.new.code.items (c.in-Plain.ensures {u = tt}) c.write_plain.ensures
 
-pub write_rest-loop-op-preserved : goal.write_rest-loop-op-preserved
-write_rest-loop-op-preserved t c =
-    let within : c.loop-op.op-index < length c.args.rest.now.items.items = omega (arith, c.loop-op-test.true, ap length c.deref-op-items.ensures.value) in
-    (steps_more c.args.rest.now.items.items c.loop-op.op-index c.loop-op-item.result c.args.code.now.items c.loop-op.code.items c.put.new.code.items within (c.loop-op-item.is ∙ ap (λ xs. get_or xs c.loop-op.op-index c.loop-op-item.result) c.deref-op-items.ensures.value) c.loop-op.invariant.0 (c.in_ok-put.ensures {u = tt} ∙ ap (λ cs. cs ++ i.Apply c.loop-op-item.result.0 ∷ []) (c.in_ok-write.ensures {u = tt})), steps_left c.args.rest.now.items.items c.loop-op.op-index c.loop-op-item.result within c.loop-op.invariant.1)
+pub write_steps-loop-op-preserved : goal.write_steps-loop-op-preserved
+write_steps-loop-op-preserved t c =
+    let within : c.loop-op.op-index < length c.args.steps.now = omega (arith, c.loop-op-test.true) in
+    (steps_more c.args.steps.now c.loop-op.op-index c.loop-op-item.result c.args.code.now.items c.loop-op.code.items c.put.new.code.items within c.loop-op-item.is c.loop-op.invariant.0 (c.in_ok-put.ensures {u = tt} ∙ ap (λ cs. cs ++ i.Apply c.loop-op-item.result.0 ∷ []) (c.in_ok-write.ensures {u = tt})), steps_left c.args.steps.now c.loop-op.op-index c.loop-op-item.result within c.loop-op.invariant.1)
 
-pub write_rest-returns : goal.write_rest-returns
-write_rest-returns t c =
-    let all : length c.args.rest.now.items.items ≤ c.loop-op.op-index = omega (arith, c.loop-op-test.false, ap length c.deref-op-items.ensures.value) in
-    steps_all c.args.rest.now.items.items c.loop-op.op-index c.args.code.now.items c.loop-op.code.items all c.loop-op.invariant.0 ∙ ap (λ ss. c.args.code.now.items ++ code_of_steps ss) (sym (rest_view c.args.rest.now))
+pub write_steps-returns : goal.write_steps-returns
+write_steps-returns t c =
+    let all : length c.args.steps.now ≤ c.loop-op.op-index = omega (arith, c.loop-op-test.false) in
+    steps_all c.args.steps.now c.loop-op.op-index c.args.code.now.items c.loop-op.code.items all c.loop-op.invariant.0
 
 pub write_choice-returns : goal.write_choice-returns
 write_choice-returns t c =
@@ -63,8 +63,8 @@ write_then-returns t c = then_written c.put.result c.args.args.now c.operand-ite
 pub write_args-loop-arg-init : goal.write_args-loop-arg-init
 write_args-loop-arg-init t c = (sym (append-nil c.args.code.now.items), subst AreCallArgs (args_view c.args.args.now) c.requires)
 
-pub write_rest-loop-op-init : goal.write_rest-loop-op-init
-write_rest-loop-op-init t c = (sym (append-nil c.args.code.now.items), subst HaveLevel (rest_view c.args.rest.now) c.requires)
+pub write_steps-loop-op-init : goal.write_steps-loop-op-init
+write_steps-loop-op-init t c = (sym (append-nil c.args.code.now.items), c.requires)
 
 pub write_args-write_arg-requires : goal.write_args-write_arg-requires
 write_args-write_arg-requires t c =
