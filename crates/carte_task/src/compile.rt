@@ -2,11 +2,12 @@
 
 ghost use Rattle.std.specs.Prelude.{◌≡◌, true, ◌++◌, ◌∷◌, [], OnOk, IfOk, length};
 ghost use Rattle.std.specs.List.{list_all};
-ghost use Rattle.carte_tree.specs.Code.{tree_of, chain_tree, rest_steps, terms_of, args_tree, arg_tree};
-ghost use Rattle.carte_tree.specs.Tree.{Tree, call as calls, arg, one, no_arg, steps_of};
+ghost use Rattle.carte_tree.specs.Code.{tree_of, chain_tree, rest_steps, args_tree, arg_tree};
+ghost use Rattle.carte_tree.specs.Tree.{Tree, call as calls, arg, one, no_arg};
 ghost use Rattle.carte_tree.specs.Formula.{IsExpr, AreCallArgs, IsCallArg};
 ghost use Rattle.carte_task.specs.Forms.{form_of, are_ones, is_one, HaveLevel};
 ghost use Rattle.carte_value.specs.Areas.{cells_of};
+ghost use Rattle.carte_task.specs.declared.code.Instr.TheVariants as i;
 ghost use Rattle.carte_task.specs.Coding.{code_of, code_of_steps, code_of_args, code_of_arg, choice, count, count_arg};
 
 use crate::code::Instr;
@@ -59,25 +60,25 @@ fn write_rest(alloc: Global, rest: &Rest, code: &mut Vec<Instr>) -> Result<(), N
     ensures { OnOk result (code.new.items ≡ code.old.items ++ code_of_steps (rest_steps rest.now)) }
 {
     let (op, operand) = &rest.first;
-    write(alloc, operand, code)?;
-    put(code, Instr::Apply(*op))?;
-    write_steps(alloc, rest.more.as_slice(), code)
+    write_step(alloc, *op, operand, code)?;
+    for (op, operand) in rest.more.iter() {
+        write_step(alloc, *op, operand, code)?;
+    }
+    Ok(())
 }
 
 #[cycle(write)]
-fn write_steps(
+fn write_step(
     alloc: Global,
-    steps: &[(Op, Expr)],
+    op: Op,
+    operand: &Expr,
     code: &mut Vec<Instr>,
 ) -> Result<(), NoMemory>
-    requires { HaveLevel (steps_of (terms_of steps.now)) }
-    ensures { OnOk result (code.new.items ≡ code.old.items ++ code_of_steps (steps_of (terms_of steps.now))) }
+    requires { IsExpr (tree_of operand.now) }
+    ensures { OnOk result (code.new.items ≡ code.old.items ++ (code_of (tree_of operand.now) ++ i.Apply op ∷ [])) }
 {
-    for (op, operand) in steps {
-        write(alloc, operand, code)?;
-        put(code, Instr::Apply(*op))?;
-    }
-    Ok(())
+    write(alloc, operand, code)?;
+    put(code, Instr::Apply(op))
 }
 
 #[cycle(write)]

@@ -9,5 +9,5 @@ use Rattle.carte_task.proofs.compile.+write.Given as goal
 abbrev pub invariant-write_args-loop-arg : goal.invariant-write_args-loop-arg
 invariant-write_args-loop-arg l = (l.code.items ≡ l.initial.code.items ++ code_of_args (args_of (map arg_tree (take l.arg-index l.args.items.items)))) × AreCallArgs (args_of (map arg_tree (drop l.arg-index l.args.items.items)))
 
-abbrev pub invariant-write_steps-loop-op : goal.invariant-write_steps-loop-op
-invariant-write_steps-loop-op l = (l.code.items ≡ l.initial.code.items ++ code_of_steps (steps_of (map term_of (pairs_of (take l.op-index l.steps))))) × HaveLevel (steps_of (map term_of (pairs_of (drop l.op-index l.steps))))
+abbrev pub invariant-write_rest-loop-op : goal.invariant-write_rest-loop-op
+invariant-write_rest-loop-op l = (l.code.items ≡ l.initial.code.items ++ code_of_steps (steps_of (map term_of (pairs_of (take l.op-index l.rest.more.items))))) × HaveLevel (steps_of (map term_of (pairs_of (drop l.op-index l.rest.more.items))))
