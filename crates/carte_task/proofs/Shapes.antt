@@ -7,7 +7,7 @@ use Rattle.std.proofs.lemmas.List.{take_more, map-append, take-append-drop}
 use Rattle.std.proofs.Math.ListN.{drop_of_length-le}
 use Rattle.std.specs.List.{list_all}
 use Rattle.carte_tree.specs.Tree.{Tree, call, Args, no_arg, arg, Arg, one, cells, Term, steps_of, args_of}
-use Rattle.carte_tree.specs.Formula.{AreSteps, AreArgs, IsArg, AreCallArgs, IsCallArg}
+use Rattle.carte_tree.specs.Formula.{IsExpr, AreSteps, AreArgs, IsArg, AreCallArgs, IsCallArg}
 use Rattle.carte_tree.specs.declared.expr.Level.{Level}
 use Rattle.carte_tree.specs.Code.{arg_tree, args_tree, rest_steps, tree_of, term_of, pairs_of}
 use Rattle.carte_tree.specs.declared.expr.Expr.{Expr}
@@ -28,7 +28,7 @@ use Rattle.carte_task.specs.Forms.{form_of, are_ones, is_one, HaveLevel}
 pub args_view : (xs : CodeArgs) → args_tree xs ≡ args_of (map arg_tree xs.items.items)
 args_view xs = search (rules, the_lemmas)
 
-pub rest_view : (r : Rest) → rest_steps r ≡ steps_of (map term_of (pairs_of r.items.items))
+pub rest_view : (r : Rest) → rest_steps r ≡ steps_of (map term_of (pairs_of (r.first ∷ r.more.items)))
 rest_view r = search (rules, the_lemmas)
 
 pub plain_code : (func : Func) (xs : Args) → form_of func xs ≡ Plain → code_of (call func xs) ≡ code_of_args xs ++ i.Call func (count xs) ∷ []
@@ -92,6 +92,18 @@ steps_more xs at x old now new within is before after =
 
 pub steps_all : (xs : List (Op × Expr)) (at : ℕ) (old now : List Instr) → length xs ≤ at → now ≡ old ++ code_of_steps (steps_of (map term_of (pairs_of (take at xs)))) → now ≡ old ++ code_of_steps (steps_of (map term_of (pairs_of xs)))
 steps_all xs at old now all is = is ∙ ap (λ ys. old ++ code_of_steps (steps_of (map term_of (pairs_of ys)))) (take_all xs at all)
+
+-- the first operand was written, and then those behind it
+pub rest_written : (r : Rest) (old mid new : List Instr) → mid ≡ old ++ (code_of (tree_of r.first.1) ++ i.Apply r.first.0 ∷ []) → new ≡ mid ++ code_of_steps (steps_of (map term_of (pairs_of r.more.items))) → new ≡ old ++ code_of_steps (rest_steps r)
+rest_written r old mid new first more =
+    let behind = code_of_steps (steps_of (map term_of (pairs_of r.more.items))) in
+    let own = code_of (tree_of r.first.1) ++ i.Apply r.first.0 ∷ [] in
+    more ∙ ap (λ cs. cs ++ behind) first ∙ append_assoc old own behind
+    ∙ ap (λ cs. old ++ cs) (append_assoc (code_of (tree_of r.first.1)) (i.Apply r.first.0 ∷ []) behind)
+    ∙ ap (λ ss. old ++ code_of_steps ss) (sym (rest_view r))
+
+pub more_level : (r : Rest) → HaveLevel (rest_steps r) → HaveLevel (steps_of (map term_of (pairs_of r.more.items)))
+more_level r (l, are) = (l, (subst (AreSteps l) (rest_view r) are).2)
 
 on_ok : {A E : Type 0} (result : Result A E) (P Q : Type 0) → (P → Q) → OnOk result P → OnOk result Q
 on_ok (Ok a) P Q on holds = on holds
@@ -197,3 +209,8 @@ pub arg_here : (xs : List CodeArg) (at : ℕ) (x : CodeArg) → AreCallArgs (arg
 arg_here xs at x (func, are) within is =
     let split : drop at xs ≡ x ∷ drop (suc at) xs = drop-cons xs at x within ∙ ap (λ y. y ∷ drop (suc at) xs) (sym is) in
     (func, (subst (λ ys. AreArgs func (args_of (map arg_tree ys))) split are).0)
+
+pub step_here : (xs : List (Op × Expr)) (at : ℕ) (x : Op × Expr) → HaveLevel (steps_of (map term_of (pairs_of (drop at xs)))) → at < length xs → x ≡ get_or xs at x → IsExpr (tree_of x.1)
+step_here xs at x (l, are) within is =
+    let split : drop at xs ≡ x ∷ drop (suc at) xs = drop-cons xs at x within ∙ ap (λ y. y ∷ drop (suc at) xs) (sym is) in
+    (subst (λ ys. AreSteps l (steps_of (map term_of (pairs_of ys)))) split are).1

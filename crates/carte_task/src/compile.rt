@@ -7,11 +7,12 @@ ghost use Rattle.carte_tree.specs.Tree.{Tree, call as calls, arg, one, no_arg};
 ghost use Rattle.carte_tree.specs.Formula.{IsExpr, AreCallArgs, IsCallArg};
 ghost use Rattle.carte_task.specs.Forms.{form_of, are_ones, is_one, HaveLevel};
 ghost use Rattle.carte_value.specs.Areas.{cells_of};
+ghost use Rattle.carte_task.specs.declared.code.Instr.TheVariants as i;
 ghost use Rattle.carte_task.specs.Coding.{code_of, code_of_steps, code_of_args, code_of_arg, choice, count, count_arg};
 
 use crate::code::Instr;
 use crate::range::Range;
-use carte_tree::{Arg, Args, Chain, Expr, Func, Rest};
+use carte_tree::{Arg, Args, Chain, Expr, Func, Op, Rest};
 use carte_value::{NoMemory, Value};
 use std::alloc::Global;
 
@@ -58,11 +59,26 @@ fn write_rest(alloc: Global, rest: &Rest, code: &mut Vec<Instr>) -> Result<(), N
     requires { HaveLevel (rest_steps rest.now) }
     ensures { OnOk result (code.new.items ≡ code.old.items ++ code_of_steps (rest_steps rest.now)) }
 {
-    for (op, operand) in rest.items.iter() {
-        write(alloc, operand, code)?;
-        put(code, Instr::Apply(*op))?;
+    let (op, operand) = &rest.first;
+    write_step(alloc, *op, operand, code)?;
+    for (op, operand) in rest.more.iter() {
+        write_step(alloc, *op, operand, code)?;
     }
     Ok(())
+}
+
+#[cycle(write)]
+fn write_step(
+    alloc: Global,
+    op: Op,
+    operand: &Expr,
+    code: &mut Vec<Instr>,
+) -> Result<(), NoMemory>
+    requires { IsExpr (tree_of operand.now) }
+    ensures { OnOk result (code.new.items ≡ code.old.items ++ (code_of (tree_of operand.now) ++ i.Apply op ∷ [])) }
+{
+    write(alloc, operand, code)?;
+    put(code, Instr::Apply(op))
 }
 
 #[cycle(write)]

@@ -2,10 +2,10 @@ ghost use Rattle.std.specs.Prelude.{◌≡◌, IfOk, OnOk};
 ghost use Rattle.std.specs.List.{list_any};
 ghost use Rattle.carte_value.specs.Names.{name_eq};
 ghost use Rattle.carte_tree.specs.Firsts.{seen_also, seen_all};
-ghost use Rattle.carte_tree.specs.Code.{tree_of, chain_tree, args_tree, arg_tree};
-ghost use Rattle.carte_tree.specs.Formula.{IsExpr, AreCallArgs, IsCallArg, mentions, args_mentions, arg_mentions, refs_of};
+ghost use Rattle.carte_tree.specs.Code.{tree_of, chain_tree, rest_steps, args_tree, arg_tree};
+ghost use Rattle.carte_tree.specs.Formula.{IsExpr, AreChainSteps, AreCallArgs, IsCallArg, mentions, steps_mentions, args_mentions, arg_mentions, refs_of};
 
-use carte_tree::{Arg, Args, Chain, Expr, refs};
+use carte_tree::{Arg, Args, Chain, Expr, Rest, refs};
 use carte_value::{Name, Names, NoMemory, Seeded};
 use std::alloc::Global;
 
@@ -54,7 +54,16 @@ fn see_chain(alloc: Global, chain: &Chain, seen: &mut Names) -> Result<(), NotFe
     ensures { OnOk result (seen.new ≡ seen_all seen.old (mentions (chain_tree chain.now))) }
 {
     see_expr(alloc, &chain.first, seen)?;
-    for (_, operand) in chain.rest.items.iter() {
+    see_rest(alloc, &chain.rest, seen)
+}
+
+#[cycle(seen)]
+fn see_rest(alloc: Global, rest: &Rest, seen: &mut Names) -> Result<(), NotFew>
+    requires { AreChainSteps (rest_steps rest.now) }
+    ensures { OnOk result (seen.new ≡ seen_all seen.old (steps_mentions (rest_steps rest.now))) }
+{
+    see_expr(alloc, &rest.first.1, seen)?;
+    for (_, operand) in rest.more.iter() {
         see_expr(alloc, operand, seen)?;
     }
     Ok(())

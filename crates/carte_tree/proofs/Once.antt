@@ -1,5 +1,5 @@
 -- Each name once, as names come one after the other.
-use Rattle.std.proofs.Common.{◌≡◌, ℕ, ◌+◌, Some, take, get_or, Bool, true, false, not, cond, ◌||◌, List, [], ◌∷◌, ◌++◌, refl, ap, sym, ◌∙◌, filter, append_assoc, append-nil, ◌<◌, ◌≤◌, length, drop, subst, Result, IfOk}
+use Rattle.std.proofs.Common.{◌≡◌, ℕ, ◌+◌, Some, take, get_or, Bool, true, false, not, cond, ◌||◌, List, [], ◌∷◌, ◌++◌, refl, ap, sym, ◌∙◌, filter, append_assoc, append-nil, ◌<◌, ◌≤◌, length, drop, subst, Result, IfOk, OnOk}
 use Rattle.std.proofs.lemmas.Result.{IfOk-weaker}
 use Rattle.std.specs.List.{list_any, slice_get}
 use Rattle.std.proofs.lemmas.List.{take_more, drop_all, drop_more}
@@ -7,15 +7,16 @@ use Rattle.std.proofs.lemmas.Option.{get_or_from_slice_get, slice_get_within}
 use Rattle.std.specs.Cmp.Lexicographic.{bytes_decides, nat_list_eq_equiv}
 use Rattle.carte_value.specs.Names.{name_eq}
 use Rattle.carte_value.specs.Asks.{firsts}
-use Rattle.carte_tree.specs.Tree.{Op, Level, steps_of, args_of}
-use Rattle.carte_tree.specs.Code.{tree_of, chain_tree, args_tree, arg_tree, terms_of, args_trees}
-use Rattle.carte_tree.specs.Formula.{IsExpr, AreSteps, AreCallArgs, mentions, steps_mentions, args_mentions, arg_mentions}
+use Rattle.carte_tree.specs.Tree.{Op, steps_of, args_of}
+use Rattle.carte_tree.specs.Code.{tree_of, chain_tree, rest_steps, args_tree, arg_tree, terms_of, args_trees}
+use Rattle.carte_tree.specs.Formula.{IsExpr, AreSteps, AreChainSteps, AreCallArgs, mentions, steps_mentions, args_mentions, arg_mentions}
 use Rattle.carte_tree.specs.declared.expr.Chain.{Chain}
 use Rattle.carte_tree.specs.declared.expr.Expr.{Expr}
+use Rattle.carte_tree.specs.declared.expr.Rest.{Rest}
 use Rattle.carte_tree.specs.declared.expr.Args.{Args}
 use Rattle.carte_tree.specs.declared.expr.Arg.{Arg}
 use Rattle.carte_tree.specs.Firsts.{seen_also, seen_all}
-use Rattle.carte_tree.proofs.Parts.{chain_is, rest_out, args_out}
+use Rattle.carte_tree.proofs.Parts.{on_ok, chain_is, rest_out, args_out}
 
 filter_end : (p : List ℕ → Bool) (ks : List (List ℕ)) (k : List ℕ) → filter p (ks ++ k ∷ []) ≡ filter p ks ++ (cond (p k) (k ∷ []) [])
 filter_end p [] k = refl
@@ -91,17 +92,29 @@ pub seen_both : (ks is js : List (List ℕ)) → seen_all ks (is ++ js) ≡ seen
 seen_both ks [] js = refl
 seen_both ks (i ∷ is) js = seen_both (seen_also ks i) is js
 
--- a chain's first operand was seen, and its others are left
-pub chain_seen : (c : Chain) (old now : List (List ℕ)) → now ≡ seen_all old (mentions (tree_of c.first)) → seen_all now (steps_mentions (steps_of (terms_of c.rest.items.items))) ≡ seen_all old (mentions (chain_tree c))
-chain_seen c old now is =
-    ap (λ ks. seen_all ks (steps_mentions (steps_of (terms_of c.rest.items.items)))) is
-    ∙ sym (seen_both old (mentions (tree_of c.first)) (steps_mentions (steps_of (terms_of c.rest.items.items))))
-    ∙ ap (λ ss. seen_all old (mentions (tree_of c.first) ++ steps_mentions ss)) (sym (rest_out c.rest))
-    ∙ ap (λ e. seen_all old (mentions e)) (sym (chain_is c))
+-- a chain's first operand was seen, and then the others
+pub chain_seen : {E : Type 0} (r : Result (Unit {0}) E) (c : Chain) (old now new : List (List ℕ)) → now ≡ seen_all old (mentions (tree_of c.first)) → OnOk r (new ≡ seen_all now (steps_mentions (rest_steps c.rest))) → OnOk r (new ≡ seen_all old (mentions (chain_tree c)))
+chain_seen r c old now new is after =
+    on_ok r after (λ e. e ∙ ap (λ ks. seen_all ks (steps_mentions (rest_steps c.rest))) is
+    ∙ sym (seen_both old (mentions (tree_of c.first)) (steps_mentions (rest_steps c.rest)))
+    ∙ ap (λ e. seen_all old (mentions e)) (sym (chain_is c)))
 
--- its other operands are of its level
-pub chain_steps : (c : Chain) → IsExpr (chain_tree c) → AreSteps c.level (steps_of (terms_of c.rest.items.items))
-chain_steps c h = subst (λ ss. AreSteps c.level ss) (rest_out c.rest) (subst (λ e. IsExpr e) (chain_is c) h).1
+-- its other operands are steps
+pub chain_steps : (c : Chain) → IsExpr (chain_tree c) → AreChainSteps (rest_steps c.rest)
+chain_steps c h = (c.level, (subst (λ e. IsExpr e) (chain_is c) h).1)
+
+-- what is left of a chain, in which names are to be seen
+abbrev pub StepsLeft : List (Op × Expr) → List (List ℕ) → List (List ℕ) → Type 0
+StepsLeft ps now all = (seen_all now (steps_mentions (steps_of (terms_of ps))) ≡ all) × AreChainSteps (steps_of (terms_of ps))
+
+-- the first of them was seen, and the others are left
+pub rest_seen : (r : Rest) (old now : List (List ℕ)) → AreChainSteps (rest_steps r) → now ≡ seen_all old (mentions (tree_of r.first.1)) → StepsLeft r.more.items now (seen_all old (steps_mentions (rest_steps r)))
+rest_seen r old now (l, are) is =
+    let left = steps_mentions (steps_of (terms_of r.more.items)) in
+    let steps : AreSteps l (steps_of (terms_of (r.first ∷ r.more.items))) = subst (λ ss. AreSteps l ss) (rest_out r) are in
+    (ap (λ ks. seen_all ks left) is
+    ∙ sym (seen_both old (mentions (tree_of r.first.1)) left)
+    ∙ ap (λ ss. seen_all old (steps_mentions ss)) (sym (rest_out r)), (l, steps.2))
 
 -- all arguments were seen
 pub args_seen : (a : Args) (n : ℕ) (old now : List (List ℕ)) → length a.items.items ≤ n → seen_all now (args_mentions (args_of (args_trees (drop n a.items.items)))) ≡ seen_all old (args_mentions (args_of (args_trees a.items.items))) → now ≡ seen_all old (args_mentions (args_tree a))
@@ -113,15 +126,11 @@ args_seen a n old now all is =
 pub listed_firsts : {E : Type 0} (r : Result (List (List ℕ)) E) (ks none js : List (List ℕ)) → none ≡ [] → ks ≡ seen_all none js → IfOk r (λ k. k ≡ ks) → IfOk r (λ k. k ≡ firsts js)
 listed_firsts r ks none js is seen h = IfOk-weaker r (λ k. k ≡ ks) (λ k. k ≡ firsts js) (λ k e. e ∙ seen ∙ ap (λ i. seen_all i js) is ∙ firsts_all [] js) h
 
--- what is left of a chain, in which names are to be seen
-abbrev pub StepsLeft : Level → List (Op × Expr) → List (List ℕ) → List (List ℕ) → Type 0
-StepsLeft l ps now all = (seen_all now (steps_mentions (steps_of (terms_of ps))) ≡ all) × AreSteps l (steps_of (terms_of ps))
-
-pub steps_turn : (l : Level) (ps : List (Op × Expr)) (i : ℕ) (p : Op × Expr) (now new all : List (List ℕ)) → i < length ps → p ≡ get_or ps i p → new ≡ seen_all now (mentions (tree_of p.1)) → StepsLeft l (drop i ps) now all → StepsLeft l (drop (i + 1) ps) new all
-steps_turn l ps i p now new all within is after left =
+pub steps_turn : (ps : List (Op × Expr)) (i : ℕ) (p : Op × Expr) (now new all : List (List ℕ)) → i < length ps → p ≡ get_or ps i p → new ≡ seen_all now (mentions (tree_of p.1)) → StepsLeft (drop i ps) now all → StepsLeft (drop (i + 1) ps) new all
+steps_turn ps i p now new all within is after left =
     let cut : drop i ps ≡ p ∷ drop (i + 1) ps = drop_more ps i p within ∙ ap (λ q. q ∷ drop (i + 1) ps) (sym is) in
-    let here : StepsLeft l (p ∷ drop (i + 1) ps) now all = subst (λ qs. StepsLeft l qs now all) cut left in
-    (ap (λ ks. seen_all ks (steps_mentions (steps_of (terms_of (drop (i + 1) ps))))) after ∙ sym (seen_both now (mentions (tree_of p.1)) (steps_mentions (steps_of (terms_of (drop (i + 1) ps))))) ∙ here.0, here.1.2)
+    let here : StepsLeft (p ∷ drop (i + 1) ps) now all = subst (λ qs. StepsLeft qs now all) cut left in
+    (ap (λ ks. seen_all ks (steps_mentions (steps_of (terms_of (drop (i + 1) ps))))) after ∙ sym (seen_both now (mentions (tree_of p.1)) (steps_mentions (steps_of (terms_of (drop (i + 1) ps))))) ∙ here.0, (here.1.0, here.1.1.2))
 
 -- and what is left of a call's arguments
 abbrev pub ArgsLeft : List Arg → List (List ℕ) → List (List ℕ) → Type 0

@@ -1,5 +1,5 @@
 -- A chain and its parts.
-use Rattle.std.proofs.Common.{ℕ, List, ◌≡◌, ◌++◌, ◌∙◌, ap, sym, append_assoc, rules, Result, Ok, Err, OnOk}
+use Rattle.std.proofs.Common.{ℕ, List, ◌∷◌, ◌≡◌, ◌++◌, ◌∙◌, ap, sym, append_assoc, rules, Result, Ok, Err, OnOk}
 use Rattle.carte_tree.specs.Tree.{chain, rank, steps_of, args_of}
 use Rattle.carte_tree.specs.Code.{terms_of, args_trees, tree_of, chain_tree, rest_steps, args_tree}
 use Rattle.carte_tree.specs.declared.expr.Rest.{Rest}
@@ -22,7 +22,7 @@ chain_printed c n old out is h =
     ∙ append_assoc old (in_brackets (tight (rank c.level) (tree_of c.first)) (printed (tree_of c.first))) (steps_printed c.level (rest_steps c.rest))
     ∙ ap (λ e. old ++ printed e) (sym (chain_is c))
 
-pub rest_out : (r : Rest) → rest_steps r ≡ steps_of (terms_of r.items.items)
+pub rest_out : (r : Rest) → rest_steps r ≡ steps_of (terms_of (r.first ∷ r.more.items))
 rest_out r = search (rules, the_lemmas)
 
 pub args_out : (a : Args) → args_tree a ≡ args_of (args_trees a.items.items)

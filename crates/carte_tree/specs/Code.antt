@@ -1,5 +1,5 @@
 -- The trees that the code's formulas stand for.
-use Rattle.std.specs.Prelude.{List, map}
+use Rattle.std.specs.Prelude.{List, ◌∷◌, map}
 use Rattle.carte_tree.specs.Tree.{Op, Tree, number, text, ref, neg, chain, call, Steps, Args, Arg, one, cells, Term, steps_of, args_of}
 use Rattle.carte_tree.specs.declared.expr.Expr.{Expr, fold-Expr}
 use Rattle.carte_tree.specs.declared.expr.Arg.TheOpen.{Expr-F, Chain-F, Rest-F, Args-F, Arg-F}
@@ -23,7 +23,7 @@ abbrev pub chain_layer : Chain-F Arg Tree Args Tree Steps → Tree
 chain_layer c = chain c.level c.first c.rest
 
 abbrev pub rest_layer : Rest-F Arg Tree Args Tree Steps → Steps
-rest_layer r = steps_of (map term_of r.items.items)
+rest_layer r = steps_of (term_of r.first ∷ map term_of r.more.items)
 
 abbrev pub args_layer : Args-F Arg Tree Args Tree Steps → Args
 args_layer a = args_of a.items.items

@@ -48,6 +48,10 @@ abbrev mutual
   IsArg f (one e) = IsExpr e
   IsArg f (cells a) = (takes_ranges f ≡ true) × IsArea a
 
+-- they are steps of some chain
+abbrev pub AreChainSteps : Steps → Type 0
+AreChainSteps ss = (l : Level) × AreSteps l ss
+
 -- they are arguments of some function
 abbrev pub AreCallArgs : Args → Type 0
 AreCallArgs xs = (f : Func) × AreArgs f xs

@@ -45,11 +45,13 @@ impl Rest {
     pub fn copy(&self, alloc: Global) -> Result<Rest, NoMemory>
         ensures { IfOk result (λ r. rest_steps r ≡ rest_steps self.now) }
     {
-        let mut items = Vec::new(alloc);
-        for (op, operand) in self.items.iter() {
-            items.push((*op, operand.copy(alloc)?))?;
+        let (op, operand) = &self.first;
+        let first = (*op, operand.copy(alloc)?);
+        let mut more = Vec::new(alloc);
+        for (op, operand) in self.more.iter() {
+            more.push((*op, operand.copy(alloc)?))?;
         }
-        Ok(Rest { items })
+        Ok(Rest { first, more })
     }
 }
 

@@ -22,11 +22,12 @@ pub struct Chain {
     pub rest: Rest,
 }
 
-/// Each operator of a chain with the operand behind it.
+/// Each operator of a chain with the operand behind it. Most chains have one operator, and no list then.
 #[derive(Debug, Drop)]
 #[cycle(expr)]
 pub struct Rest {
-    pub items: Vec<(Op, Expr)>,
+    pub first: (Op, Expr),
+    pub more: Vec<(Op, Expr)>,
 }
 
 /// The arguments of a call.

@@ -35,7 +35,10 @@ fn static_chain(chain: &Chain) -> bool
 fn static_rest(rest: &Rest) -> bool
     ensures { result ≡ steps_static (rest_steps rest.now) }
 {
-    for (_, operand) in rest.items.iter() {
+    if !static_expr(&rest.first.1) {
+        return false;
+    }
+    for (_, operand) in rest.more.iter() {
         if !static_expr(operand) {
             return false;
         }
@@ -113,7 +116,10 @@ fn free_chain(chain: &Chain) -> bool
 fn free_rest(rest: &Rest) -> bool
     ensures { result ≡ steps_free (rest_steps rest.now) }
 {
-    for (_, operand) in rest.items.iter() {
+    if !free_expr(&rest.first.1) {
+        return false;
+    }
+    for (_, operand) in rest.more.iter() {
         if !free_expr(operand) {
             return false;
         }

@@ -1,10 +1,10 @@
 ghost use Rattle.std.specs.Prelude.{◌≡◌, IfOk, OnOk};
 ghost use Rattle.carte_value.specs.Areas.{IsArea, cells_of};
 ghost use Rattle.carte_tree.specs.Firsts.{seen_also, seen_all};
-ghost use Rattle.carte_tree.specs.Code.{tree_of, chain_tree, args_tree, arg_tree};
-ghost use Rattle.carte_tree.specs.Formula.{IsExpr, AreCallArgs, IsCallArg, mentions, args_mentions, arg_mentions, refs_of};
+ghost use Rattle.carte_tree.specs.Code.{tree_of, chain_tree, rest_steps, args_tree, arg_tree};
+ghost use Rattle.carte_tree.specs.Formula.{IsExpr, AreChainSteps, AreCallArgs, IsCallArg, mentions, steps_mentions, args_mentions, arg_mentions, refs_of};
 
-use crate::{Arg, Args, Chain, Expr};
+use crate::{Arg, Args, Chain, Expr, Rest};
 use carte_value::{Area, Name, Names, NoMemory, Seeded};
 use indexmap::IndexSet;
 use std::alloc::Global;
@@ -44,7 +44,16 @@ fn see_chain(
     ensures { OnOk result (seen.new.keys ≡ seen_all seen.old.keys (mentions (chain_tree chain.now))) }
 {
     see_expr(alloc, &chain.first, seen)?;
-    for (_, operand) in chain.rest.items.iter() {
+    see_rest(alloc, &chain.rest, seen)
+}
+
+#[cycle(refs)]
+fn see_rest(alloc: Global, rest: &Rest, seen: &mut IndexSet<Name, Seeded>) -> Result<(), NoMemory>
+    requires { AreChainSteps (rest_steps rest.now) }
+    ensures { OnOk result (seen.new.keys ≡ seen_all seen.old.keys (steps_mentions (rest_steps rest.now))) }
+{
+    see_expr(alloc, &rest.first.1, seen)?;
+    for (_, operand) in rest.more.iter() {
         see_expr(alloc, operand, seen)?;
     }
     Ok(())

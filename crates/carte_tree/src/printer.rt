@@ -1,14 +1,14 @@
 ghost use Rattle.std.specs.Prelude.{◌≡◌, ◌++◌, codes, IfOk, OnOk, string_bytes};
 ghost use Rattle.carte_value.specs.Areas.{IsArea, IsPlace, cell_at};
 ghost use Rattle.carte_tree.specs.Tree.{neg, rank, first_corner, last_corner};
-ghost use Rattle.carte_tree.specs.Printed.{tight, func_name, in_brackets, printed, steps_printed, args_printed, arg_printed};
+ghost use Rattle.carte_tree.specs.Printed.{tight, func_name, op_bytes, in_brackets, printed, steps_printed, args_printed, arg_printed};
 ghost use Rattle.carte_tree.specs.Code.{tree_of, chain_tree, rest_steps, args_tree, arg_tree};
 ghost use Rattle.carte_tree.specs.Formula.{IsExpr, AreSteps, AreArgs, IsArg};
 
 mod pieces;
 
 use crate::printer::pieces::{put, put_byte, put_number, put_text};
-use crate::{Arg, Args, Chain, Expr, Func, Level, Rest};
+use crate::{Arg, Args, Chain, Expr, Func, Level, Op, Rest};
 use carte_value::{Area, Name, NoMemory};
 use std::alloc::Global;
 
@@ -80,11 +80,21 @@ fn print_rest(alloc: Global, out: &mut Vec<u8>, level: Level, rest: &Rest) -> Re
     requires { AreSteps level (rest_steps rest.now) }
     ensures { OnOk result (out.new.items ≡ out.old.items ++ steps_printed level (rest_steps rest.now)) }
 {
-    for (op, operand) in rest.items.iter() {
-        put(out, op.text().as_bytes())?;
-        print_held(alloc, out, level.rank(), operand)?;
+    let (op, operand) = &rest.first;
+    print_step(alloc, out, level, *op, operand)?;
+    for (op, operand) in rest.more.iter() {
+        print_step(alloc, out, level, *op, operand)?;
     }
     Ok(())
+}
+
+#[cycle(print)]
+fn print_step(alloc: Global, out: &mut Vec<u8>, level: Level, op: Op, operand: &Expr) -> Result<(), NoMemory>
+    requires { IsExpr (tree_of operand.now) }
+    ensures { OnOk result (out.new.items ≡ out.old.items ++ (op_bytes op ++ in_brackets (tight (rank level) (tree_of operand.now)) (printed (tree_of operand.now)))) }
+{
+    put(out, op.text().as_bytes())?;
+    print_held(alloc, out, level.rank(), operand)
 }
 
 #[cycle(print)]

@@ -1,7 +1,7 @@
 ghost use Rattle.std.specs.Prelude.{◌≡◌, ◌++◌, ◌∷◌, [], ◌==◌, ◌&&◌, IfOk};
 ghost use Rattle.carte_tree.specs.Tree.{chain, steps_of, signed, call, args_of, filled, is_if, called_tree};
 ghost use Rattle.carte_formula.specs.Machine.{grown};
-ghost use Rattle.carte_tree.specs.Code.{tree_of, chain_tree, terms_of, args_trees};
+ghost use Rattle.carte_tree.specs.Code.{tree_of, chain_tree, rest_steps, terms_of, args_trees};
 
 use crate::parser::frames::OpenChain;
 use crate::parser::lists::{add, with_last};
@@ -22,12 +22,18 @@ pub fn signed(alloc: Global, minus: bool, operand: Expr) -> Result<Expr, NoMemor
     }
 }
 
-/// The operators and operands of a chain, with the last.
+/// The operators and operands of a chain, with the last. Most chains have no other, and so no list.
 #[inline(always)]
-fn grow(steps: Vec<(Op, Expr)>, op: Op, operand: Expr) -> Result<Vec<(Op, Expr)>, NoMemory>
-    ensures { IfOk result (λ v. terms_of v.items ≡ grown (terms_of steps.items) op (tree_of operand)) }
+fn grow(mut steps: Vec<(Op, Expr)>, op: Op, operand: Expr) -> Result<Rest, NoMemory>
+    ensures { IfOk result (λ r. rest_steps r ≡ steps_of (grown (terms_of steps.items) op (tree_of operand))) }
 {
-    with_last(steps, (op, operand))
+    let last = (op, operand);
+    if steps.is_empty() {
+        return Ok(Rest { first: last, more: steps });
+    }
+    let first = steps.remove(0);
+    let more = with_last(steps, last)?;
+    Ok(Rest { first, more })
 }
 
 /// A chain that ends with this operand.
@@ -35,19 +41,15 @@ fn grow(steps: Vec<(Op, Expr)>, op: Op, operand: Expr) -> Result<Vec<(Op, Expr)>
 pub fn whole_chain(alloc: Global, begun: OpenChain, operand: Expr) -> Result<Expr, NoMemory>
     ensures { IfOk result (λ e. tree_of e ≡ chain begun.level (tree_of begun.first) (steps_of (grown (terms_of begun.steps.items) begun.last (tree_of operand)))) }
 {
-    let items = grow(begun.steps, begun.last, operand)?;
-    chain_of(alloc, chain_with(begun.level, begun.first, items))
+    let rest = grow(begun.steps, begun.last, operand)?;
+    chain_of(alloc, chain_with(begun.level, begun.first, rest))
 }
 
 #[inline(always)]
-fn chain_with(level: Level, first: Expr, items: Vec<(Op, Expr)>) -> Chain
-    ensures { chain_tree result ≡ chain level (tree_of first) (steps_of (terms_of items.items)) }
+fn chain_with(level: Level, first: Expr, rest: Rest) -> Chain
+    ensures { chain_tree result ≡ chain level (tree_of first) (rest_steps rest) }
 {
-    Chain {
-        level,
-        first,
-        rest: Rest { items },
-    }
+    Chain { level, first, rest }
 }
 
 /// The arguments so far, with one more.

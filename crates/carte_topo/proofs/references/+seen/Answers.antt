@@ -1,9 +1,11 @@
-use Rattle.std.proofs.Common.{◌≡◌, ◌≤◌, ◌<◌, length, get_or, rules}
+use Rattle.std.proofs.Common.{◌≡◌, ◌≤◌, ◌<◌, length, get_or, arith, rules}
 use Rattle.carte_tree.specs.Tree.{args_of}
-use Rattle.carte_tree.specs.Code.{chain_tree, args_trees}
-use Rattle.carte_tree.specs.Formula.{mentions, args_mentions}
+use Rattle.carte_tree.specs.Code.{rest_steps, args_trees}
+use Rattle.carte_tree.specs.Formula.{steps_mentions, args_mentions}
 use Rattle.carte_tree.specs.Firsts.{seen_all}
-use Rattle.carte_tree.proofs.Once.{chain_seen, chain_steps, steps_turn, args_seen, args_turn}
+use Rattle.std.proofs.lemmas.Grind.{common_steps}
+use Rattle.carte_tree.specs.declared.expr.Arg.{the_lemmas}
+use Rattle.carte_tree.proofs.Once.{chain_seen, chain_steps, rest_seen, steps_turn, args_seen, args_turn}
 use Rattle.carte_topo.proofs.references.+seen.Goals as goal
 
 pub see_args-returns : goal.see_args-returns
@@ -11,16 +13,21 @@ see_args-returns t c =
     let all : length c.args.args.now.items.items ≤ c.loop-arg.arg-index = search rules in
     args_seen c.args.args.now c.loop-arg.arg-index c.args.seen.now c.loop-arg.seen all c.loop-arg.invariant.0
 
-pub see_chain-loop-operand-init : goal.see_chain-loop-operand-init
-see_chain-loop-operand-init t c =
-    (chain_seen c.args.chain.now c.args.seen.now c.see_expr.new.seen (c.in_ok-see_expr.ensures {u = tt}), chain_steps c.args.chain.now c.requires)
+pub see_chain-returns : goal.see_chain-returns
+see_chain-returns t c = chain_seen c.see_rest.result c.args.chain.now c.args.seen.now c.see_expr.new.seen c.see_rest.new.seen (c.in_ok-see_expr.ensures {u = tt}) c.see_rest.ensures
 
-pub see_chain-loop-operand-preserved : goal.see_chain-loop-operand-preserved
-see_chain-loop-operand-preserved t c =
-    let all = c.args.chain.now.rest.items.items in
+pub see_chain-see_rest-requires : goal.see_chain-see_rest-requires
+see_chain-see_rest-requires t c = (first_of (search (rules, common_steps), grind (arith, common_steps), search (rules, the_lemmas), search (rules, the_lemmas, common_steps)), chain_steps c.args.chain.now c.requires)
+
+pub see_rest-loop-operand-init : goal.see_rest-loop-operand-init
+see_rest-loop-operand-init t c = rest_seen c.args.rest.now c.args.seen.now c.see_expr.new.seen c.requires (c.in_ok-see_expr.ensures {u = tt})
+
+pub see_rest-loop-operand-preserved : goal.see_rest-loop-operand-preserved
+see_rest-loop-operand-preserved t c =
+    let all = c.args.rest.now.more.items in
     let within : c.loop-operand.operand-index < length all = search rules in
     let is : c.loop-operand-item.result ≡ get_or all c.loop-operand.operand-index c.loop-operand-item.result = search rules in
-    steps_turn c.args.chain.now.level all c.loop-operand.operand-index c.loop-operand-item.result c.loop-operand.seen c.see_expr-in-loop-operand.new.seen (seen_all c.args.seen.now (mentions (chain_tree c.args.chain.now))) within is (c.in_ok-see_expr-2.ensures {u = tt}) c.loop-operand.invariant
+    steps_turn all c.loop-operand.operand-index c.loop-operand-item.result c.loop-operand.seen c.see_expr-in-loop-operand.new.seen (seen_all c.args.seen.now (steps_mentions (rest_steps c.args.rest.now))) within is (c.in_ok-see_expr-2.ensures {u = tt}) c.loop-operand.invariant
 
 pub see_args-loop-arg-preserved : goal.see_args-loop-arg-preserved
 see_args-loop-arg-preserved t c =

@@ -6,4 +6,4 @@ abbrev pub invariant-Args::copy-loop-arg : goal.invariant-Args::copy-loop-arg
 invariant-Args::copy-loop-arg l = map arg_tree l.items.items ≡ map arg_tree (take l.arg-index l.self.items.items)
 
 abbrev pub invariant-Rest::copy-loop-op : goal.invariant-Rest::copy-loop-op
-invariant-Rest::copy-loop-op l = pairs_of l.items.items ≡ pairs_of (take l.op-index l.self.items.items)
+invariant-Rest::copy-loop-op l = pairs_of l.more.items ≡ pairs_of (take l.op-index l.self.more.items)
