@@ -1,16 +1,17 @@
 ghost use Rattle.std.specs.Prelude.{◌≡◌, ◌<◌, ◌≤◌, true, nat_lt, [], length, slice_index, Ok, Option};
-ghost use Rattle.carte_tree.specs.Code.{tree_of};
 ghost use Rattle.carte_formula.specs.Lexer.{start_of, single, begins, idle, lexed};
 ghost use Rattle.carte_formula.specs.Machine.{State as Machine, next_state};
 ghost use Rattle.carte_formula.specs.Tokens.{sign_token};
 ghost use Rattle.carte_formula.specs.Reading.{depth, depth_of};
 ghost use Rattle.carte_formula.specs.declared.tokens.Token.TheVariants as tokens;
+ghost use Rattle.carte_formula.specs.declared.tokens.Class.TheVariants as classes;
 ghost use Rattle.carte_formula.specs.Parser.{frames_of, reached, holding, range_depth, OptionGoesTo, StepsTo, StandsTo, ReadsTo};
-ghost use Rattle.carte_formula.specs.Whole.{with_tokens, with_width};
-ghost use Rattle.carte_formula.specs.Resumed.{resumed, Advances, Follows};
+ghost use Rattle.carte_formula.specs.Whole.{with_tokens};
+ghost use Rattle.carte_formula.specs.Resumed.{Advances, Follows};
 
 mod building;
 mod chains;
+mod ending;
 mod frames;
 mod lists;
 mod operand;
@@ -18,10 +19,11 @@ mod states;
 mod steps;
 
 use crate::lexer::{first_fault, meet_run, start_of};
+use crate::parser::ending::whole;
 use crate::parser::frames::Stack;
 use crate::parser::operand::{put_away, with_signs};
 use crate::parser::states::{Parser, Range, State};
-use crate::parser::steps::{finish, go_on, is_wanting, step, step_sign, take_func};
+use crate::parser::steps::{go_on, is_wanting, step, step_sign, take_func};
 use crate::tokens::{Class, Placed, Sign, Start, Token};
 use crate::width::Ranges;
 use crate::{Expr, FormulaFault, Func};
@@ -166,9 +168,38 @@ fn advance_run(
     ensures { Advances kind text.now at progress.old result progress.new }
 {
     match class {
-        Class::Word => advance_token(alloc, kind, text, at, Class::Word, progress),
+        Class::Word => advance_word(alloc, kind, text, at, progress),
         Class::Capitals => advance_token(alloc, kind, text, at, Class::Capitals, progress),
         _ => advance_token(alloc, kind, text, at, class, progress),
+    }
+}
+
+/// A name, as the only run behind which `follow` stands, so that `follow` is written out here and not called.
+#[inline(always)]
+fn advance_word(
+    alloc: Global,
+    kind: Kind,
+    text: &str,
+    at: usize,
+    progress: &mut Progress,
+) -> Result<usize, FormulaFault>
+    requires place { at < length text.now }
+    requires start { start_of kind (slice_index text.now at) ≡ begins classes.Word }
+    ensures { Advances kind text.now at progress.old result progress.new }
+{
+    let (token, end) = meet_run(alloc, kind, text, at, Class::Word)?;
+    let placed = Placed { place: at, token };
+    progress.ranges.take(alloc, &placed)?;
+    let token = placed.token;
+    match token {
+        Token::Word(name) => match stand(alloc, at, name, &mut progress.parser) {
+            Ok(operand) => follow(alloc, kind, text, end, operand, progress),
+            Err(fault) => Err(first_fault(alloc, kind, text, end, fault)),
+        },
+        token => match take(alloc, Placed { place: at, token }, &mut progress.parser) {
+            Ok(()) => Ok(end),
+            Err(fault) => Err(first_fault(alloc, kind, text, end, fault)),
+        },
     }
 }
 
@@ -190,10 +221,6 @@ fn advance_token(
     progress.ranges.take(alloc, &placed)?;
     let token = placed.token;
     match token {
-        Token::Word(name) => match stand(alloc, at, name, &mut progress.parser) {
-            Ok(operand) => follow(alloc, kind, text, end, operand, progress),
-            Err(fault) => Err(first_fault(alloc, kind, text, end, fault)),
-        },
         Token::Func(func) => match take_func_at(at, func, &mut progress.parser) {
             Ok(()) => Ok(end),
             Err(fault) => Err(first_fault(alloc, kind, text, end, fault)),
@@ -251,30 +278,6 @@ fn follow_sign(
     match take_behind(alloc, at, sign, operand, &mut progress.parser) {
         Ok(()) => Ok(at + 1),
         Err(fault) => Err(first_fault(alloc, kind, text, at + 1, fault)),
-    }
-}
-
-/// The formula where a text of so many bytes ends.
-fn whole(
-    alloc: Global,
-    parser: &mut Parser,
-    ranges: &Ranges,
-    size: usize,
-) -> Result<Expr, FormulaFault>
-    ensures { ReadsTo result (resumed (reached parser.old) ranges.now size (Ok [])) }
-{
-    match finish(alloc, parser)? {
-        Some(formula) => not_wide(formula, ranges.too_wide()),
-        None => Err(FormulaFault::BadSyntax(size)),
-    }
-}
-
-fn not_wide(formula: Expr, too_wide: Option<usize>) -> Result<Expr, FormulaFault>
-    ensures { ReadsTo result (with_width (Ok (tree_of formula)) too_wide) }
-{
-    match too_wide {
-        Some(place) => Err(FormulaFault::TooWide(place)),
-        None => Ok(formula),
     }
 }
 
