@@ -11,3 +11,4 @@ pub mod Puts
 pub mod Lines
 pub mod Document
 pub mod EntryTurns
+pub mod Runs

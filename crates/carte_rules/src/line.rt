@@ -1,7 +1,7 @@
 // Lines of a plain rule file. What isn't plain is none, and says nothing of the text.
 ghost use Rattle.std.specs.Prelude.{◌≡◌, ◌<◌, ◌≤◌, [], Some, length, true, false, IfSome};
-ghost use Rattle.std.specs.List.{prefix_len};
-ghost use Rattle.toml_parser.specs.Lexical.{split_while, is_bare};
+ghost use Rattle.std.specs.List.{list_all, prefix_len};
+ghost use Rattle.toml_parser.specs.Lexical.{split_while, is_bare, is_ws, skip_ws};
 ghost use Rattle.toml_parser.specs.Strings as spec;
 ghost use Rattle.toml.specs.Parse as spec_lines;
 ghost use Rattle.toml.specs.Tables.{key_value, std_table};
@@ -9,9 +9,26 @@ ghost use Rattle.carte_rules.specs.Entries.{data_of};
 
 use crate::entry::{Entry, Held};
 use std::alloc::Global;
-use toml_parser::bytes::{is_bare, is_non_eol};
-use toml_parser::text::{byte_at, first, skip, skip_ws};
+use toml_parser::bytes::{is_bare, is_non_eol, is_ws};
+use toml_parser::text::{byte_at, first, skip};
 use toml_parser::{Scalar, dotted_key, starts_string, unquoted};
+
+fn ws_len(bytes: &[u8]) -> usize
+    ensures len { result ≡ prefix_len is_ws bytes.now }
+    ensures within { result ≤ length bytes.now }
+{
+    bytes.iter().take_while(|byte| is_ws(**byte)).count()
+}
+
+// After spaces and tabs, of which there are mostly none or one: so they are counted here, and not by a call of `toml_parser`.
+#[tactic(auto, using(crate::proofs::Runs::skipped))]
+fn skip_ws(s: &str) -> &str
+    ensures rest { result.now ≡ skip_ws s.now }
+    ensures within { length result.now ≤ length s.now }
+{
+    let (_, rest) = s.split_at(ws_len(s.as_bytes()));
+    rest
+}
 
 fn bare_len(bytes: &[u8]) -> usize
     ensures len { result ≡ prefix_len is_bare bytes.now }
@@ -34,7 +51,18 @@ fn is_plain(delim: u8, byte: u8) -> bool
     byte != delim && !(byte == b'\\' && delim == b'"') && is_non_eol(byte)
 }
 
-fn plain_len(bytes: &[u8], delim: u8) -> usize
+// Without a branch at each byte, so that many are tested at once.
+fn are_plain(delim: u8, bytes: &[u8]) -> bool
+    ensures { result ≡ list_all (spec.is_plain delim false) bytes.now }
+{
+    let mut are = true;
+    for byte in bytes {
+        are &= is_plain(delim, *byte);
+    }
+    are
+}
+
+fn last_plain_len(bytes: &[u8], delim: u8) -> usize
     ensures len { result ≡ prefix_len (spec.is_plain delim false) bytes.now }
     ensures within { result ≤ length bytes.now }
 {
@@ -42,6 +70,18 @@ fn plain_len(bytes: &[u8], delim: u8) -> usize
         .iter()
         .take_while(|byte| is_plain(delim, **byte))
         .count()
+}
+
+#[tactic(auto, using(crate::proofs::Runs::run_further))]
+fn plain_len(bytes: &[u8], delim: u8) -> usize
+    ensures len { result ≡ prefix_len (spec.is_plain delim false) bytes.now }
+    ensures within { result ≤ length bytes.now }
+{
+    let mut start = 0;
+    'runs: while bytes.len() - start >= 16 && are_plain(delim, &bytes[start..start + 16]) {
+        start += 16;
+    }
+    start + last_plain_len(&bytes[start..], delim)
 }
 
 // What stands for itself between delimiters, and what follows it.
