@@ -10,8 +10,8 @@ use Rattle.std.proofs.lemmas.Bool.{cases_lt, le-leb, lt-leb}
 use Rattle.std.proofs.lemmas.List.{get_or_past, get_or-drop}
 use Rattle.carte_value.specs.Names.{is_name, name_eq, name_cmp}
 use Rattle.carte_value.specs.Fronts.{padded, front_of, fed, shown, Fits, IsHeld}
-use Rattle.carte_value.specs.declared.rest.Rest.{Rest}
-use Rattle.carte_value.specs.declared.rest.Rest.TheVariants.{Short}
+use Rattle.carte_value.specs.declared.held.Held.{Held}
+use Rattle.carte_value.specs.declared.held.Held.TheVariants.{Short}
 
 -- a byte more of the text
 pub padded_set : (n at : ℕ) (t : List ℕ) → at < n → at < length t → padded n (take (suc at) t) ≡ slice_set (padded n (take at t)) at (slice_index_or t at 0)
@@ -258,11 +258,11 @@ pub taken : (t f : List ℕ) (n : ℕ) → f ≡ front_of t → n ≡ length t �
 unfolding front_of
 taken t f n front long few = rw (front, long) (take_padded 16 t few)
 
--- a text of at most 16 bytes is kept in front, and any other whole
-pub held_short : (t f : List ℕ) (rest : Rest) (n : ℕ) → is_name t ≡ true → f ≡ front_of t → rest ≡ Short n → n ≡ length t → length t ≤ 16 → IsHeld f rest
-held_short t f rest n name front is long few =
+-- a text of at most 16 bytes is kept in the name, and any other whole
+pub held_short : (t f : List ℕ) (held : Held) (n : ℕ) → is_name t ≡ true → f ≡ front_of t → held ≡ Short n f → n ≡ length t → length t ≤ 16 → IsHeld held
+held_short t f held n name front is long few =
     let all : take n f ≡ t = taken t f n front long few in
-    subst (IsHeld f) (sym is) (record { is = subst (λ k. is_name k ≡ true) (sym all) name; begins = front ∙ ap front_of (sym all); fits = omega arith })
+    subst IsHeld (sym is) (record { is = subst (λ k. is_name k ≡ true) (sym all) name; fits = (front ∙ ap front_of (sym all), omega arith) })
 
-pub held_long : (t f : List ℕ) (rest : Rest) → is_name t ≡ true → f ≡ front_of t → shown f rest ≡ t → Fits rest → IsHeld f rest
-held_long t f rest name front whole fits = record { is = subst (λ k. is_name k ≡ true) (sym whole) name; begins = front ∙ ap front_of (sym whole); fits = fits }
+pub held_long : (t : List ℕ) (held : Held) → is_name t ≡ true → shown held ≡ t → Fits held → IsHeld held
+held_long t held name whole fits = record { is = subst (λ k. is_name k ≡ true) (sym whole) name; fits = fits }

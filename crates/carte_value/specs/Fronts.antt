@@ -1,8 +1,8 @@
--- How a name is kept: its first 16 bytes, and the whole of a longer one.
+-- How a name is kept: its at most 16 bytes with zeros behind them, or the whole of a longer one.
 use Rattle.std.specs.Prelude.{ℕ, zero, suc, List, [], ◌∷◌, ◌≡◌, ◌≤◌, ◌<◌, length, take, nat_le, IsTrue, if◌then◌else◌}
 use Rattle.std.specs.Arc.{arc_str_bytes}
-use Rattle.carte_value.specs.declared.rest.Rest.{Rest}
-use Rattle.carte_value.specs.declared.rest.Rest.TheVariants.{Short, Long}
+use Rattle.carte_value.specs.declared.held.Held.{Held}
+use Rattle.carte_value.specs.declared.held.Held.TheVariants.{Short, Long}
 use Rattle.carte_value.specs.Names.{is_name, name_eq}
 use Rattle.std.proofs.Common.{ap}
 use Rattle.std.specs.Cmp.Lexicographic.{bytes_decides}
@@ -17,19 +17,18 @@ unfoldable pub front_of : List ℕ → List ℕ
 front_of k = padded 16 k
 
 -- the bytes of the name that is kept so
-abbrev pub shown : List ℕ → Rest → List ℕ
-shown front (Short n) = take n front
-shown front (Long text) = arc_str_bytes text
+abbrev pub shown : Held → List ℕ
+shown (Short n front) = take n front
+shown (Long text) = arc_str_bytes text
 
--- a name stands in front as long as there is room for it
-abbrev pub Fits : Rest → Type 0
-Fits (Short n) = n ≤ 16
+-- a name stands in itself as long as there is room for it, with zeros behind it
+abbrev pub Fits : Held → Type 0
+Fits (Short n front) = (front ≡ front_of (take n front)) × (n ≤ 16)
 Fits (Long text) = 16 < length (arc_str_bytes text)
 
-pub record IsHeld (front : List ℕ) (rest : Rest) : Type 0 where
-  pub is : IsTrue (is_name (shown front rest))
-  pub begins : front ≡ front_of (shown front rest)
-  pub fits : Fits rest
+pub record IsHeld (held : Held) : Type 0 where
+  pub is : IsTrue (is_name (shown held))
+  pub fits : Fits held
 
 -- what is hashed: the front, or the whole of a longer name
 unfoldable pub fed : List ℕ → List (List ℕ)

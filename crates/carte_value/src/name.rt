@@ -1,4 +1,4 @@
-ghost use Rattle.std.specs.Prelude.{◌≡◌, ◌≤◌, length, ℕ, Some, refl, IsTrue, IfOk};
+ghost use Rattle.std.specs.Prelude.{◌≡◌, ◌≤◌, length, slice_index, ℕ, Some, refl, IsTrue, IfOk};
 ghost use Rattle.std.proofs.Common.{rules};
 ghost use Rattle.std.specs.Ordering.{nat_cmp};
 ghost use Rattle.std.specs.Cmp.{on_equiv, on_total, on_po, on_per, partial_equiv_from_equiv};
@@ -12,9 +12,9 @@ ghost use Rattle.std.specs.Str.{str_to_ascii_uppercase};
 
 use crate::cell_name::cell_name;
 use crate::front::{alike, front_of, order};
-use crate::name_text::{cell_prefix, is_cell, is_name, is_rule, name_prefix, rule_prefix};
+use crate::held::Held;
+use crate::name_text::{cell_prefix, first, is_cell, is_name, is_rule, name_prefix, rule_prefix};
 use crate::place::{column, row};
-use crate::rest::Rest;
 use crate::{Kind, NameFault, NoMemory};
 use std::alloc::{AllocError, Global};
 use std::cmp::Ordering;
@@ -33,9 +33,7 @@ pub const NAME_LIMIT: usize = 64;
 /// numbers. A longer text is shared by its copies, since a name stands in many lists at once.
 #[derive(Drop)]
 pub struct Name {
-    /// Its first 16 bytes, and zeros behind them.
-    front: [u8; 16],
-    rest: Rest,
+    held: Held,
 }
 
 impl Model for Name {
@@ -44,9 +42,9 @@ impl Model for Name {
 
     ghost Value = { List ℕ };
 
-    ghost view = { λ k. shown k.front k.rest };
+    ghost view = { λ k. shown k.held };
 
-    ghost invariant = { λ k. IsHeld k.front k.rest };
+    ghost invariant = { λ k. IsHeld k.held };
 }
 
 impl Name {
@@ -81,20 +79,15 @@ impl Name {
         Ok(Name::held(alloc, text)?)
     }
 
-    /// The same of bytes, of which a short name is made without trying them as UTF-8.
+    /// The same of bytes, which aren't tried as UTF-8: a name is ASCII.
     pub fn exact_bytes(alloc: Global, text: &[u8]) -> Result<Name, NameFault>
         ensures { IsNameRead is_name text.now text.now result }
     {
         if !is_name(text) {
             return Err(NameFault::BadName(name_prefix(text)));
         }
-        if text.len() <= 16 {
-            return Ok(Name::short(text));
-        }
-        match str::from_utf8(text) {
-            Ok(text) => Ok(Name::held(alloc, text)?),
-            Err(_) => unreachable!(),
-        }
+        let text = unsafe { str::from_utf8_unchecked(text) };
+        Ok(Name::held(alloc, text)?)
     }
 
     /// Reads a name of this kind of book.
@@ -123,9 +116,8 @@ impl Name {
         if text.len() <= 16 {
             return Ok(Name::short(text.as_bytes()));
         }
-        let front = front_of(text.as_bytes());
-        let rest = Rest::Long(ArcStr::from_str(alloc, text)?);
-        Ok(Name { front, rest })
+        let held = Held::Long(ArcStr::from_str(alloc, text)?);
+        Ok(Name { held })
     }
 
     fn short(text: &[u8]) -> Name
@@ -134,8 +126,8 @@ impl Name {
         ensures { result ≡ text.now }
     {
         let front = front_of(text);
-        let rest = Rest::Short(text.len() as u8);
-        Name { front, rest }
+        let held = Held::Short(text.len() as u8, front);
+        Name { held }
     }
 
     /// The column and the row of a cell, counted from 1.
@@ -153,14 +145,25 @@ impl Name {
     pub fn is_rule(&self) -> bool
         ensures { result ≡ is_rule_name self.now }
     {
-        self.front[0].is_ascii_lowercase()
+        self.text_is_name();
+        self.first().is_ascii_lowercase()
     }
 
     /// Whether it is a name of a cell.
     pub fn is_cell(&self) -> bool
         ensures { result ≡ is_cell_name self.now }
     {
-        self.front[0].is_ascii_uppercase()
+        self.text_is_name();
+        self.first().is_ascii_uppercase()
+    }
+
+    fn first(&self) -> u8
+        ensures { result ≡ slice_index self.now 0 }
+    {
+        match &self.held {
+            Held::Short(_, front) => front[0],
+            Held::Long(text) => first(text.as_bytes()),
+        }
     }
 
     /// Whether it is a name of this kind of book.
@@ -178,12 +181,9 @@ impl Name {
         ensures text { result.now ≡ self.now }
         ensures name { IsTrue (is_name self.now) }
     {
-        match &self.rest {
-            Rest::Short(_) => match str::from_utf8(self.bytes()) {
-                Ok(text) => text,
-                Err(_) => unreachable!(),
-            },
-            Rest::Long(text) => text.as_str(),
+        match &self.held {
+            Held::Short(..) => unsafe { str::from_utf8_unchecked(self.bytes()) },
+            Held::Long(text) => text.as_str(),
         }
     }
 
@@ -191,9 +191,9 @@ impl Name {
     pub fn bytes(&self) -> &[u8]
         ensures { result.now ≡ self.now }
     {
-        match &self.rest {
-            Rest::Short(length) => &self.front[..*length as usize],
-            Rest::Long(text) => text.as_bytes(),
+        match &self.held {
+            Held::Short(length, front) => &front[..*length as usize],
+            Held::Long(text) => text.as_bytes(),
         }
     }
 
@@ -201,21 +201,23 @@ impl Name {
     pub fn text_is_name(&self)
         ensures { IsTrue (is_name self.now) }
     {
-        let _rest = &self.rest;
+        let _held = &self.held;
     }
 
     /// The same name. A long one shares its text, so it takes nothing from the allocator.
     pub fn copy(&self, _alloc: Global) -> Result<Name, NoMemory>
         ensures { IfOk result (λ k. k ≡ self.now) }
     {
-        let rest = match &self.rest {
-            Rest::Short(length) => Rest::Short(*length),
-            Rest::Long(text) => Rest::Long(text.clone()?),
-        };
-        Ok(Name {
-            front: self.front,
-            rest,
-        })
+        match &self.held {
+            Held::Short(length, front) => {
+                let held = Held::Short(*length, *front);
+                Ok(Name { held })
+            }
+            Held::Long(text) => {
+                let held = Held::Long(text.clone()?);
+                Ok(Name { held })
+            }
+        }
     }
 }
 
@@ -231,11 +233,10 @@ impl PartialEq for Name {
     ghost laws = { partial_equiv_from_equiv nat_list_eq_equiv };
 
     fn eq(&self, other: &Name) -> bool {
-        if !alike(&self.front, &other.front) {
-            return false;
-        }
-        match (&self.rest, &other.rest) {
-            (Rest::Short(length), Rest::Short(others)) => length == others,
+        match (&self.held, &other.held) {
+            (Held::Short(length, front), Held::Short(others, theirs)) => {
+                alike(front, theirs) && length == others
+            }
             _ => self.text() == other.text(),
         }
     }
@@ -265,12 +266,14 @@ impl Ord for Name {
     ghost matches_eq = { texts_ties };
 
     fn cmp(&self, other: &Name) -> Ordering {
-        match order(&self.front, &other.front) {
-            Ordering::Equal => match (&self.rest, &other.rest) {
-                (Rest::Short(length), Rest::Short(others)) => length.cmp(others),
-                _ => self.text().cmp(other.text()),
-            },
-            unlike => unlike,
+        match (&self.held, &other.held) {
+            (Held::Short(length, front), Held::Short(others, theirs)) => {
+                match order(front, theirs) {
+                    Ordering::Equal => length.cmp(others),
+                    unlike => unlike,
+                }
+            }
+            _ => self.text().cmp(other.text()),
         }
     }
 }
@@ -281,9 +284,9 @@ impl Hash for Name {
     ghost respects_eq = { fed_alike };
 
     fn hash<H: Hasher>(&self, state: &mut H) {
-        match &self.rest {
-            Rest::Short(_) => state.write(self.front.as_slice()),
-            Rest::Long(text) => state.write(text.as_bytes()),
+        match &self.held {
+            Held::Short(_, front) => state.write(front.as_slice()),
+            Held::Long(text) => state.write(text.as_bytes()),
         }
     }
 }

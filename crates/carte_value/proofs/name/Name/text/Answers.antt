@@ -3,7 +3,7 @@ use Rattle.carte_value.specs.Names.{is_name}
 use Rattle.carte_value.proofs.Ascii.{name_utf8}
 use Rattle.carte_value.proofs.name.Name.text.Goals as goal
 
-pub unreachable-requires : goal.unreachable-requires
-unreachable-requires c =
+pub from_utf8_unchecked-requires : goal.from_utf8_unchecked-requires
+from_utf8_unchecked-requires c =
     let name = subst (λ k. is_name k ≡ true) c.self.view_is c.self.invariant.is in
-    c.in-Err.ensures.cases.0 (subst IsUtf8 (sym c.bytes.ensures) (name_utf8 c.args.self.now name))
+    subst IsUtf8 (sym c.bytes.ensures) (name_utf8 c.args.self.now name)
