@@ -55,21 +55,10 @@ fn grow(alloc: Global, text: &mut Text, right: &Value) -> Result<bool, NoMemory>
     ensures kept { OnErr result (text.new ≡ text.old) }
 {
     let more = text_of(alloc, right)?;
-    append_text(alloc, text, more.as_str())
-}
-
-fn append_text(alloc: Global, text: &mut Text, more: &str) -> Result<bool, NoMemory>
-    ensures grown { IfOk result (λ fits. text_value (text.old ++ more.now) ≡ (if fits then value.Text text.new else value.Bad bad.Len)) }
-    ensures kept { OnErr result (text.new ≡ text.old) }
-{
-    let mut joined = String::from_str(alloc, text.text())?;
-    joined.push_str(more)?;
-    match Text::made(joined)? {
-        Some(joined) => {
-            *text = joined;
-            Ok(true)
-        }
-        None => Ok(false),
+    match text.append(alloc, more.as_str()) {
+        Ok(true) => Ok(true),
+        Ok(false) => Ok(false),
+        Err(refused) => Err(refused),
     }
 }
 
