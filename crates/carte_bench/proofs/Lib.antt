@@ -1,4 +1,5 @@
 pub mod Puts
+mod Slots
 pub mod Cores
 pub mod Turning
 pub mod Places

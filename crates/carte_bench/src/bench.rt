@@ -1,6 +1,6 @@
 ghost use Rattle.std.specs.Prelude.{◌≡◌, true, Some, None, IsSome, OnOk, OnErr, IfOk};
 ghost use Rattle.carte_book.specs.Book.{book_view};
-ghost use Rattle.carte_bench.specs.Held.{spots_of, book_of};
+ghost use Rattle.carte_bench.specs.Held.{spots_of, book_of, IsAt};
 ghost use Rattle.carte_bench.specs.Spots.{PutAt, IsSame, Takes, TakenOut, job_in, is_ready, place_of, slot_after};
 ghost use Rattle.carte_bench.specs.declared.slot.Slot.TheVariants as slot;
 
@@ -92,19 +92,44 @@ impl<'b, J: Job + Drop> Bench<'b, J> {
         }
     }
 
-    // Takes a job that is known to be ready, without a look at its stop.
-    pub(crate) fn take_ready(&mut self, name: &Name) -> J
-        requires { is_ready (spots_of self.old) (spots_of self.old name.now) ≡ true }
-        ensures stood { job_in (spots_of self.old name.now) ≡ Some result }
-        ensures out { PutAt (spots_of self.old) (spots_of self.new) name.now slot.Out }
+    // The place of a name that was demanded, by which the steps of a turn find its slot without a look-up each.
+    pub(crate) fn find(&self, name: &Name) -> usize
+        requires known { IsSome (spots_of self.now name.now) }
+        ensures { IsAt self.now name.now result }
+    {
+        match self.slots.get_full(name) {
+            Some((at, held, slot)) => at,
+            None => unreachable!(),
+        }
+    }
+
+    // Puts something at the place of a name. What stood there is given out.
+    pub(crate) fn swap(&mut self, name: &Name, at: usize, slot: Slot<J>) -> Slot<J>
+        requires known { IsSome (spots_of self.old name.now) }
+        requires place { IsAt self.old name.now at }
+        ensures stood { spots_of self.old name.now ≡ Some result }
+        ensures put { PutAt (spots_of self.old) (spots_of self.new) name.now slot }
+        ensures place { IsAt self.new name.now at }
         ensures book { book_of self.new ≡ book_of self.old }
     {
-        match self.take_slot(name) {
-            Some(Slot::Ready(job)) => job,
-            Some(Slot::Stopped(job, _)) => job,
-            Some(Slot::Out) => unreachable!(),
-            Some(Slot::Done(_)) => unreachable!(),
-            None => unreachable!(),
+        let (_, stands) = self.slots.pair_mut(at);
+        mem::replace(stands, slot)
+    }
+
+    // Takes a job that is known to be ready, without a look at its stop.
+    pub(crate) fn take_ready(&mut self, name: &Name, at: usize) -> J
+        requires ready { is_ready (spots_of self.old) (spots_of self.old name.now) ≡ true }
+        requires place { IsAt self.old name.now at }
+        ensures stood { job_in (spots_of self.old name.now) ≡ Some result }
+        ensures out { PutAt (spots_of self.old) (spots_of self.new) name.now slot.Out }
+        ensures place { IsAt self.new name.now at }
+        ensures book { book_of self.new ≡ book_of self.old }
+    {
+        match self.swap(name, at, Slot::Out) {
+            Slot::Ready(job) => job,
+            Slot::Stopped(job, _) => job,
+            Slot::Out => unreachable!(),
+            Slot::Done(_) => unreachable!(),
         }
     }
 

@@ -1,11 +1,11 @@
 ghost use Rattle.std.specs.Prelude.{◌≡◌, true, Some, None, IfOk};
 ghost use Rattle.carte_bench.specs.Held.{spots_of, book_of};
 ghost use Rattle.carte_effect.specs.Jobs.{Gave, Counted};
-ghost use Rattle.carte_bench.specs.Spots.{is_ready, seen_in, AreNamed};
+ghost use Rattle.carte_bench.specs.Spots.{is_ready, name_of, seen_in, AreNamed};
 ghost use Rattle.carte_bench.specs.Turns.{stops_in, Turned, TurnedTo};
 
-use crate::Bench;
 use crate::look::Shown;
+use crate::{Bench, Slot};
 use carte_effect::{Digests, Halt, Job, Made, Runs, Snapshot, Stuck};
 use carte_value::{Name, NoMemory};
 use std::alloc::Global;
@@ -42,17 +42,18 @@ impl<J: Job + Drop> Bench<'_, J> {
         ensures turned { IfOk result (TurnedTo J.name J.started J.gives (book_of self.old) (spots_of self.old) (spots_of self.new) runs.old runs.new name.now) }
         ensures book { book_of self.new ≡ book_of self.old }
     {
-        let mut job = self.take_ready(name);
+        let at = self.find(name);
+        let mut job = self.take_ready(name, at);
         match self.drive(alloc, &mut job, runs) {
             Ok(made) => {
                 let copy = made.copy()?;
-                self.put_back(job, Ok(made));
+                self.swap(name, at, Slot::Done(made));
                 Ok(Ok(copy))
             }
             Err(Halt::Stop(stuck)) => {
-                let copy = copy_of(alloc, &stuck)?;
-                self.put_back(job, Err(stuck));
-                Ok(Err(copy))
+                let stop = stop_of(alloc, &stuck)?;
+                self.swap(name, at, Slot::Stopped(job, stop));
+                Ok(Err(stuck))
             }
             Err(Halt::NoMemory) => Err(NoMemory),
         }
@@ -88,11 +89,12 @@ fn hashed(driven: Result<Made, Halt<Stuck>>, digests: &mut Digests) -> Result<Ma
     }
 }
 
-fn copy_of(alloc: Global, stuck: &Stuck) -> Result<Stuck, NoMemory>
-    ensures { IfOk result (λ copy. copy ≡ stuck.now) }
+// The name at which a job stopped.
+fn stop_of(alloc: Global, stuck: &Stuck) -> Result<Name, NoMemory>
+    ensures { IfOk result (λ n. n ≡ name_of stuck.now) }
 {
-    Ok(match stuck {
-        Stuck::NotDone(name) => Stuck::NotDone(name.copy(alloc)?),
-        Stuck::Missing(name) => Stuck::Missing(name.copy(alloc)?),
-    })
+    match stuck {
+        Stuck::NotDone(name) => name.copy(alloc),
+        Stuck::Missing(name) => name.copy(alloc),
+    }
 }
