@@ -29,11 +29,23 @@ impl Frame {
         requires { length body.now < 2 ^ 32 }
         ensures { IfOk result (λ f. f ≡ body.now) }
     {
-        let size = (body.len() as u32).to_be_bytes();
         let mut piece = Vec::with_capacity(alloc, body.len() + 5)?;
-        piece.extend_from_slice(&size)?;
         piece.extend_from_slice(body)?;
+        Frame::made(piece)
+    }
+
+    /// The same of a body that stays where it is, so that a large one isn't held twice. It takes 5 bytes more.
+    pub fn made(body: Vec<u8>) -> Result<Frame, NoMemory>
+        requires { length body.items < 2 ^ 32 }
+        ensures { IfOk result (λ f. f ≡ body.items) }
+    {
+        let [first, second, third, fourth] = (body.len() as u32).to_be_bytes();
+        let mut piece = body;
         piece.push(0)?;
+        piece.insert(0, fourth)?;
+        piece.insert(0, third)?;
+        piece.insert(0, second)?;
+        piece.insert(0, first)?;
         Ok(Frame { piece })
     }
 

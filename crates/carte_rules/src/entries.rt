@@ -14,6 +14,7 @@ use crate::inputs::read_input;
 use crate::names::new_name;
 use crate::rules::read_formula;
 use carte_book::BookFault;
+use carte_formula::Room;
 use carte_value::{NoMemory, Text, TextFault, Value};
 use std::alloc::Global;
 
@@ -62,19 +63,25 @@ pub(crate) fn put_rules(
     requires { HoldsSome draft.old }
     ensures { (m : Content) → Holds draft.old m → LeavesRules (members_of entries.now) m draft.new result }
 {
+    let mut room = Room::new(alloc);
     for entry in entries {
-        put_rule(alloc, entry, draft)?;
+        put_rule(alloc, &mut room, entry, draft)?;
     }
     Ok(())
 }
 
-fn put_rule(alloc: Global, entry: &Entry<'_>, draft: &mut Draft) -> Result<(), BookFault>
+fn put_rule(
+    alloc: Global,
+    room: &mut Room,
+    entry: &Entry<'_>,
+    draft: &mut Draft,
+) -> Result<(), BookFault>
     requires { HoldsSome draft.old }
     ensures { (m : Content) → Holds draft.old m → LeavesRule entry.now.key.now (data_of entry.now.held) m draft.new result }
 {
     let name = new_name(alloc, entry.key, draft)?;
     match entry.held {
-        Held::Text(text) => read_formula(alloc, name, text, draft),
+        Held::Text(text) => read_formula(alloc, room, name, text, draft),
         Held::Number(_) => Err(BookFault::BadValue(name)),
     }
 }
