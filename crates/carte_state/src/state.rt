@@ -183,7 +183,7 @@ impl State {
         if needed > limit {
             return Err(ApplyFault::Full { needed, limit });
         }
-        let frame = Frame::of(alloc, &bytes)?;
+        let frame = Frame::made(bytes)?;
         Ok(frame)
     }
 }

@@ -68,12 +68,7 @@ fn write_rest(alloc: Global, rest: &Rest, code: &mut Vec<Instr>) -> Result<(), N
 }
 
 #[cycle(write)]
-fn write_step(
-    alloc: Global,
-    op: Op,
-    operand: &Expr,
-    code: &mut Vec<Instr>,
-) -> Result<(), NoMemory>
+fn write_step(alloc: Global, op: Op, operand: &Expr, code: &mut Vec<Instr>) -> Result<(), NoMemory>
     requires { IsExpr (tree_of operand.now) }
     ensures { OnOk result (code.new.items ≡ code.old.items ++ (code_of (tree_of operand.now) ++ i.Apply op ∷ [])) }
 {

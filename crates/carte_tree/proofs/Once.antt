@@ -111,10 +111,12 @@ StepsLeft ps now all = (seen_all now (steps_mentions (steps_of (terms_of ps))) �
 pub rest_seen : (r : Rest) (old now : List (List ℕ)) → AreChainSteps (rest_steps r) → now ≡ seen_all old (mentions (tree_of r.first.1)) → StepsLeft r.more.items now (seen_all old (steps_mentions (rest_steps r)))
 rest_seen r old now (l, are) is =
     let left = steps_mentions (steps_of (terms_of r.more.items)) in
-    let steps : AreSteps l (steps_of (terms_of (r.first ∷ r.more.items))) = subst (λ ss. AreSteps l ss) (rest_out r) are in
-    (ap (λ ks. seen_all ks left) is
-    ∙ sym (seen_both old (mentions (tree_of r.first.1)) left)
-    ∙ ap (λ ss. seen_all old (steps_mentions ss)) (sym (rest_out r)), (l, steps.2))
+    let steps : AreSteps l (steps_of (terms_of (r.first ∷ r.more.items))) = subst (λ ss. AreSteps l ss) (rest_out r) are in (
+      ap (λ ks. seen_all ks left) is
+          ∙ sym (seen_both old (mentions (tree_of r.first.1)) left)
+          ∙ ap (λ ss. seen_all old (steps_mentions ss)) (sym (rest_out r)),
+      (l, steps.2),
+    )
 
 -- all arguments were seen
 pub args_seen : (a : Args) (n : ℕ) (old now : List (List ℕ)) → length a.items.items ≤ n → seen_all now (args_mentions (args_of (args_trees (drop n a.items.items)))) ≡ seen_all old (args_mentions (args_of (args_trees a.items.items))) → now ≡ seen_all old (args_mentions (args_tree a))

@@ -89,7 +89,13 @@ fn print_rest(alloc: Global, out: &mut Vec<u8>, level: Level, rest: &Rest) -> Re
 }
 
 #[cycle(print)]
-fn print_step(alloc: Global, out: &mut Vec<u8>, level: Level, op: Op, operand: &Expr) -> Result<(), NoMemory>
+fn print_step(
+    alloc: Global,
+    out: &mut Vec<u8>,
+    level: Level,
+    op: Op,
+    operand: &Expr,
+) -> Result<(), NoMemory>
     requires { IsExpr (tree_of operand.now) }
     ensures { OnOk result (out.new.items ≡ out.old.items ++ (op_bytes op ++ in_brackets (tight (rank level) (tree_of operand.now)) (printed (tree_of operand.now)))) }
 {

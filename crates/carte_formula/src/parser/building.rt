@@ -29,7 +29,10 @@ fn grow(mut steps: Vec<(Op, Expr)>, op: Op, operand: Expr) -> Result<Rest, NoMem
 {
     let last = (op, operand);
     if steps.is_empty() {
-        return Ok(Rest { first: last, more: steps });
+        return Ok(Rest {
+            first: last,
+            more: steps,
+        });
     }
     let first = steps.remove(0);
     let more = with_last(steps, last)?;
