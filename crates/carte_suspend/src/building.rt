@@ -31,7 +31,8 @@ pub fn build<R: Rebuilder>(
     ensures { IfOk result (EndsSuspending (R.how rebuilder.now) (kept_view kept.now) (book_view book.now) targets.now) }
 {
     let mut bench = Bench::new(alloc, book);
-    let mut work = Work::new(alloc, book.hasher());
+    // Most keys that are kept are finished again. The pages of room that stays empty are never touched.
+    let mut work = Work::with_room(alloc, kept.entries.len(), book.hasher())?;
     treat_all(
         alloc,
         rebuilder,

@@ -28,10 +28,10 @@ returns-in-None g c =
     let ok = c.in_ok-treat_all.ensures {u = tt} in
     let demanded = subst (λ (l : List (List ℕ)). (t : List ℕ) → Among l t → IsRule b t → IsDemanded s t) c.as_slice.ensures ok.demanded in
     let going = λ (H : List Book) (base : IsBase K b H). subst (λ (l : List (List ℕ)). IsGoing started fits begun h K b l s w.finished w.runs) c.as_slice.ensures
-    (ok.goes H base (rw (c.new-work.ensures.finished, c.new-work.ensures.runs) (going_none started fits begun h K b c.as_slice.result.now (spots_of c.new-bench.result) c.new-bench.ensures.empty))) in
+    (ok.goes H base (rw ((c.in_ok-work.ensures {u = tt}).finished, (c.in_ok-work.ensures {u = tt}).runs) (going_none started fits begun h K b c.as_slice.result.now (spots_of c.new-bench.result) c.new-bench.ensures.empty))) in
     let asked = rw c.in-None.is at (c.in_ok-first_reason.ensures {u = tt}) in
     let first = subst (λ (bk : Book). FirstReason (onward bk s) ts (None)) ok.book (subst (λ (l : List (List ℕ)). FirstReason (onward (book_of c.treat_all.new.bench) s) l (None)) c.as_slice-2.ensures asked) in (
-      ok.chain ∙ c.new-work.ensures.chain,
+      ok.chain ∙ (c.in_ok-work.ensures {u = tt}).chain,
       λ given.
           let now = going given.0 given.1 in
           let clean = targets_clean name b s ok.standing started fits begun h K ts w.finished w.runs now demanded c.treat_all.new.bench.slots.entries (λ q. refl) first in (
@@ -56,10 +56,10 @@ returns g c =
     let ok = c.in_ok-treat_all.ensures {u = tt} in
     let demanded = subst (λ (l : List (List ℕ)). (t : List ℕ) → Among l t → IsRule b t → IsDemanded s t) c.as_slice.ensures ok.demanded in
     let going = λ (H : List Book) (base : IsBase K b H). subst (λ (l : List (List ℕ)). IsGoing started fits begun h K b l s w.finished w.runs) c.as_slice.ensures
-    (ok.goes H base (rw (c.new-work.ensures.finished, c.new-work.ensures.runs) (going_none started fits begun h K b c.as_slice.result.now (spots_of c.new-bench.result) c.new-bench.ensures.empty))) in
+    (ok.goes H base (rw ((c.in_ok-work.ensures {u = tt}).finished, (c.in_ok-work.ensures {u = tt}).runs) (going_none started fits begun h K b c.as_slice.result.now (spots_of c.new-bench.result) c.new-bench.ensures.empty))) in
     let asked = rw c.in-Some.is at (c.in_ok-first_reason.ensures {u = tt}) in
     let first = subst (λ (bk : Book). FirstReason (onward bk s) ts (Some c.in-Some.reason)) ok.book (subst (λ (l : List (List ℕ)). FirstReason (onward (book_of c.treat_all.new.bench) s) l (Some c.in-Some.reason)) c.as_slice-2.ensures asked) in (
-      ok.chain ∙ c.new-work.ensures.chain,
+      ok.chain ∙ (c.in_ok-work.ensures {u = tt}).chain,
       λ given.
           let now = going given.0 given.1 in (
             targets_reason name b s ok.standing started fits begun h K ts w.finished w.runs now demanded c.treat_all.new.bench.slots.entries (λ q. refl) c.in-Some.reason first,
