@@ -11,8 +11,8 @@ returns-in-Ok-Same-clause-tried g c =
     let led = subst (LedTo (g.E.Effect.truth c.args.effect.now) (g.E.Effect.log c.args.effect.now) (g.E.Effect.log c.checks.effect) (open_checks c.args.untried.now)) (ap open_checks c.in-Last.is) c.checks.invariant.led in
     last_holds (g.E.Effect.truth c.args.effect.now) (g.E.Effect.truth c.checks.effect) (g.E.Effect.stops c.args.effect.now) (g.E.Effect.stops c.checks.effect) (g.E.Effect.log c.args.effect.now) (g.E.Effect.log c.checks.effect) (g.E.Effect.log c.drive.new.effect) (open_checks c.args.untried.now) c.in-Last.before.items [] c.in-Last.last c.drive.new.self c.in-Ok-Same.reuse c.checks.invariant.truth led (rw c.in-Ok-Same.field-0-is at (c.in-Ok-Same.ensures {u = tt}).checked) (rw c.in-Ok-Same.field-0-is at (c.in-Ok-Same.ensures {u = tt}).judges)
 
-pub checks-preserved : goal.checks-preserved
-checks-preserved g c =
+pub checks-preserved-in-Ok-Differs : goal.checks-preserved-in-Ok-Differs
+checks-preserved-in-Ok-Differs g c =
     let says = c.in-Ok-Differs.ensures {u = tt} in
     let led = subst (LedTo (g.E.Effect.truth c.args.effect.now) (g.E.Effect.log c.args.effect.now) (g.E.Effect.log c.checks.effect) (open_checks c.args.untried.now)) (ap open_checks c.in-Last.is) c.checks.invariant.led in
     record {
