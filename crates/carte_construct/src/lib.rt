@@ -16,9 +16,8 @@ ghost use Rattle.carte_rebuild.specs.Traced.{AreTried};
 
 use carte_book::Book;
 use carte_note::{Finished, Method, note_finished};
-use carte_rebuild::{Rebuilder, Tries, checks_of};
+use carte_rebuild::{Checks, Rebuilder, Tries, checks_of};
 use carte_record::{Batch, Kept, Way};
-use carte_task::Check;
 use carte_value::{Name, NoMemory};
 use std::alloc::Global;
 
@@ -27,8 +26,8 @@ use std::alloc::Global;
 pub struct Construct;
 
 // The checks of all traces of the key.
-fn kept_checks(alloc: Global, kept: &Kept, key: &Name) -> Result<Vec<Check>, NoMemory>
-    ensures { IfOk result (λ checks. AreTried Constructive (kept_view kept.now) key.now checks.items) }
+fn kept_checks(alloc: Global, kept: &Kept, key: &Name) -> Result<Checks, NoMemory>
+    ensures { IfOk result (λ checks. AreTried Constructive (kept_view kept.now) key.now checks) }
 {
     checks_of(alloc, &kept.constructive, &kept.values, key, None)
 }

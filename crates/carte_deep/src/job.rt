@@ -5,7 +5,7 @@ ghost use Rattle.carte_book.specs.Needs.{IsRule};
 use crate::held::Earlier;
 use carte_book::Book;
 use carte_effect::{Effect, Halt, Job, Made, Runs};
-use carte_rebuild::Tries;
+use carte_rebuild::{Checks, Tries};
 use carte_value::{Name, NoMemory};
 use std::alloc::Global;
 
@@ -41,7 +41,7 @@ impl DeepJob {
                 work: Work::Held(earlier),
             }),
             None => Ok(DeepJob {
-                work: Work::Task(Tries::of(alloc, book, key, Vec::new(alloc))?),
+                work: Work::Task(Tries::of(alloc, book, key, Checks::new())?),
             }),
         }
     }

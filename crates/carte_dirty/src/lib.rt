@@ -16,7 +16,7 @@ ghost use Rattle.carte_dirty.specs.Fresh.{fresh_value as value_kept, fresh_check
 use carte_book::Book;
 use carte_effect::Hashed;
 use carte_note::{Finished, Method, note_finished};
-use carte_rebuild::{Rebuilder, Tries};
+use carte_rebuild::{Checks, Rebuilder, Tries};
 use carte_record::{Batch, Entry, Kept};
 use carte_task::Check;
 use carte_value::{Links, Name, NoMemory, SharedLinks, Value};
@@ -43,14 +43,14 @@ fn fresh_value<'a>(kept: &'a Kept, key: &Name) -> Option<&'a Value>
 }
 
 // The check that holds at once, where the key's entry is fresh.
-fn kept_checks(alloc: Global, kept: &Kept, key: &Name) -> Result<Vec<Check>, NoMemory>
-    ensures { IfOk result (λ checks. checks.items ≡ fresh_checks (kept_view kept.now) key.now) }
+fn kept_checks(alloc: Global, kept: &Kept, key: &Name) -> Result<Checks, NoMemory>
+    ensures { IfOk result (λ checks. checks ≡ fresh_checks (kept_view kept.now) key.now) }
 {
-    let mut checks = Vec::new(alloc);
+    let mut checks = Checks::new();
     if let Some(value) = fresh_value(kept, key) {
         let value = Hashed::unhashed(value.copy(alloc)?);
         let links = SharedLinks::of(alloc, Links::new(alloc))?;
-        checks.push(Check::start(alloc, key, &links, value)?)?;
+        checks.push(alloc, Check::start(alloc, key, &links, value)?)?;
     }
     Ok(checks)
 }

@@ -58,6 +58,7 @@ fn made<R: Rebuilder>(
         return Ok(Batch::new(alloc, book.hasher()));
     }
     let mut batch = opened(alloc, begun, rules, book, finished)?;
+    batch.widen(finished.len());
     note_all(alloc, rebuilder, base, book, finished, &mut batch)?;
     Ok(batch)
 }

@@ -3,7 +3,7 @@
 use denote.Param.Send.{IsSend, IsSync, recorded_send, recorded_sync, struct_send, struct_sync, enum_send, enum_sync, sendable}
 use denote.Enum.Declared as choice
 use denote.Struct.Declared as fields
-use Rattle.std.proofs.Crossing.{crosses, Box-send, Box-sync, Arc-send, Arc-sync, Vec-send, Vec-sync}
+use Rattle.std.proofs.Crossing.{crosses, Box-send, Box-sync, Arc-send, Arc-sync}
 use Rattle.carte_value.proofs.area.Area.TheSendSync as area
 use Rattle.carte_value.proofs.kind.Kind.TheSendSync as kind
 use Rattle.carte_value.proofs.name.Name.TheSendSync as name
@@ -14,7 +14,7 @@ use Rattle.carte_tree.proofs.expr.Level.TheSendSync as level
 use Rattle.carte_tree.proofs.expr.Op.TheSendSync as op
 use Rattle.carte_tree.proofs.expr.Arg.TheLaws.TheKnot as tree
 use Rattle.carte_tree.specs.contracts.expr.Expr as Expr
-use Rattle.carte_task.proofs.check.Check.TheSendSync as check
+use Rattle.carte_rebuild.proofs.checks.Checks.TheSendSync as checks
 use Rattle.carte_task.proofs.machine.Machine.TheSendSync as machine
 use Rattle.carte_rebuild.specs.contracts.recipe.Recipe as Recipe
 use Rattle.carte_rebuild.specs.contracts.tries.Stage as Stage
@@ -37,10 +37,10 @@ recipe_sync : IsSync (Recipe.the_field).row
 recipe_sync = struct_sync (fields.shape Recipe.the_type) (search (sendable, name.the_sync), (search (sendable, kind.the_field_sync), (search (sendable, Arc-sync, expr_send, expr_sync), (search (sendable, seeded.the_field_sync), tt))))
 
 stage_send : IsSend (Stage.the_field).row
-stage_send = enum_send (choice.shape Stage.the_type) ((search (sendable, Vec-send, check.the_send), (recipe_send, tt)), ((machine.the_field_send, tt), tt))
+stage_send = enum_send (choice.shape Stage.the_type) ((search (sendable, checks.the_send), (recipe_send, tt)), ((machine.the_field_send, tt), tt))
 
 stage_sync : IsSync (Stage.the_field).row
-stage_sync = enum_sync (choice.shape Stage.the_type) ((search (sendable, Vec-sync, check.the_sync), (recipe_sync, tt)), ((machine.the_field_sync, tt), tt))
+stage_sync = enum_sync (choice.shape Stage.the_type) ((search (sendable, checks.the_sync), (recipe_sync, tt)), ((machine.the_field_sync, tt), tt))
 
 pub tries_field_send : IsSend (Tries.the_field).row
 tries_field_send = struct_send (fields.shape Tries.the_type) (search (sendable, Box-send, stage_send), tt)

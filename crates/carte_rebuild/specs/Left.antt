@@ -14,7 +14,7 @@ use Rattle.carte_rebuild.specs.Recipes.{asks_in}
 use Rattle.carte_rebuild.specs.Trying.{machine_left, task_left, tries}
 
 abbrev pub open_at : Stage → List Checking
-open_at (Checks cs r) = cs.items
+open_at (Checks cs r) = cs
 open_at (Task m) = []
 
 -- the checks whose verdict is open

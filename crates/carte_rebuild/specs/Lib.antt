@@ -1,5 +1,6 @@
 pub mod Recipes
 pub mod Earlier
+pub mod Open
 pub mod Goes
 pub mod Trying
 pub mod Tried

@@ -2,7 +2,7 @@ ghost use Rattle.std.specs.Prelude.{◌≡◌, ◌++◌, option_copied, IfOk, On
 ghost use Rattle.carte_record.specs.Lookups.{first_value};
 ghost use Rattle.carte_rebuild.specs.Earlier.{is_wanted as wants, check_at, checks_if, checks_in};
 
-use crate::stored;
+use crate::{Checks, stored};
 use carte_record::{Store, Trace, Traces};
 use carte_task::Check;
 use carte_value::{Digest, Name, NoMemory};
@@ -16,12 +16,11 @@ pub fn checks_of(
     values: &Store,
     key: &Name,
     wanted: Option<&Digest>,
-) -> Result<Vec<Check>, NoMemory>
-    ensures { IfOk result (λ checks. checks.items ≡ checks_in (option_copied wanted.entry) values.now key.now traces.now) }
+) -> Result<Checks, NoMemory>
+    ensures { IfOk result (λ checks. checks ≡ checks_in (option_copied wanted.entry) values.now key.now traces.now) }
 {
     let places = traces.places(key);
-    // A key has mostly one trace, and a list that grows as it needs has room for four at once.
-    let mut checks = Vec::with_capacity(alloc, places.len().min(1))?;
+    let mut checks = Checks::new();
     for at in places {
         add(
             alloc,
@@ -42,9 +41,9 @@ fn add(
     values: &Store,
     key: &Name,
     wanted: Option<&Digest>,
-    checks: &mut Vec<Check>,
+    checks: &mut Checks,
 ) -> Result<(), NoMemory>
-    ensures { OnOk result (checks.new.items ≡ checks.old.items ++ checks_if (option_copied wanted.entry) values.now key.now (option_copied trace.entry)) }
+    ensures { OnOk result (checks.new ≡ checks.old ++ checks_if (option_copied wanted.entry) values.now key.now (option_copied trace.entry)) }
 {
     match trace {
         Some(trace) if is_wanted(wanted, &trace.result) => {
@@ -68,12 +67,12 @@ fn add_check(
     trace: &Trace,
     values: &Store,
     key: &Name,
-    checks: &mut Vec<Check>,
+    checks: &mut Checks,
 ) -> Result<(), NoMemory>
-    ensures { OnOk result (checks.new.items ≡ checks.old.items ++ check_at (first_value values.now trace.now.result) key.now trace.now) }
+    ensures { OnOk result (checks.new ≡ checks.old ++ check_at (first_value values.now trace.now.result) key.now trace.now) }
 {
     match stored(alloc, values, &trace.result)? {
-        Some(value) => Ok(checks.push(Check::start(alloc, key, &trace.links, value)?)?),
+        Some(value) => checks.push(alloc, Check::start(alloc, key, &trace.links, value)?),
         None => Ok(()),
     }
 }

@@ -34,6 +34,7 @@ mod store;
 mod tries;
 mod work;
 
+pub use checks::Checks;
 pub use earlier::checks_of;
 pub use laws::driven_right;
 pub use made::finish;

@@ -6,11 +6,11 @@ ghost use Rattle.carte_book.specs.Book.{book_view};
 ghost use Rattle.carte_book.specs.Needs.{IsRule};
 ghost use Rattle.carte_rebuild.specs.Tried.{Tried, FoundBy};
 
-use crate::checks::try_all;
+use crate::Checks;
 use crate::recipe::Recipe;
 use carte_book::Book;
 use carte_effect::{Effect, Halt, Job, Made, Reuse, Runs};
-use carte_task::{Check, Machine};
+use carte_task::Machine;
 use carte_value::{Name, NoMemory};
 use std::alloc::Global;
 
@@ -25,7 +25,7 @@ pub struct Tries {
 #[derive(Drop)]
 enum Stage {
     // The checks whose verdict is open, of which the last comes next, and what the task is made of.
-    Checks(Vec<Check>, Recipe),
+    Checks(Checks, Recipe),
     // The task, which was started.
     Task(Machine),
 }
@@ -36,9 +36,9 @@ impl Tries {
     ghost use Rattle.carte_rebuild.specs.Trying.{Gives};
 
     /// A job that tries these checks of earlier ends of a rule's task, the last one first, and then runs the task.
-    pub fn of(alloc: Global, book: &Book, key: &Name, checks: Vec<Check>) -> Result<Tries, NoMemory>
+    pub fn of(alloc: Global, book: &Book, key: &Name, checks: Checks) -> Result<Tries, NoMemory>
         requires { IsRule (book_view book.now) key.now }
-        ensures start { IfOk result (IsStart (book_view book.now) key.now checks.items) }
+        ensures start { IfOk result (IsStart (book_view book.now) key.now checks) }
         ensures name { IfOk result (λ p. name_of p ≡ key.now) }
         ensures idle { IfOk result (λ p. is_started p ≡ false) }
     {
@@ -60,7 +60,7 @@ impl Tries {
         ensures found { FoundBy (not (is_started self.old)) result }
     {
         match &mut *self.stage {
-            Stage::Checks(checks, _) => try_all(alloc, checks, effect),
+            Stage::Checks(checks, _) => checks.try_all(alloc, effect),
             Stage::Task(_) => Ok(None),
         }
     }

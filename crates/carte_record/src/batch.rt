@@ -38,6 +38,17 @@ impl Batch {
         }
     }
 
+    /// Room for what so many finished keys bring at most, where there is memory for it. Lists that grow as items come
+    /// leave holes behind them, as large as they are.
+    pub fn widen(&mut self, count: usize)
+        ensures { self.new ≡ self.old }
+    {
+        self.entries.widen(count);
+        self.verifying.widen(count);
+        self.constructive.widen(count);
+        self.deep.widen(count);
+    }
+
     /// Whether it goes on and has nothing in it.
     pub fn is_empty(&self) -> bool
         ensures { result ≡ is_empty self.now }

@@ -84,8 +84,8 @@ impl Entries {
         })
     }
 
-    // Room for so many entries more at once, where it has few beside these.
-    fn widen(&mut self, more: usize)
+    /// Room for so many entries more at once, where it has few beside these.
+    pub(crate) fn widen(&mut self, more: usize)
         ensures { self.new ≡ self.old }
     {
         widen(&mut self.entries, more);

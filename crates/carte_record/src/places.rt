@@ -6,12 +6,13 @@ use carte_value::NoMemory;
 use std::alloc::Global;
 use std::slice;
 
-/// The places of a key's traces, ascending. Most keys have one trace, whose place takes no memory of its own; the list of
-/// others is boxed, so that the places of each key take no more room than they need for one.
+/// The places of a key's traces, ascending. Most keys have one trace or two, whose places take no memory of their own; a
+/// list of more is boxed, so that the places of each key take no more room than they need for two.
 #[derive(Drop)]
 pub(crate) enum Places {
     Gone,
     One(u32),
+    Two([u32; 2]),
     Many(Box<Vec<u32>>),
 }
 
@@ -22,6 +23,7 @@ impl Places {
         match self {
             Places::Gone => &[],
             Places::One(place) => slice::from_ref(place),
+            Places::Two(places) => places.as_slice(),
             Places::Many(places) => places.as_slice(),
         }
     }
@@ -32,7 +34,11 @@ impl Places {
     {
         match self {
             Places::Gone => *self = Places::One(at),
-            Places::One(first) => *self = both(alloc, *first, at)?,
+            Places::One(first) => *self = Places::Two([*first, at]),
+            Places::Two(both) => {
+                let [first, second] = *both;
+                *self = three(alloc, first, second, at)?;
+            }
             Places::Many(places) => places.push(at)?,
         }
         Ok(())
@@ -45,6 +51,10 @@ impl Places {
         match self {
             Places::Gone => {}
             Places::One(_) => *self = Places::Gone,
+            Places::Two(both) => {
+                let [first, _] = *both;
+                *self = Places::One(first);
+            }
             Places::Many(places) => {
                 places.pop();
             }
@@ -52,11 +62,12 @@ impl Places {
     }
 }
 
-fn both(alloc: Global, first: u32, second: u32) -> Result<Places, NoMemory>
-    ensures { IfOk result (λ places. places_of places ≡ first ∷ second ∷ []) }
+fn three(alloc: Global, first: u32, second: u32, third: u32) -> Result<Places, NoMemory>
+    ensures { IfOk result (λ places. places_of places ≡ first ∷ second ∷ third ∷ []) }
 {
-    let mut both = Vec::with_capacity(alloc, 2)?;
-    both.push(first)?;
-    both.push(second)?;
-    Ok(Places::Many(Box::new(alloc, both)?))
+    let mut all = Vec::with_capacity(alloc, 3)?;
+    all.push(first)?;
+    all.push(second)?;
+    all.push(third)?;
+    Ok(Places::Many(Box::new(alloc, all)?))
 }

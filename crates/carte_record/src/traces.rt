@@ -79,8 +79,8 @@ impl Traces {
         })
     }
 
-    // Room for so many traces more at once, where it has few beside these.
-    fn widen(&mut self, more: usize)
+    /// Room for so many traces more at once, where it has few beside these.
+    pub(crate) fn widen(&mut self, more: usize)
         ensures { self.new ≡ self.old }
     {
         widen(&mut self.traces, more);

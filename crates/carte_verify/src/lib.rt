@@ -16,9 +16,8 @@ ghost use Rattle.carte_rebuild.specs.Traced.{AreTried};
 
 use carte_book::Book;
 use carte_note::{Finished, Method, note_finished};
-use carte_rebuild::{Rebuilder, Tries, checks_of};
+use carte_rebuild::{Checks, Rebuilder, Tries, checks_of};
 use carte_record::{Batch, Kept, Way};
-use carte_task::Check;
 use carte_value::{Name, NoMemory};
 use std::alloc::Global;
 
@@ -27,8 +26,8 @@ use std::alloc::Global;
 pub struct Verify;
 
 // The checks of the key's traces with the result of its entry.
-fn kept_checks(alloc: Global, kept: &Kept, key: &Name) -> Result<Vec<Check>, NoMemory>
-    ensures { IfOk result (λ checks. AreTried Verifying (kept_view kept.now) key.now checks.items) }
+fn kept_checks(alloc: Global, kept: &Kept, key: &Name) -> Result<Checks, NoMemory>
+    ensures { IfOk result (λ checks. AreTried Verifying (kept_view kept.now) key.now checks) }
 {
     match kept.entries.find(key) {
         Some(entry) => checks_of(
@@ -38,7 +37,7 @@ fn kept_checks(alloc: Global, kept: &Kept, key: &Name) -> Result<Vec<Check>, NoM
             key,
             Some(&entry.result),
         ),
-        None => Ok(Vec::new(alloc)),
+        None => Ok(Checks::new()),
     }
 }
 

@@ -3,4 +3,4 @@ use Rattle.carte_construct.proofs.Tried.{all_tried}
 use Rattle.carte_construct.proofs.kept_checks.Goals as goal
 
 pub returns : goal.returns
-returns c = IfOk-weaker c.checks_of.result _ _ (λ cs is. all_tried c.args.kept.now c.args.key.now cs.items is) c.checks_of.ensures
+returns c = IfOk-weaker c.checks_of.result _ _ (λ cs is. all_tried c.args.kept.now c.args.key.now cs is) c.checks_of.ensures

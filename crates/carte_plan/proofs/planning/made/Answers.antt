@@ -19,8 +19,8 @@ pub returns-clause-unmarked : goal.returns-clause-unmarked
 returns-clause-unmarked g c =
     let x = c.args.begun.now in
     let fs = c.args.finished.now in
-    all_unmarked (g.R.Rebuilder.how c.args.rebuilder.now) (kept_view c.args.base.now) (book_view c.args.book.now) (if x.same then GoOn else Anew c.args.rules) (marks_left (finishes_of fs) x.marks) fs c.in_ok-batch.batch c.note_all.new.batch (c.in_ok-batch.ensures {u = tt}) (c.in_ok-note_all.ensures {u = tt})
+    all_unmarked (g.R.Rebuilder.how c.args.rebuilder.now) (kept_view c.args.base.now) (book_view c.args.book.now) (if x.same then GoOn else Anew c.args.rules) (marks_left (finishes_of fs) x.marks) fs c.widen.new.self c.note_all.new.batch (c.widen.ensures ∙ c.in_ok-batch.ensures {u = tt}) (c.in_ok-note_all.ensures {u = tt})
 
 pub returns-clause-plans : goal.returns-clause-plans
 returns-clause-plans g c K begins =
-    all_planned (g.R.Rebuilder.how c.args.rebuilder.now) K (kept_view c.args.base.now) (book_view c.args.book.now) c.args.rules c.args.begun.now c.args.finished.now c.in_ok-batch.batch c.note_all.new.batch begins c.requires (sym c.brings_nothing.ensures ∙ c.if-brings_nothing.false) (c.in_ok-batch.ensures {u = tt}) (c.in_ok-note_all.ensures {u = tt})
+    all_planned (g.R.Rebuilder.how c.args.rebuilder.now) K (kept_view c.args.base.now) (book_view c.args.book.now) c.args.rules c.args.begun.now c.args.finished.now c.widen.new.self c.note_all.new.batch begins c.requires (sym c.brings_nothing.ensures ∙ c.if-brings_nothing.false) (c.widen.ensures ∙ c.in_ok-batch.ensures {u = tt}) (c.in_ok-note_all.ensures {u = tt})

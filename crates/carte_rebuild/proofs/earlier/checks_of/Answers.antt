@@ -3,9 +3,9 @@ use Rattle.carte_rebuild.proofs.Collecting.{at_more, at_last}
 use Rattle.carte_rebuild.proofs.earlier.checks_of.Goals as goal
 
 pub loop-at-preserved : goal.loop-at-preserved
-loop-at-preserved c = at_more (option_copied c.args.wanted) c.args.values.now c.args.key.now c.args.traces.now c.places-places.result.now c.loop-at.at-index _ c.loop-at.checks.items c.add.new.checks.items _ c.loop-at-test.true c.get.ensures c.loop-at.invariant (c.in_ok-add.ensures {u = tt})
+loop-at-preserved c = at_more (option_copied c.args.wanted) c.args.values.now c.args.key.now c.args.traces.now c.places-places.result.now c.loop-at.at-index _ c.loop-at.checks c.add.new.checks _ c.loop-at-test.true c.get.ensures c.loop-at.invariant (c.in_ok-add.ensures {u = tt})
 
 pub returns : goal.returns
 returns c =
     let end : c.loop-at.at-index ≡ length c.places-places.result.now = omega (arith, c.loop-at.auto.at-index-end, c.loop-at-test.false) in
-    at_last (option_copied c.args.wanted) c.args.values.now c.args.key.now c.args.traces.now c.places-places.result.now c.loop-at.at-index c.loop-at.checks.items end c.places-places.ensures c.loop-at.invariant
+    at_last (option_copied c.args.wanted) c.args.values.now c.args.key.now c.args.traces.now c.places-places.result.now c.loop-at.at-index c.loop-at.checks end c.places-places.ensures c.loop-at.invariant
