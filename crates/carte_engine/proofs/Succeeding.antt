@@ -1,6 +1,6 @@
 -- What work that is done rightly has made.
 use Rattle.std.proofs.Common.{◌≡◌, ℕ, ◌≤◌, cond, List, [], ◌∷◌, Option, Some, None, map, length, refl, ap, sym, ◌∙◌, subst, inl, inr, arith}
-use Rattle.carte_value.specs.Names.{name_eq}
+use Rattle.carte_name.specs.Names.{name_eq}
 use Rattle.carte_value.specs.Truths.{Among}
 use Rattle.carte_value.proofs.Members.{name_apart, no_longer, same_or_not}
 use Rattle.carte_effect.specs.declared.outcome.Made.{Made}

@@ -6,7 +6,7 @@ use Rattle.std.specs.Ordering.{eq_by_cmp}
 use Rattle.std.proofs.lemmas.List.{map-append, take_more}
 use Rattle.carte_value.specs.declared.digest.Digest.{Digest}
 use Rattle.carte_value.specs.declared.link.Link.{Link}
-use Rattle.carte_value.specs.Names.{name_cmp, name_eq}
+use Rattle.carte_name.specs.Names.{name_cmp, name_eq}
 use Rattle.carte_value.specs.Truths.{Among}
 use Rattle.carte_value.proofs.Members.{among_append}
 use Rattle.carte_book.specs.Book.{Book}

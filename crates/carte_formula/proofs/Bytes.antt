@@ -9,7 +9,7 @@ use Rattle.std.proofs.lemmas.Bool.{lt-ltb, leb-true, le-leb}
 use Rattle.std.proofs.lemmas.Bool.Decides.{nat_tests}
 use Rattle.std.proofs.lemmas.Str.Parse.{IsDigitsTest, IsNumeralModel, numerals_by_value}
 use Rattle.std.proofs.lemmas.Fmt.{digits_decimal, digits_value-decimal, decimal_nonempty}
-use Rattle.carte_value.specs.Names.{is_rule_name, is_cell_name, is_row, is_digit, is_lower, is_upper, is_name_byte}
+use Rattle.carte_name.specs.Names.{is_rule_name, is_cell_name, is_row, is_digit, is_lower, is_upper, is_name_byte}
 
 pub and_left : (a b : Bool) → (a && b) ≡ true → a ≡ true
 and_left true b h = refl

@@ -1,8 +1,8 @@
 -- What a text spells is a formula, with names of the book's kind.
 use Rattle.std.proofs.Common.{ℕ, ℤ, pos, negsuc, Bool, true, false, List, [], ◌∷◌, ◌++◌, length, ◌≡◌, ◌≤◌, ◌==◌, IsTrue, refl, arith, length-append}
 use Rattle.std.proofs.lemmas.Bool.{eqb-true, eqb-false}
-use Rattle.carte_value.specs.declared.kind.Kind.{Kind}
-use Rattle.carte_value.specs.declared.kind.Kind.TheVariants.{Rules, Sheet}
+use Rattle.carte_name.specs.declared.kind.Kind.{Kind}
+use Rattle.carte_name.specs.declared.kind.Kind.TheVariants.{Rules, Sheet}
 use Rattle.carte_value.specs.Areas.{area_of}
 use Rattle.carte_tree.specs.Tree.{Tree, number, ref, Arg, one, cells, Term, steps_of, args_of, arity, takes_ranges, is_if, filled}
 use Rattle.carte_formula.specs.Tokens.{Level, Func, Token, digits, word, cell, op, rpar, comma, colon}

@@ -3,9 +3,9 @@ use Rattle.std.proofs.Common.{ℕ, pos, Bool, true, false, List, [], ◌∷◌, 
 use Rattle.std.specs.Str.{str_to_ascii_uppercase}
 use Rattle.std.specs.Str.Parse.{digits_value}
 use Rattle.std.proofs.lemmas.Bool.{ltb-true, leb-true}
-use Rattle.carte_value.specs.Names.{is_rule_name, is_cell_name, is_digit, is_lower, is_upper, is_letter, is_name_byte}
-use Rattle.carte_value.specs.declared.kind.Kind.{Kind}
-use Rattle.carte_value.specs.declared.kind.Kind.TheVariants.{Rules, Sheet}
+use Rattle.carte_name.specs.Names.{is_rule_name, is_cell_name, is_digit, is_lower, is_upper, is_letter, is_name_byte}
+use Rattle.carte_name.specs.declared.kind.Kind.{Kind}
+use Rattle.carte_name.specs.declared.kind.Kind.TheVariants.{Rules, Sheet}
 use Rattle.carte_formula.specs.Tokens.{eq, add, sub, mul, div, join, Func, Token, digits, quoted, word, cell, op, lpar, rpar, comma, colon}
 use Rattle.carte_formula.specs.Print.{OfKind, AllOfKind}
 use Rattle.carte_formula.specs.Reading.{Placed, tokens_of}

@@ -1,6 +1,6 @@
 -- What the parts of reading give together.
 use Rattle.std.proofs.Common.{ℕ, List, [], length, ◌≡◌, ◌≤◌, Option, Some, None, Result, Ok, Err, IfOk, refl}
-use Rattle.carte_value.specs.declared.kind.Kind.{Kind}
+use Rattle.carte_name.specs.declared.kind.Kind.{Kind}
 use Rattle.carte_tree.specs.Tree.{Tree}
 use Rattle.carte_formula.specs.Machine.{wants}
 use Rattle.carte_formula.specs.Reading.{FormulaFault, BadToken, BadSyntax, TooDeep, TooLong, TooWide, NoMemory, Placed, ReadAs, tokens_read}

@@ -1,6 +1,6 @@
 -- What a text is read as does not change while its tokens are read.
 use Rattle.std.proofs.Common.{ℕ, false, List, [], ◌∷◌, length, drop, ◌≡◌, ◌<◌, ◌≤◌, ◌+◌, nat_lt, Some, None, Result, Ok, Err, refl, sym, ◌∙◌, ap, subst, slice_index, arith}
-use Rattle.carte_value.specs.declared.kind.Kind.{Kind}
+use Rattle.carte_name.specs.declared.kind.Kind.{Kind}
 use Rattle.carte_tree.specs.Tree.{Tree}
 use Rattle.carte_formula.specs.Tokens.{Token, Sign, sign_token}
 use Rattle.carte_formula.specs.Machine.{State, wants, next_state}

@@ -1,7 +1,7 @@
 -- A text is read in one way, and what is printed is read again as it was.
 use Rattle.std.proofs.Common.{ℕ, Bool, true, false, List, [], length, Option, Some, None, ◌≡◌, ◌≤◌, ◌+◌, Result, Ok, Err, if◌then◌else◌, refl, sym, ◌∙◌, ap, arith, nat_lt}
 use Rattle.std.proofs.lemmas.Bool.{le-ltb, lt-ltb, ltb-true, ltb-false}
-use Rattle.carte_value.specs.declared.kind.Kind.{Kind}
+use Rattle.carte_name.specs.declared.kind.Kind.{Kind}
 use Rattle.carte_tree.specs.Tree.{Tree}
 use Rattle.carte_formula.specs.Grammar.{Spells}
 use Rattle.carte_formula.specs.Machine.{wants}

@@ -4,7 +4,7 @@ use Rattle.std.specs.List.{list_all}
 use Rattle.std.proofs.lemmas.Bool.{eqb-true}
 use Rattle.std.proofs.lemmas.List.{drop_all, take_more, length-take-le, length-drop, get_or-drop, get_or_append_left, get_or-append-add}
 use Rattle.std.proofs.lemmas.List.Folds.{list_all-append}
-use Rattle.carte_value.specs.Names.{is_digit, is_lower, is_upper, is_letter, is_name_byte}
+use Rattle.carte_name.specs.Names.{is_digit, is_lower, is_upper, is_letter, is_name_byte}
 use Rattle.carte_formula.specs.Lexer.{Class, numeral, small, capitals, letters, less, greater, inside, closing, run, grown_run, going_on, lexed}
 use Rattle.carte_formula.specs.Runs.{RunOk, RunsTo, Running, Keeps}
 use Rattle.carte_formula.proofs.Bytes.{and_right, and_both, within}

@@ -5,9 +5,9 @@ use Rattle.std.specs.Str.{IsUtf8, IsCharBoundary}
 use Rattle.std.proofs.lemmas.Bool.{eqb-true}
 use Rattle.std.proofs.lemmas.List.{get_or-take, get_or-drop}
 use Rattle.std.proofs.lemmas.Str.{IsCharBoundary-before_ascii, IsCharBoundary-after_ascii}
-use Rattle.carte_value.specs.Names.{is_digit, is_lower, is_upper}
-use Rattle.carte_value.specs.declared.kind.Kind.{Kind}
-use Rattle.carte_value.specs.declared.kind.Kind.TheVariants.{Rules, Sheet}
+use Rattle.carte_name.specs.Names.{is_digit, is_lower, is_upper}
+use Rattle.carte_name.specs.declared.kind.Kind.{Kind}
+use Rattle.carte_name.specs.declared.kind.Kind.TheVariants.{Rules, Sheet}
 use Rattle.carte_formula.specs.Tokens.{Token, op, lpar, rpar, comma, colon, add, sub, mul, div, join, eq}
 use Rattle.carte_formula.specs.Lexer.{Class, numeral, small, capitals, letters, less, greater, inside, closing, Start, blank, single, begins, wrong, is_blank, sign_of, start_of, low_class, high_class, idle, run, emit, from_start, token_of, lexed}
 use Rattle.carte_formula.specs.Runs.{RunOk, RunsTo}

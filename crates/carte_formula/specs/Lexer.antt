@@ -3,9 +3,9 @@ use Rattle.std.specs.Prelude.{ℕ, pos, Bool, true, false, List, [], ◌∷◌, 
 use Rattle.std.specs.Fmt.{signed_decimal}
 use Rattle.std.specs.Str.{str_to_ascii_uppercase}
 use Rattle.std.specs.Str.Parse.{digits_value}
-use Rattle.carte_value.specs.Names.{is_digit, is_lower, is_upper, is_letter, is_name_byte, is_rule_name, is_cell_name}
-use Rattle.carte_value.specs.declared.kind.Kind.{Kind}
-use Rattle.carte_value.specs.declared.kind.Kind.TheVariants.{Rules, Sheet}
+use Rattle.carte_name.specs.Names.{is_digit, is_lower, is_upper, is_letter, is_name_byte, is_rule_name, is_cell_name}
+use Rattle.carte_name.specs.declared.kind.Kind.{Kind}
+use Rattle.carte_name.specs.declared.kind.Kind.TheVariants.{Rules, Sheet}
 use Rattle.carte_formula.specs.Tokens.{Op, eq, ne, lt, le, gt, ge, join, add, sub, mul, div, Func, Token, digits, quoted, word, cell, func, op, lpar, rpar, comma, colon, sign_token}
 use Rattle.carte_tree.specs.Printed.{func_name, op_bytes, text_bytes}
 use Rattle.carte_tree.specs.declared.expr.Func.TheVariants as functions

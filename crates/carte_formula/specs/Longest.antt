@@ -1,7 +1,7 @@
 -- Each token is the longest that fits, and what follows is lexed anew.
 use Rattle.std.specs.Prelude.{ℕ, true, false, List, [], ◌∷◌, ◌++◌, length, ◌≡◌, ◌<◌, ◌+◌, ◌-◌, Ok, slice_index}
 use Rattle.std.specs.List.{list_all}
-use Rattle.carte_value.specs.declared.kind.Kind.{Kind}
+use Rattle.carte_name.specs.declared.kind.Kind.{Kind}
 use Rattle.carte_formula.specs.Tokens.{Token}
 use Rattle.carte_formula.specs.Reading.{Placed}
 use Rattle.carte_formula.specs.Lexer.{is_blank, idle, lexed}

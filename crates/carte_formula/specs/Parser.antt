@@ -1,6 +1,6 @@
 -- The machine's states as the code holds them.
 use Rattle.std.specs.Prelude.{ℕ, Bool, true, false, nat_lt, List, [], ◌∷◌, ◌+◌, ◌++◌, map, Option, Some, None, Result, Ok, Err, ◌≡◌, if◌then◌else◌}
-use Rattle.carte_value.specs.declared.NoMemory.{NoMemory}
+use Rattle.carte_name.specs.declared.NoMemory.{NoMemory}
 use Rattle.carte_tree.specs.Tree.{Tree, Arg}
 use Rattle.carte_tree.specs.Code.{tree_of, terms_of, args_trees}
 use Rattle.carte_formula.specs.Machine.{Frame, sign, chain_at, group, args, State, wants, had, named, corner, half, ranged, next_args, after}

@@ -1,8 +1,8 @@
 -- The printed form of a formula, as tokens.
 use Rattle.std.specs.Prelude.{ℕ, pos, negsuc, Bool, true, false, List, [], ◌∷◌, ◌++◌, ◌≡◌, ◌≤◌, ◌<◌, ◌^◌, length, slice_index}
-use Rattle.carte_value.specs.Names.{is_upper, is_rule_name, is_cell_name}
-use Rattle.carte_value.specs.declared.kind.Kind.{Kind}
-use Rattle.carte_value.specs.declared.kind.Kind.TheVariants.{Rules, Sheet}
+use Rattle.carte_name.specs.Names.{is_upper, is_rule_name, is_cell_name}
+use Rattle.carte_name.specs.declared.kind.Kind.{Kind}
+use Rattle.carte_name.specs.declared.kind.Kind.TheVariants.{Rules, Sheet}
 use Rattle.carte_tree.specs.Tree.{first_corner, last_corner, rank, Tree, number, text, ref, neg, chain, call, Steps, no_step, step, Args, no_arg, arg, Arg, one, cells}
 use Rattle.carte_formula.specs.Tokens.{sub, Level, Token, digits, quoted, word, cell, func, op, lpar, rpar, comma, colon}
 use Rattle.carte_tree.specs.Printed.{tight}

@@ -1,6 +1,6 @@
 -- What a text is read as, where some of its tokens are read.
 use Rattle.std.specs.Prelude.{ℕ, List, length, drop, ◌≡◌, ◌≤◌, ◌<◌, Result, Ok, Err}
-use Rattle.carte_value.specs.declared.kind.Kind.{Kind}
+use Rattle.carte_name.specs.declared.kind.Kind.{Kind}
 use Rattle.carte_tree.specs.Tree.{Tree}
 use Rattle.carte_formula.specs.Machine.{State}
 use Rattle.carte_formula.specs.Reading.{FormulaFault, BadToken, Placed, tokens_read}

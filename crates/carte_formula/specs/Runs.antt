@@ -1,8 +1,8 @@
 -- Runs of bytes, and where they end.
 use Rattle.std.specs.Prelude.{ℕ, List, ◌≡◌, ◌≤◌, ◌<◌, ◌+◌, ◌-◌, true, length, drop, slice_index, slice_range, Some}
 use Rattle.std.specs.List.{list_all}
-use Rattle.carte_value.specs.Names.{is_digit}
-use Rattle.carte_value.specs.declared.kind.Kind.{Kind}
+use Rattle.carte_name.specs.Names.{is_digit}
+use Rattle.carte_name.specs.declared.kind.Kind.{Kind}
 use Rattle.carte_formula.specs.Lexer.{Class, numeral, inside, closing, idle, run, grown_run, token_of, emit, lexed}
 
 -- what is known of the bytes of a run by its class

@@ -1,6 +1,6 @@
 -- What meeting tokens in bytes leaves to be done.
 use Rattle.std.specs.Prelude.{ℕ, List, ◌≡◌, ◌≤◌, ◌<◌, length, drop, Option, Some, None, Result, Ok, Err}
-use Rattle.carte_value.specs.declared.kind.Kind.{Kind}
+use Rattle.carte_name.specs.declared.kind.Kind.{Kind}
 use Rattle.carte_formula.specs.Tokens.{Token}
 use Rattle.carte_formula.specs.Reading.{FormulaFault, BadToken, NoMemory, Placed}
 use Rattle.carte_formula.specs.Lexer.{idle, before, lexed}

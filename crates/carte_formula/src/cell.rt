@@ -1,5 +1,5 @@
 ghost use Rattle.std.specs.Prelude.{◌≡◌, IfOk, IsTrue};
-ghost use Rattle.carte_value.specs.Names.{is_cell_name};
+ghost use Rattle.carte_name.specs.Names.{is_cell_name};
 ghost use Rattle.carte_value.specs.Areas.{area_of, IsArea};
 
 use carte_value::{Area, Name, NoMemory};
@@ -14,7 +14,7 @@ pub struct Cell {
 
 impl Model for Cell {
     ghost use Rattle.std.specs.Prelude.{ℕ, List, IsTrue};
-    ghost use Rattle.carte_value.specs.Names.{is_cell_name};
+    ghost use Rattle.carte_name.specs.Names.{is_cell_name};
 
     ghost Value = { List ℕ };
 

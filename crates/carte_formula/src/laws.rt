@@ -1,7 +1,7 @@
 //! What is true of texts and formulas at large. Each law is the contract of a function that does nothing.
 ghost use Rattle.std.specs.Prelude.{◌≡◌, ◌≤◌, ℕ, List, [], ◌∷◌, true, Result, Ok, length};
 ghost use Rattle.std.specs.List.{list_all};
-ghost use Rattle.carte_value.specs.declared.kind.Kind.{Kind};
+ghost use Rattle.carte_name.specs.declared.kind.Kind.{Kind};
 ghost use Rattle.carte_tree.specs.Tree.{Tree};
 ghost use Rattle.carte_tree.specs.Printed.{printed};
 ghost use Rattle.carte_formula.specs.Reading.{FormulaFault, Placed};

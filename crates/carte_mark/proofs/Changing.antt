@@ -3,7 +3,7 @@ use Rattle.std.proofs.Common.{◌≡◌, ◌⊎◌, ℕ, suc, ◌+◌, ◌<◌, 
 use Rattle.indexmap.specs.IndexSet.{insert_key}
 use Rattle.carte_value.specs.declared.digest.Digest.{Digest}
 use Rattle.carte_value.specs.declared.link.Link.{Link}
-use Rattle.carte_value.specs.Names.{name_eq}
+use Rattle.carte_name.specs.Names.{name_eq}
 use Rattle.carte_value.specs.Truths.{Among}
 use Rattle.carte_book.specs.Book.{Book}
 use Rattle.carte_record.specs.declared.kept.Kept.{Kept}

@@ -8,7 +8,7 @@ use Rattle.std.specs.Cmp.Lexicographic.{nat_list_eq_equiv, nat_list_cmp_total, t
 use Rattle.std.proofs.lemmas.List.Filters.{dedup_is}
 use Rattle.std.proofs.lemmas.List.Kept.{IsStrictlySortedBy-dedup, Contains-dedup, Contains-from_dedup}
 use Rattle.std.proofs.lemmas.List.Sorted.{Contains-permutation, IsPermutation-sym}
-use Rattle.carte_value.specs.Names.{name_cmp, name_eq}
+use Rattle.carte_name.specs.Names.{name_cmp, name_eq}
 use Rattle.carte_value.specs.Truths.{Among, IsListOf}
 use Rattle.carte_value.proofs.Members.{among_append, among_left, among_right}
 use Rattle.carte_book.specs.Book.{Book}

@@ -1,6 +1,6 @@
 -- How tables of users grow.
 use Rattle.std.proofs.Common.{◌≡◌, ◌⊎◌, ℕ, Bool, true, false, cond, List, [], ◌∷◌, ◌++◌, Some, None, map, refl, ap, sym, ◌∙◌, subst, inl, inr, find}
-use Rattle.carte_value.specs.Names.{name_eq}
+use Rattle.carte_name.specs.Names.{name_eq}
 use Rattle.carte_value.specs.Truths.{Among}
 use Rattle.carte_value.proofs.Members.{among_append, among_left, among_right}
 use Rattle.carte_record.specs.declared.entry.Entry.{Entry}

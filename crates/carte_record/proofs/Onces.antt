@@ -8,7 +8,7 @@ use Rattle.std.specs.Set.{is_member}
 use Rattle.std.specs.Map.{lookup, keys_of}
 use Rattle.std.proofs.lemmas.List.{length-map}
 use Rattle.std.proofs.lemmas.Map.Made.{is_some-lookup, length-from_keys, IsDistinct-from_count}
-use Rattle.carte_value.specs.Names.{name_eq}
+use Rattle.carte_name.specs.Names.{name_eq}
 use Rattle.carte_record.specs.Lookups.{find_last}
 use Rattle.carte_record.specs.Places.{first_place, IsFirstPlaces}
 use Rattle.carte_record.proofs.Names.{name_eq_is}

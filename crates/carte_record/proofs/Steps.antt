@@ -2,7 +2,7 @@
 use Rattle.std.proofs.Common.{◌≡◌, ℕ, ◌<◌, length, arith, cond, Bool, true, false, List, [], ◌∷◌, ◌++◌, Option, Some, None, refl, ap, sym, ◌∙◌, subst, inl, inr, append_assoc, append-nil}
 use Rattle.std.specs.Prelude.{find, option_map, is_some, if◌then◌else◌}
 use Rattle.std.specs.Option.{option_or}
-use Rattle.carte_value.specs.Names.{name_eq}
+use Rattle.carte_name.specs.Names.{name_eq}
 use Rattle.carte_record.specs.Lookups.{find_last}
 use Rattle.carte_record.specs.Changes.{change_first}
 use Rattle.carte_record.specs.Steps.{Begins, replaced_by, Replaces, HasRoomFor, HasRoom, IsReady, TakesIn}

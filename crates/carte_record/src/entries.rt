@@ -1,6 +1,6 @@
 ghost use Rattle.std.specs.Prelude.{◌≡◌, ◌<◌, ◌^◌, ◌∷◌, ◌++◌, [], List, length, slice_get, option_copied, ◌==◌, is_ok, take, IfOk, OnOk, OnErr, IsTrue, ℕ, Bool, option_map, if◌then◌else◌};
 ghost use Rattle.std.specs.HashMap.{get};
-ghost use Rattle.carte_value.specs.Names.{name_eq};
+ghost use Rattle.carte_name.specs.Names.{name_eq};
 ghost use Rattle.carte_record.specs.Lookups.{first_entry, is_entry_of};
 ghost use Rattle.carte_record.specs.Kept.{staled};
 ghost use Rattle.carte_record.specs.Marked.{all_marked, marked_as};
@@ -28,7 +28,7 @@ pub struct Entries {
 impl Model for Entries {
     ghost use Rattle.std.specs.Prelude.{List, length, ◌<◌, ◌^◌};
     ghost use Rattle.std.specs.HashMap.{get};
-    ghost use Rattle.carte_value.specs.Names.{name_eq};
+    ghost use Rattle.carte_name.specs.Names.{name_eq};
     ghost use Rattle.carte_record.specs.declared.entry.Entry.{Entry};
     ghost use Rattle.carte_record.specs.Places.{IsFirstPlaces};
     ghost use Rattle.carte_record.specs.Lookups.{is_entry_of};

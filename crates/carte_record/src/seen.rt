@@ -1,6 +1,6 @@
 ghost use Rattle.std.specs.Prelude.{◌≡◌, ◌<◌, ◌^◌, ◌∷◌, ◌++◌, [], List, length, slice_get, option_copied, ◌==◌, is_ok, take, IfOk, OnOk, OnErr, IsTrue, if◌then◌else◌};
 ghost use Rattle.std.specs.HashMap.{get};
-ghost use Rattle.carte_value.specs.Names.{name_eq};
+ghost use Rattle.carte_name.specs.Names.{name_eq};
 ghost use Rattle.carte_record.specs.Lookups.{first_link, is_link_of};
 ghost use Rattle.carte_record.specs.Places.{IsFirstPlaces};
 ghost use Rattle.carte_record.specs.Changes.{change_first, front};
@@ -23,7 +23,7 @@ pub struct Seen {
 impl Model for Seen {
     ghost use Rattle.std.specs.Prelude.{List, length, ◌<◌, ◌^◌};
     ghost use Rattle.std.specs.HashMap.{get};
-    ghost use Rattle.carte_value.specs.Names.{name_eq};
+    ghost use Rattle.carte_name.specs.Names.{name_eq};
     ghost use Rattle.carte_value.specs.declared.link.Link.{Link};
     ghost use Rattle.carte_record.specs.Places.{IsFirstPlaces};
     ghost use Rattle.carte_record.specs.Lookups.{is_link_of};

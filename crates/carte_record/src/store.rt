@@ -1,7 +1,7 @@
 ghost use Rattle.std.specs.Prelude.{◌≡◌, ◌<◌, ◌^◌, ◌∷◌, ◌++◌, [], List, length, map, slice_get, option_map, option_copied, ◌==◌, is_ok, take, IfOk, OnOk, Some, None, if◌then◌else◌};
 ghost use Rattle.carte_value.specs.Spelling.{digest_of};
 ghost use Rattle.std.specs.HashMap.{get};
-ghost use Rattle.carte_value.specs.Names.{name_eq};
+ghost use Rattle.carte_name.specs.Names.{name_eq};
 ghost use Rattle.carte_record.specs.Lookups.{first_value, is_value_of};
 ghost use Rattle.carte_record.specs.Places.{IsFirstPlaces};
 ghost use Rattle.carte_record.specs.Changes.{front};
@@ -27,7 +27,7 @@ pub struct Store {
 impl Model for Store {
     ghost use Rattle.std.specs.Prelude.{◌≡◌, List, length, map, ◌<◌, ◌^◌};
     ghost use Rattle.std.specs.HashMap.{get};
-    ghost use Rattle.carte_value.specs.Names.{name_eq};
+    ghost use Rattle.carte_name.specs.Names.{name_eq};
     ghost use Rattle.carte_value.specs.Spelling.{digest_of};
     ghost use Rattle.carte_value.specs.declared.value.Value.{Value as SomeValue};
     ghost use Rattle.carte_record.specs.Places.{IsFirstPlaces};

@@ -1,7 +1,7 @@
 ghost use Rattle.std.specs.Prelude.{◌≡◌, ◌<◌, ◌^◌, ◌∷◌, ◌++◌, [], List, length, slice_get, option_copied, ◌==◌, is_ok, take, IfOk, if◌then◌else◌};
 ghost use Rattle.std.specs.Prelude.{ℕ, OnOk, OnErr};
 ghost use Rattle.std.specs.HashMap.{get};
-ghost use Rattle.carte_value.specs.Names.{name_eq};
+ghost use Rattle.carte_name.specs.Names.{name_eq};
 ghost use Rattle.carte_record.specs.Lookups.{is_trace_of};
 ghost use Rattle.carte_record.specs.Places.{places, ArePlaces, AddsToPlaces, DropsPlace};
 ghost use Rattle.carte_record.specs.Changes.{front};
@@ -26,7 +26,7 @@ pub struct Traces {
 impl Model for Traces {
     ghost use Rattle.std.specs.Prelude.{List, length, ◌<◌, ◌^◌};
     ghost use Rattle.std.specs.HashMap.{get};
-    ghost use Rattle.carte_value.specs.Names.{name_eq};
+    ghost use Rattle.carte_name.specs.Names.{name_eq};
     ghost use Rattle.carte_record.specs.declared.trace.Trace.{Trace};
     ghost use Rattle.carte_record.specs.Places.{ArePlaces};
     ghost use Rattle.carte_record.specs.KeyPlaces.{places_in};

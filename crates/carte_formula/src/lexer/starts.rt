@@ -1,5 +1,5 @@
 ghost use Rattle.std.specs.Prelude.{◌≡◌, ◌==◌, if◌then◌else◌};
-ghost use Rattle.carte_value.specs.Names.{is_digit, is_lower, is_upper, is_letter, is_name_byte};
+ghost use Rattle.carte_name.specs.Names.{is_digit, is_lower, is_upper, is_letter, is_name_byte};
 ghost use Rattle.carte_formula.specs.Lexer.{is_blank, sign_of, start_by, start_of, low_class, high_class, grown_run, going_on, inside, closing};
 
 use crate::Op;

@@ -1,7 +1,7 @@
 ghost use Rattle.std.specs.Prelude.{◌≡◌, ◌<◌, true, false, IfOk, IsUtf8, length, string_bytes};
 ghost use Rattle.std.specs.List.{list_all};
 ghost use Rattle.std.specs.Str.{str_to_ascii_uppercase};
-ghost use Rattle.carte_value.specs.Names.{is_digit};
+ghost use Rattle.carte_name.specs.Names.{is_digit};
 ghost use Rattle.carte_formula.specs.Lexer.{token_of, numeral, small, letters, closing, func_of, func_token, unpaired, less_op, greater_op};
 ghost use Rattle.carte_formula.specs.Runs.{RunOk};
 

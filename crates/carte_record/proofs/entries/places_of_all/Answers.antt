@@ -1,7 +1,7 @@
 use Rattle.std.proofs.Common.{◌≡◌, ◌<◌, [], ◌∷◌, ◌++◌, length, take, subst, ap, sym, ◌∙◌, rules}
 use Rattle.std.specs.HashMap.{get}
 use Rattle.std.proofs.lemmas.List.{take_more}
-use Rattle.carte_value.specs.Names.{name_eq}
+use Rattle.carte_name.specs.Names.{name_eq}
 use Rattle.carte_record.specs.Lookups.{is_entry_of}
 use Rattle.carte_record.specs.Places.{IsFirstPlaces}
 use Rattle.carte_record.proofs.Names.{name_eq_sym}

@@ -1,6 +1,6 @@
 use Rattle.std.proofs.Common.{◌≡◌, ◌<◌, ◌∙◌, ap, sym, length, rules}
 use Rattle.std.specs.HashMap.{get}
-use Rattle.carte_value.specs.Names.{name_eq}
+use Rattle.carte_name.specs.Names.{name_eq}
 use Rattle.carte_record.proofs.FirstPlaces.{place_added}
 use Rattle.carte_record.proofs.Names.{name_eq_sym}
 use Rattle.carte_note.specs.Lists.{is_of_key}

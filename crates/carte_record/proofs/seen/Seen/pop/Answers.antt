@@ -1,6 +1,6 @@
 use Rattle.std.proofs.Common.{◌≡◌, [], ◌∷◌, length, subst, ap, rules, arith, length-append}
 use Rattle.std.specs.HashMap.{get}
-use Rattle.carte_value.specs.Names.{name_eq}
+use Rattle.carte_name.specs.Names.{name_eq}
 use Rattle.carte_record.specs.Places.{IsFirstPlaces}
 use Rattle.carte_record.specs.Lookups.{is_link_of}
 use Rattle.carte_record.proofs.Names.{name_eq_is, name_eq_self, name_eq_sym}

@@ -1,7 +1,7 @@
 use Rattle.std.proofs.Common.{◌≡◌, [], ◌∷◌, length, map, subst, sym, ◌∙◌, ap, rules, arith, length-append}
 use Rattle.std.proofs.lemmas.List.{same_from_push}
 use Rattle.std.specs.HashMap.{get}
-use Rattle.carte_value.specs.Names.{name_eq}
+use Rattle.carte_name.specs.Names.{name_eq}
 use Rattle.carte_value.specs.Spelling.{digest_of}
 use Rattle.carte_record.specs.Places.{IsFirstPlaces}
 use Rattle.carte_record.specs.Lookups.{is_value_of}

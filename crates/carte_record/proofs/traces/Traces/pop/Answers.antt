@@ -1,6 +1,6 @@
 use Rattle.std.proofs.Common.{[], ◌∷◌, length, subst, ap, arith, length-append}
 use Rattle.std.specs.HashMap.{get}
-use Rattle.carte_value.specs.Names.{name_eq}
+use Rattle.carte_name.specs.Names.{name_eq}
 use Rattle.carte_record.specs.KeyPlaces.{places_in}
 use Rattle.carte_record.specs.Places.{ArePlaces}
 use Rattle.carte_record.specs.Lookups.{is_trace_of}
