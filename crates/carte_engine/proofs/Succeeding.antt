@@ -10,7 +10,7 @@ use Rattle.carte_book.specs.Needs.{IsRule, target}
 use Rattle.carte_book.specs.Reason.{AllClean, IsClean}
 use Rattle.carte_book.proofs.Clean.{clean_input, clean_nothing}
 use Rattle.carte_record.specs.Kept.{SomeKept}
-use Rattle.carte_record.proofs.Names.{name_eq_self}
+use Rattle.carte_table.proofs.Names.{name_eq_self}
 use Rattle.carte_sound.specs.Begun.{AreMarks, begin}
 use Rattle.carte_sound.specs.Held.{How, IsHeld}
 use Rattle.carte_sound.specs.Left.{keys_of}

@@ -13,8 +13,9 @@ use Rattle.carte_book.specs.Book.{Book}
 use Rattle.carte_record.specs.declared.entry.Entry.{Entry}
 use Rattle.carte_record.specs.declared.kept.Kept.{Kept}
 use Rattle.carte_record.specs.Kept.{SomeKept, kept_view}
-use Rattle.carte_record.specs.Lookups.{digest_in, first_entry, first_link, is_entry_of, is_link_of}
-use Rattle.carte_record.proofs.Names.{name_eq_is}
+use Rattle.carte_table.specs.Lookups.{digest_in, first_link, is_link_of}
+use Rattle.carte_record.specs.Lookups.{first_entry, is_entry_of}
+use Rattle.carte_table.proofs.Names.{name_eq_is}
 use Rattle.carte_mark.specs.Marking.{PutsIf}
 use Rattle.carte_mark.specs.Reached.{has_changed}
 use Rattle.carte_search.specs.Search.{HasNodes}

@@ -15,7 +15,7 @@ use Rattle.carte_book.specs.Book.{Book}
 use Rattle.carte_record.specs.declared.entry.Entry.{Entry}
 use Rattle.carte_record.specs.declared.kept.Kept.{Kept}
 use Rattle.carte_record.specs.Kept.{kept_view}
-use Rattle.carte_record.proofs.Names.{name_eq_is}
+use Rattle.carte_table.proofs.Names.{name_eq_is}
 use Rattle.carte_sound.specs.Marks.{Leads, need, on, IsMarked}
 use Rattle.carte_mark.specs.Marking.{IsToMark, PushesToMark, AreToMark}
 use Rattle.carte_mark.specs.Reached.{AreChanged, Meets}

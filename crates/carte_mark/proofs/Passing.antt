@@ -7,7 +7,7 @@ use Rattle.carte_record.specs.declared.entry.Entry.{Entry}
 use Rattle.carte_record.specs.declared.kept.Kept.{Kept}
 use Rattle.carte_record.specs.Kept.{kept_view}
 use Rattle.carte_record.specs.Lookups.{first_entry, is_entry_of}
-use Rattle.carte_record.proofs.Names.{name_eq_is}
+use Rattle.carte_table.proofs.Names.{name_eq_is}
 use Rattle.carte_mark.specs.Reached.{Spreads, PutsMore, IsClosedAt}
 use Rattle.carte_mark.specs.Passes.{Passes, IsRound, AreReached}
 use Rattle.carte_mark.proofs.Spreading.{spreads_self, spreads_on}

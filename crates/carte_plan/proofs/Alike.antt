@@ -13,8 +13,9 @@ use Rattle.carte_book.specs.Book.{Book}
 use Rattle.carte_record.specs.declared.batch.Batch.{Batch}
 use Rattle.carte_record.specs.declared.entry.Entry.{Entry}
 use Rattle.carte_record.specs.Kept.{SomeKept}
-use Rattle.carte_record.specs.Lookups.{digest_in, digest_eq, entry_in, find_last, first_value, is_link_of, is_value_of, link_in}
-use Rattle.carte_record.proofs.Names.{name_eq_is, name_eq_self}
+use Rattle.carte_table.specs.Lookups.{digest_in, digest_eq, find_last, first_value, is_link_of, is_value_of, link_in}
+use Rattle.carte_record.specs.Lookups.{entry_in}
+use Rattle.carte_table.proofs.Names.{name_eq_is, name_eq_self}
 use Rattle.carte_sound.specs.Carries.{Carries}
 use Rattle.carte_sound.specs.Lists.{EachOnce}
 use Rattle.carte_sound.proofs.Tests.{digest_self, same_digest}

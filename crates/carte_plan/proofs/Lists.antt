@@ -13,7 +13,7 @@ use Rattle.carte_record.specs.declared.start.Start.TheVariants.{GoOn, Anew, Clea
 use Rattle.carte_record.specs.Empty.{goes_on, is_empty, brings_no_key, brings_no_trace}
 use Rattle.carte_record.specs.Folds.{is_among}
 use Rattle.carte_record.specs.Kept.{SomeKept}
-use Rattle.carte_record.proofs.Names.{name_eq_sym}
+use Rattle.carte_table.proofs.Names.{name_eq_sym}
 use Rattle.carte_sound.specs.Held.{How}
 use Rattle.carte_sound.specs.LeadsTo.{empty_batch, marks_left}
 use Rattle.carte_sound.specs.Left.{Finishes, keys_of, add, add_all, entry_left}

@@ -7,14 +7,14 @@ use Rattle.carte_record.specs.declared.entry.Entry.{Entry}
 use Rattle.carte_record.specs.declared.kept.Kept.{Kept}
 use Rattle.carte_record.specs.declared.way.Way.{Way}
 use Rattle.carte_record.specs.declared.way.Way.TheVariants.{Verifying, Constructive, Deep}
-use Rattle.carte_record.specs.Changes.{change_first}
+use Rattle.carte_table.specs.Changes.{change_first}
 use Rattle.carte_record.specs.Folds.{is_among, with_marks}
 use Rattle.carte_record.specs.Kept.{kept_traces, kept_view, staled, traces_in}
 use Rattle.carte_record.specs.Lookups.{first_entry, is_entry_of}
 use Rattle.carte_record.specs.Marked.{CanBeMarked, all_marked, lists_marked, marked_as}
 use Rattle.carte_record.proofs.Growing.{kept_same}
 use Rattle.carte_record.proofs.Marks.{marked_more, none_marked}
-use Rattle.carte_record.proofs.Names.{name_eq_is}
+use Rattle.carte_table.proofs.Names.{name_eq_is}
 
 -- changes of items that are apart come in either order
 swapped : {A : Type 0} (p q : A → Bool) (f g : A → A) (xs : List A) → ((y : A) → p y ≡ true → q y ≡ false) → ((y : A) → p (g y) ≡ p y) → ((y : A) → q (f y) ≡ q y)

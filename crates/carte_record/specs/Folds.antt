@@ -8,7 +8,8 @@ use Rattle.carte_record.specs.declared.way.Way.TheVariants.{Verifying, Construct
 use Rattle.carte_record.specs.declared.start.Start.{Start}
 use Rattle.carte_record.specs.declared.start.Start.TheVariants.{GoOn, Anew, Cleared}
 use Rattle.carte_record.specs.declared.batch.Batch.{Batch}
-use Rattle.carte_record.specs.Lookups.{link_in, entry_in, first_value}
+use Rattle.carte_table.specs.Lookups.{link_in, first_value}
+use Rattle.carte_record.specs.Lookups.{entry_in}
 use Rattle.carte_record.specs.Kept.{SomeKept, nothing_kept, traces_in, staled}
 
 abbrev pub is_among : List (List ℕ) → List ℕ → Bool

@@ -8,7 +8,7 @@ use Rattle.carte_book.specs.Needs.{IsRule, needs}
 use Rattle.carte_record.specs.declared.entry.Entry.{Entry}
 use Rattle.carte_record.specs.declared.way.Way.TheVariants.{Verifying, Constructive, Deep}
 use Rattle.carte_record.specs.Kept.{SomeKept, is_fresh}
-use Rattle.carte_record.specs.Lookups.{digest_eq}
+use Rattle.carte_table.specs.Lookups.{digest_eq}
 use Rattle.carte_sound.specs.Marks.{IsFresh}
 use Rattle.carte_sound.specs.True.{full_entry, shallow_entry}
 use Rattle.carte_sound.specs.Held.{How, dirty, tracing}

@@ -8,7 +8,7 @@ use Rattle.carte_record.specs.declared.entry.Entry.{Entry}
 use Rattle.carte_record.specs.declared.trace.Trace.{Trace}
 use Rattle.carte_record.specs.Folds.{is_among}
 use Rattle.carte_record.specs.Kept.{is_fresh, put_at, staled}
-use Rattle.carte_record.specs.Lookups.{digest_eq}
+use Rattle.carte_table.specs.Lookups.{digest_eq}
 use Rattle.carte_value.specs.Lists.{Has}
 
 pub name_self : (k : List ℕ) → name_eq k k ≡ true

@@ -7,7 +7,7 @@ use Rattle.carte_book.specs.Book.{Book, clean}
 use Rattle.carte_book.specs.Digest.{rules_digest_of}
 use Rattle.carte_record.specs.Folds.{is_among}
 use Rattle.carte_record.specs.Kept.{SomeKept, put_at, newest, is_fresh}
-use Rattle.carte_record.specs.Lookups.{digest_eq}
+use Rattle.carte_table.specs.Lookups.{digest_eq}
 use Rattle.carte_record.specs.declared.entry.Entry.{Entry}
 use Rattle.carte_record.specs.declared.way.Way.{Way}
 use Rattle.carte_record.specs.declared.way.Way.TheVariants.{Verifying, Constructive, Deep}

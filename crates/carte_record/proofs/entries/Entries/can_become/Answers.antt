@@ -4,7 +4,7 @@ use Rattle.std.specs.List.{IsDistinct}
 use Rattle.carte_name.specs.Names.{name_eq}
 use Rattle.carte_record.specs.declared.entry.Entry.{Entry}
 use Rattle.carte_record.specs.Lookups.{is_entry_of}
-use Rattle.carte_record.proofs.Onces.{first_is_last, empty_list}
+use Rattle.carte_table.proofs.Onces.{first_is_last, empty_list}
 use Rattle.carte_record.proofs.entries.Entries.can_become.Goals as goal
 
 pub returns : goal.returns
