@@ -11,7 +11,8 @@ use Rattle.carte_tree.specs.Tree.{first_corner, last_corner, rank, Tree, number,
 use Rattle.carte_formula.specs.Tokens.{Level, compare, concat, sum, product, Func, Token, cell, func, op, lpar, rpar, comma, colon}
 use Rattle.carte_tree.specs.declared.expr.Func.TheVariants as functions
 use Rattle.carte_formula.specs.Grammar.{Counts, Spells, unary, single, chained, Repeats, none, more, Unary, primary, negated, posited, Primary, a_number, a_text, a_word, a_cell, a_call, a_group, Argument, formula, range, Arguments, last, next}
-use Rattle.carte_formula.specs.Print.{name_by, bracketed, shown, steps_shown, args_shown, later_shown, arg_shown, held, AllOfKind}
+use Rattle.carte_formula.specs.Print.{name_by, bracketed, shown, steps_shown, args_shown, later_shown, arg_shown, held}
+use Rattle.carte_lexer.specs.Kinds.{AllOfKind}
 use Rattle.carte_tree.specs.Printed.{tight}
 use Rattle.carte_formula.proofs.Sound.{raise}
 use Rattle.carte_formula.proofs.Corners.{corners_again}

@@ -8,7 +8,7 @@ use Rattle.carte_tree.specs.Tree.{Tree, number, ref, Arg, one, cells, Term, step
 use Rattle.carte_formula.specs.Tokens.{Level, Func, Token, digits, word, cell, op, rpar, comma, colon}
 use Rattle.carte_tree.specs.declared.expr.Func.TheVariants as functions
 use Rattle.carte_formula.specs.Grammar.{Counts, Spells, unary, single, chained, Repeats, none, more, Unary, primary, negated, posited, Primary, a_number, a_text, a_word, a_cell, a_call, a_group, Argument, formula, range, Arguments, last, next}
-use Rattle.carte_formula.specs.Print.{OfKind, AllOfKind}
+use Rattle.carte_lexer.specs.Kinds.{OfKind, AllOfKind}
 use Rattle.carte_tree.specs.Formula.{IsWhole, IsCount, args_count, IsExpr, AreSteps, AreArgs, IsArg, HasNames, StepsNames, ArgsNames, ArgNames, has_ranges}
 use Rattle.carte_formula.proofs.Again.{kind_both, Filled}
 use Rattle.carte_formula.proofs.Corners.{area_valid}

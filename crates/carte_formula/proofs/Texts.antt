@@ -6,7 +6,7 @@ use Rattle.carte_tree.specs.Tree.{rank, Tree, number, text, ref, neg, chain, cal
 use Rattle.carte_formula.specs.Tokens.{Level, Token, digits, quoted, rpar}
 use Rattle.carte_formula.specs.Print.{name_by, bracketed, shown, steps_shown, args_shown, later_shown, arg_shown}
 use Rattle.carte_tree.specs.Printed.{tight, func_name, op_bytes, in_brackets, printed, steps_printed, args_printed, later_printed, arg_printed}
-use Rattle.carte_formula.specs.Lexer.{token_bytes, text_of}
+use Rattle.carte_lexer.specs.Lexer.{token_bytes, text_of}
 
 text_append : (ts us : List Token) → text_of (ts ++ us) ≡ text_of ts ++ text_of us
 text_append [] us = refl
