@@ -52,7 +52,7 @@ digest_value b j d = on_value (clean b j)
 -- two books of a history of one kind
 module _ (H : List Book) (distinct : HasDistinctDigests H) (c b : Book) (in_c : Has H c) (in_b : Has H b) (kind : c.kind ≡ b.kind) where
   -- links that are so now are to the same values
-  link_agrees : (ks : List (List ℕ)) → AreLinks (clean_digest b) (links_to (clean c) ks) → (j : List ℕ) → Among ks j → (w : Value) → clean c j ≡ Some w → clean b j ≡ Some w
+  pub link_agrees : (ks : List (List ℕ)) → AreLinks (clean_digest b) (links_to (clean c) ks) → (j : List ℕ) → Among ks j → (w : Value) → clean c j ≡ Some w → clean b j ≡ Some w
   link_agrees [] are j among w is = absurd among
   link_agrees (k ∷ ks) are j (inl same) w is =
       let at : clean c k ≡ Some w = ap (clean c) (sym same) ∙ is in

@@ -1,11 +1,9 @@
 -- What the next build holds.
-use Rattle.std.proofs.Common.{◌≡◌, ℕ, true, cond, List, [], Some, option_map, length, ◌+◌, ap, sym, ◌∙◌, inl, inr, subst}
-use Rattle.carte_value.specs.declared.value.Value.{Value}
+use Rattle.std.proofs.Common.{◌≡◌, ℕ, true, cond, List, [], Some, option_map, ap, sym, ◌∙◌, inl, inr, subst}
 use Rattle.carte_value.specs.Spelling.{digest_of}
 use Rattle.carte_value.specs.Truths.{Among, NoneTwice}
-use Rattle.carte_value.proofs.Firsts.{among_firsts}
-use Rattle.carte_book.specs.Book.{Book, content, rules_of, clean}
-use Rattle.carte_book.specs.Needs.{IsRule, needs}
+use Rattle.carte_book.specs.Book.{Book}
+use Rattle.carte_book.specs.Needs.{IsRule}
 use Rattle.carte_book.specs.Digest.{rules_digest_of}
 use Rattle.carte_record.specs.declared.entry.Entry.{Entry}
 use Rattle.carte_record.specs.declared.trace.Trace.{Trace}
@@ -13,21 +11,16 @@ use Rattle.carte_record.specs.declared.way.Way.{Way}
 use Rattle.carte_record.specs.declared.way.Way.TheVariants.{Verifying, Constructive, Deep}
 use Rattle.carte_record.specs.Folds.{is_among, with_marks}
 use Rattle.carte_record.specs.Kept.{SomeKept, nothing_kept, staled}
-use Rattle.carte_sound.specs.Marks.{IsFresh, digest_in, present, IsMarked}
+use Rattle.carte_sound.specs.Marks.{IsFresh, digest_in, IsMarked}
 use Rattle.carte_sound.specs.Begun.{is_digest, has_rules_of, begin, AreMarks}
-use Rattle.carte_sound.specs.Beneath.{beneath_in, beneath}
 use Rattle.carte_sound.specs.Base.{IsBase}
-use Rattle.carte_sound.specs.Held.{How, dirty, tracing, AreLinks, clean_digest, IsTrusted, IsHeld}
+use Rattle.carte_sound.specs.Held.{How, dirty, tracing, IsTrusted, IsHeld}
 use Rattle.carte_sound.specs.Left.{opened, Finishes, keys_of, add_all, left}
 use Rattle.carte_sound.specs.Finished.{AreFinished}
 use Rattle.carte_sound.proofs.Tests.{digest_self, not_among}
 use Rattle.carte_sound.proofs.Begun.{not_both}
-use Rattle.carte_sound.proofs.Held.{need_has_value, same_rules, same_rules_back, verifying_held, constructive_held}
-use Rattle.carte_sound.proofs.Beneath.{beneath_input}
-use Rattle.carte_sound.proofs.Deep.{deep_held}
+use Rattle.carte_sound.proofs.Held.{same_rules, same_rules_back}
 use Rattle.carte_sound.proofs.NowFresh.{now_names}
-use Rattle.carte_sound.proofs.Reached.{needing_rule}
-use Rattle.carte_sound.proofs.Minimal.{links_hold, inputs_hold}
 use Rattle.carte_sound.proofs.LeftSound.{first_station, stations, left_base}
 use Rattle.carte_sound.proofs.Again.{first_holding, holdings}
 use Rattle.carte_sound.proofs.Finishing.{among_finished}
@@ -40,28 +33,6 @@ marked_trusted Deep K ms k t trusted = tt
 -- marks take away no trace
 pub marked_held : (w : Way) (K : SomeKept) (b : Book) (ms : List (List ℕ)) (k : List ℕ) → IsHeld (tracing w) K b k → IsHeld (tracing w) (with_marks K ms) b k
 marked_held w K b ms k held = (held.0, record { kept = held.1.kept; links = held.1.links; trusted = marked_trusted w K ms k held.0 held.1.trusted })
-
-module _ (K : SomeKept) (b : Book) (H : List Book) (base : IsBase K b H) (c : Book) (k : List ℕ) where
-  needs_known : (v : Value) → clean b k ≡ Some v → (j : List ℕ) → Among (needs b k) j → (w : Value) × (clean b j ≡ Some w)
-  needs_known v has j among = let f = needing_rule b k j among in need_has_value b k f.0 v f.1 has j among
-
-  -- a key whose needs keep their values stays held, whatever has run beneath it
-  pub cutoff_verifying : ((j : List ℕ) → Among (needs b k) j → clean c j ≡ clean b j) → IsHeld (tracing Verifying) K b k → IsHeld (tracing Verifying) K c k
-  cutoff_verifying same held =
-      let r = verifying_held K b H base k held.0 held.1 in
-      (held.0, record { kept = held.1.kept; links = subst (AreLinks (clean_digest c)) (sym r.1) (links_hold c b (needs b k) (needs_known r.0.value r.0.clean) same); trusted = held.1.trusted })
-
-  pub cutoff_constructive : ((j : List ℕ) → Among (needs b k) j → clean c j ≡ clean b j) → IsHeld (tracing Constructive) K b k → IsHeld (tracing Constructive) K c k
-  cutoff_constructive same held =
-      let r = constructive_held K b H base k held.0 held.1 in
-      (held.0, record { kept = held.1.kept; links = subst (AreLinks (clean_digest c)) (sym r.1) (links_hold c b (needs b k) (needs_known r.0.value r.0.clean) same); trusted = tt })
-
-  -- under deep traces where the inputs beneath it stay
-  pub cutoff_deep : ((i : List ℕ) → Among (beneath b k) i → content c i ≡ content b i) → IsHeld (tracing Deep) K b k → IsHeld (tracing Deep) K c k
-  cutoff_deep same held =
-      let r = deep_held K b H base k held.0 held.1 in
-      let rounds = length (rules_of b) + 1 in
-      (held.0, record { kept = held.1.kept; links = subst (AreLinks (present c)) (sym r.1) (inputs_hold c b (beneath b k) (λ i among. beneath_input rounds b k i (among_firsts (beneath_in rounds b k) i among)) same); trusted = tt })
 
 -- each entry is of a rule
 pub base_rule : (K : SomeKept) (b : Book) (H : List Book) → IsBase K b H → (q : List ℕ) (e : Entry) → K.entries q ≡ Some e → IsRule b q

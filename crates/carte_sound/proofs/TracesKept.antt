@@ -11,7 +11,7 @@ use Rattle.carte_record.specs.Lookups.{digest_eq, links_eq, trace_eq}
 use Rattle.carte_value.specs.Lists.{Has}
 use Rattle.carte_sound.specs.True.{trace_of}
 use Rattle.carte_sound.specs.Held.{How, tracing}
-use Rattle.carte_sound.specs.Left.{is_way, add}
+use Rattle.carte_sound.specs.Left.{is_way, add, Finishes, add_all}
 use Rattle.carte_sound.proofs.Tests.{name_self, same_name, same_digest}
 use Rattle.carte_sound.proofs.Entries.{both_true}
 
@@ -46,6 +46,10 @@ trace_parts : (s t : Trace) → trace_by s.key s.links s.result ≡ trace_by t.k
 unfolding trace_by
 trace_parts s t same = same
 
+-- traces with the same parts are the same
+pub same_parts : (s t : Trace) → s.key ≡ t.key → s.links ≡ t.links → s.result ≡ t.result → s ≡ t
+same_parts s t key links result = trace_parts s t (cc)
+
 pub same_trace : (s t : Trace) → trace_eq s t ≡ true → s ≡ t
 same_trace s t is =
     let both = both_true (name_eq s.key t.key && digest_eq s.result t.result) (links_eq s.links t.links) is in
@@ -53,7 +57,7 @@ same_trace s t is =
     let k : s.key ≡ t.key = same_name s.key t.key front.0 in
     let d : s.result ≡ t.result = same_digest s.result t.result front.1 in
     let ls : s.links ≡ t.links = same_links s.links t.links both.1 in
-    trace_parts s t (cc)
+    same_parts s t k ls d
 
 filter_has : (p : Trace → Bool) (ts : List Trace) (t : Trace) → p t ≡ true → Has ts t → Has (filter p ts) t
 filter_has p [] t passes there = absurd there
@@ -81,6 +85,11 @@ chosen_has false new ts t there = there
 
 pub traces_grow : (h : How) (b : Book) (K : SomeKept) (k : List ℕ) (ran : Bool) (w : Way) (q : List ℕ) (t : Trace) → Has (K.traces w q) t → Has ((add h b K k ran).traces w q) t
 traces_grow h b K k ran w q t there = chosen_has ((ran && is_way h w) && name_eq q k) (trace_of w b k) (K.traces w q) t there
+
+-- nor do the keys of a whole build
+pub traces_grow_all : (h : How) (b : Book) (K : SomeKept) (fs : Finishes) (w : Way) (q : List ℕ) (t : Trace) → Has (K.traces w q) t → Has ((add_all h b K fs).traces w q) t
+traces_grow_all h b K [] w q t there = there
+traces_grow_all h b K (f ∷ fs) w q t there = traces_grow_all h b (add h b K f.0 f.1) fs w q t (traces_grow h b K f.0 f.1 w q t there)
 
 -- a key that ran has the new trace
 pub trace_there : (w : Way) (b : Book) (K : SomeKept) (k : List ℕ) → is_way (tracing w) w ≡ true → Has ((add (tracing w) b K k true).traces w k) (trace_of w b k)

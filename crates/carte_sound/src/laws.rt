@@ -1,24 +1,21 @@
 // Laws of what is kept, each as the contract of a function that does nothing.
-ghost use Rattle.std.specs.Prelude.{◌≡◌, ◌++◌, ◌∷◌, [], ℕ, List, Some, if◌then◌else◌};
+ghost use Rattle.std.specs.Prelude.{◌≡◌, ◌++◌, ◌∷◌, [], ℕ, List, if◌then◌else◌};
 ghost use Rattle.carte_value.specs.declared.digest.Digest.{Digest};
 ghost use Rattle.carte_value.specs.Truths.{Among, NoneTwice};
-ghost use Rattle.carte_book.specs.Book.{Book, content, clean};
+ghost use Rattle.carte_book.specs.Book.{Book};
 ghost use Rattle.carte_book.specs.Digest.{rules_digest_of};
-ghost use Rattle.carte_book.specs.Needs.{IsRule, Reaches, needs};
+ghost use Rattle.carte_book.specs.Needs.{IsRule, Reaches};
 ghost use Rattle.carte_book.specs.Reason.{AllClean};
 ghost use Rattle.carte_record.specs.declared.batch.Batch.{Batch};
-ghost use Rattle.carte_record.specs.declared.entry.Entry.{Entry};
 ghost use Rattle.carte_record.specs.declared.start.Start.TheVariants.{Anew, GoOn};
-ghost use Rattle.carte_record.specs.declared.trace.Trace.{Trace};
-ghost use Rattle.carte_record.specs.declared.way.Way.TheVariants.{Constructive, Deep, Verifying};
-ghost use Rattle.carte_record.specs.Folds.{apply, with_marks};
+ghost use Rattle.carte_record.specs.declared.way.Way.TheVariants.{Deep};
+ghost use Rattle.carte_record.specs.Folds.{apply};
 ghost use Rattle.carte_record.specs.Kept.{SomeKept, nothing_kept};
 ghost use Rattle.carte_sound.specs.Base.{HasDistinctDigests, IsBase};
 ghost use Rattle.carte_sound.specs.Begun.{AreMarks, begin, has_rules_of};
-ghost use Rattle.carte_sound.specs.Beneath.{beneath};
 ghost use Rattle.carte_sound.specs.Carries.{Carries};
 ghost use Rattle.carte_sound.specs.Finished.{AreFinished};
-ghost use Rattle.carte_sound.specs.Held.{How, IsHeld, IsHeldBy, tracing};
+ghost use Rattle.carte_sound.specs.Held.{How, IsHeld, tracing};
 ghost use Rattle.carte_sound.specs.LeadsTo.{BringsSuspending, LeadsInOrder, LeadsRefused, LeadsSuspending, marks_left};
 ghost use Rattle.carte_sound.specs.Left.{Finishes, keys_of, left};
 ghost use Rattle.carte_value.specs.Lists.{Has};
@@ -26,7 +23,6 @@ ghost use Rattle.carte_sound.specs.Marks.{IsFresh};
 ghost use Rattle.carte_sound.specs.Results.{HasResult, IsKeptNow};
 ghost use Rattle.carte_sound.specs.Sound.{IsSound};
 ghost use Rattle.carte_sound.specs.Treated.{IsDoneSuspending};
-ghost use Rattle.carte_sound.specs.True.{IsTraceOf, digest_or, links_to};
 
 /// Nothing kept is sound for every history.
 pub fn nothing_is_sound()
@@ -54,32 +50,9 @@ pub fn held_is_clean()
     ensures { (h : How) (K : SomeKept) (b : Book) (H : List Book) (k : List ℕ) → IsBase K b H → IsHeld h K b k → (d : Digest) × HasResult K b k d }
 {}
 
-/// The links of a trace that a key is held by are those of the present needs, or of the inputs beneath it.
-pub fn held_links_are_present()
-    ensures verifying { (K : SomeKept) (b : Book) (H : List Book) (k : List ℕ) (t : Trace) → IsBase K b H → IsHeldBy Verifying K b k t → t.links ≡ links_to (clean b) (needs b k) }
-    ensures constructive { (K : SomeKept) (b : Book) (H : List Book) (k : List ℕ) (t : Trace) → IsBase K b H → IsHeldBy Constructive K b k t → t.links ≡ links_to (clean b) (needs b k) }
-    ensures deep { (K : SomeKept) (b : Book) (H : List Book) (k : List ℕ) (t : Trace) → IsBase K b H → IsHeldBy Deep K b k t → t.links ≡ links_to (clean b) (beneath b k) }
-{}
-
 /// Where the targets that are rules have fresh entries, each rule that they reach is kept with its clean value.
 pub fn reached_is_kept()
     ensures { (K : SomeKept) (b : Book) (H : List Book) (targets : List (List ℕ)) → IsBase K b H → ((k : List ℕ) → Among targets k → IsRule b k → IsFresh K k) → (k : List ℕ) → Reaches b targets k → IsRule b k → IsKeptNow K b k }
-{}
-
-/// Minimality: a key is held where a trace of it is of a book in which its links had their present values; under
-/// verifying traces the result of its entry must be of that book too.
-pub fn unchanged_is_held()
-    ensures verifying { (K : SomeKept) (b c : Book) (k : List ℕ) (t : Trace) (e : Entry) → Has (K.traces Verifying k) t → IsTraceOf Verifying c k t → K.entries k ≡ Some e → e.result ≡ digest_or (clean c k) → ((j : List ℕ) → Among (needs c k) j → clean b j ≡ clean c j) → IsHeld (tracing Verifying) K b k }
-    ensures constructive { (K : SomeKept) (b c : Book) (k : List ℕ) (t : Trace) → Has (K.traces Constructive k) t → IsTraceOf Constructive c k t → ((j : List ℕ) → Among (needs c k) j → clean b j ≡ clean c j) → IsHeld (tracing Constructive) K b k }
-    ensures deep { (K : SomeKept) (b c : Book) (k : List ℕ) (t : Trace) → Has (K.traces Deep k) t → IsTraceOf Deep c k t → ((i : List ℕ) → Among (beneath c k) i → content b i ≡ content c i) → IsHeld (tracing Deep) K b k }
-{}
-
-/// Early cutoff: a key that is held for one book is held for the next, with any marks, where its needs keep their values,
-/// whatever has run beneath it; under deep traces where the inputs beneath it stay.
-pub fn early_cutoff()
-    ensures verifying { (K : SomeKept) (b c : Book) (H : List Book) (k : List ℕ) (marks : List (List ℕ)) → IsBase K b H → IsHeld (tracing Verifying) K b k → ((j : List ℕ) → Among (needs b k) j → clean c j ≡ clean b j) → IsHeld (tracing Verifying) (with_marks K marks) c k }
-    ensures constructive { (K : SomeKept) (b c : Book) (H : List Book) (k : List ℕ) (marks : List (List ℕ)) → IsBase K b H → IsHeld (tracing Constructive) K b k → ((j : List ℕ) → Among (needs b k) j → clean c j ≡ clean b j) → IsHeld (tracing Constructive) (with_marks K marks) c k }
-    ensures deep { (K : SomeKept) (b c : Book) (H : List Book) (k : List ℕ) (marks : List (List ℕ)) → IsBase K b H → IsHeld (tracing Deep) K b k → ((i : List ℕ) → Among (beneath b k) i → content c i ≡ content b i) → IsHeld (tracing Deep) (with_marks K marks) c k }
 {}
 
 /// A second build of the same book holds each key that the first one finished, under each rebuilder: it runs none of them.

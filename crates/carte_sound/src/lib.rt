@@ -9,8 +9,9 @@
 //!
 //! The definitions are of functions, and know no list of the code's: kept information that is alike is equal, so what a
 //! build leaves is an equation. The four rebuilders, by marks alone and by the three kinds of traces, are one parameter,
-//! and each law is proved once for all of them. Turned down: soundness as an invariant of a type, which would hide the
-//! history that a premise on digests speaks of; and one definition for each rebuilder, four times the proofs.
+//! and each law is proved once for all of them. What is true of one by itself, as which keys it holds where nothing has
+//! changed and where it cuts off early, its own crate says. Turned down: soundness as an invariant of a type, which would
+//! hide the history that a premise on digests speaks of; and one definition for each rebuilder, four times the proofs.
 //!
 //! The heart is that fresh entries are true of the present book though they come from different books. It is an
 //! induction on the rounds of one of these, for two others that agree with the present one beneath the key. From there
@@ -24,7 +25,6 @@
 mod laws;
 
 pub use laws::{
-    batch_is_sound, batch_keeps_reached, difference_is_left, early_cutoff, finished_is_held,
-    held_is_clean, held_links_are_present, left_is_sound, marking_is_sound, nothing_is_sound,
-    reached_is_kept, sound_as_history_grows, unchanged_is_held,
+    batch_is_sound, batch_keeps_reached, difference_is_left, finished_is_held, held_is_clean,
+    left_is_sound, marking_is_sound, nothing_is_sound, reached_is_kept, sound_as_history_grows,
 };
