@@ -5,9 +5,16 @@
 //! entry just runs its task. What a check looks up a run would look up too, since a trace's names are compared in the order in
 //! which the task asked for them, and only as far as they are the same.
 //!
+//! What a build may rely on stands as laws, each the contract of a function that does nothing. A key is held exactly where
+//! its needs have the values of then and its entry the result of then (`unchanged_is_held`, `held_is_unchanged`), whatever
+//! has run beneath it (`early_cutoff`). The price: an old result that a later run has replaced doesn't come back
+//! (`held_has_its_last_result`), and a key that another rebuilder finished runs once (`untraced_is_not_held`).
+//!
 //! Turned down: looking through all traces for those of the key (they are found by the key), and comparing the links of a
 //! trace before it is known that its result is still kept.
 #![tactic(auto)]
+
+mod laws;
 
 ghost use Rattle.std.specs.Prelude.{◌≡◌, option_map, IfOk};
 ghost use Rattle.carte_record.specs.Kept.{kept_view};
@@ -19,6 +26,10 @@ use carte_note::{Finished, Method, note_finished};
 use carte_rebuild::{Checks, Rebuilder, Tries, checks_of};
 use carte_record::{Batch, Kept, Way};
 use carte_value::{Name, NoMemory};
+pub use laws::{
+    early_cutoff, held_has_its_last_result, held_is_unchanged, held_links_are_present,
+    unchanged_is_held, untraced_is_not_held,
+};
 use std::alloc::Global;
 
 /// Reuses the result that a key has at last, where a trace with this result verifies it.

@@ -1,0 +1,51 @@
+// What a build by verifying traces may rely on, each law as the contract of a function that does nothing.
+ghost use Rattle.std.specs.Prelude.{◌≡◌, ℕ, List, None, Some};
+ghost use Rattle.carte_value.specs.Lists.{Has};
+ghost use Rattle.carte_value.specs.Truths.{Among};
+ghost use Rattle.carte_book.specs.Book.{Book, clean};
+ghost use Rattle.carte_book.specs.Needs.{needs};
+ghost use Rattle.carte_record.specs.declared.entry.Entry.{Entry};
+ghost use Rattle.carte_record.specs.declared.trace.Trace.{Trace};
+ghost use Rattle.carte_record.specs.declared.way.Way.TheVariants.{Verifying};
+ghost use Rattle.carte_record.specs.Folds.{with_marks};
+ghost use Rattle.carte_record.specs.Kept.{SomeKept};
+ghost use Rattle.carte_sound.specs.Base.{IsBase};
+ghost use Rattle.carte_sound.specs.Held.{IsHeld, IsHeldBy, tracing};
+ghost use Rattle.carte_sound.specs.Results.{IsKeptNow};
+ghost use Rattle.carte_sound.specs.Sound.{Stood};
+ghost use Rattle.carte_sound.specs.True.{IsTraceOf, digest_or, links_to};
+
+/// Minimality: a key is held where a trace of it is of a book in which its needs had their present values, and the result of
+/// its entry is of that book too.
+pub fn unchanged_is_held()
+    ensures { (K : SomeKept) (b c : Book) (k : List ℕ) (t : Trace) (e : Entry) → Has (K.traces Verifying k) t → IsTraceOf Verifying c k t → K.entries k ≡ Some e → e.result ≡ digest_or (clean c k) → ((j : List ℕ) → Among (needs c k) j → clean b j ≡ clean c j) → IsHeld (tracing Verifying) K b k }
+{}
+
+/// And no other key is held: in each book that a trace is of, by which a key is held, its needs had their present values.
+pub fn held_is_unchanged()
+    ensures { (K : SomeKept) (b c : Book) (H : List Book) (k : List ℕ) (t : Trace) → IsBase K b H → Stood H K c → IsTraceOf Verifying c k t → IsHeldBy Verifying K b k t → (j : List ℕ) → Among (needs c k) j → clean b j ≡ clean c j }
+{}
+
+/// Early cutoff: a key that is held for one book is held for the next, with any marks, where its needs keep their values,
+/// whatever has run beneath it.
+pub fn early_cutoff()
+    ensures { (K : SomeKept) (b c : Book) (H : List Book) (k : List ℕ) (marks : List (List ℕ)) → IsBase K b H → IsHeld (tracing Verifying) K b k → ((j : List ℕ) → Among (needs b k) j → clean c j ≡ clean b j) → IsHeld (tracing Verifying) (with_marks K marks) c k }
+{}
+
+/// The links of a trace that a key is held by are those of the present needs.
+pub fn held_links_are_present()
+    ensures { (K : SomeKept) (b : Book) (H : List Book) (k : List ℕ) (t : Trace) → IsBase K b H → IsHeldBy Verifying K b k t → t.links ≡ links_to (clean b) (needs b k) }
+{}
+
+/// What a held key gives again is the result that its entry has at last, and that is its present one: so a result that is
+/// reused needs no new entry for its sake, and none that a later run has replaced comes back.
+pub fn held_has_its_last_result()
+    ensures { (K : SomeKept) (b : Book) (H : List Book) (k : List ℕ) → IsBase K b H → IsHeld (tracing Verifying) K b k → IsKeptNow K b k }
+{}
+
+/// A key without an entry isn't held, nor one without a verifying trace of its entry's result: so a key that another
+/// rebuilder finished with a new result runs, once, before it is held.
+pub fn untraced_is_not_held()
+    ensures no_entry { (K : SomeKept) (b : Book) (k : List ℕ) → K.entries k ≡ None → ¬ (IsHeld (tracing Verifying) K b k) }
+    ensures other_result { (K : SomeKept) (b : Book) (k : List ℕ) (e : Entry) → K.entries k ≡ Some e → ((t : Trace) → Has (K.traces Verifying k) t → ¬ (t.result ≡ e.result)) → ¬ (IsHeld (tracing Verifying) K b k) }
+{}
