@@ -2,12 +2,19 @@
 //!
 //! The job is that of all rebuilders which compare needs (`Tries`): here it gets the checks of all traces of the key whose
 //! result is in the store, the newest first. So a key whose inputs are set back has its old result again, and needs no
-//! entry for it. Of traces with the same names one alone can hold; so which is compared first is a matter of cost, and the
-//! newest is the likeliest.
+//! entry for it. One trace at most can hold; so which is compared first is a matter of cost, and the newest is the
+//! likeliest.
+//!
+//! What a build may rely on stands as laws, each the contract of a function that does nothing. A key is held exactly where
+//! its needs have the values of a trace (`unchanged_is_held`, `held_is_unchanged`), whatever has run beneath it
+//! (`early_cutoff`), and again where its inputs are set back (`set_back_is_held`), without an entry (`traces_alone_hold`)
+//! and in any order of its traces (`one_trace_holds`).
 //!
 //! Turned down: one look-up by the digest of all links, which finds a trace in one step, but only once each need has its
 //! value, and so has to know the needs before it looks.
 #![tactic(auto)]
+
+mod laws;
 
 ghost use Rattle.std.specs.Prelude.{◌≡◌, option_map, IfOk};
 ghost use Rattle.carte_record.specs.Kept.{kept_view};
@@ -19,6 +26,10 @@ use carte_note::{Finished, Method, note_finished};
 use carte_rebuild::{Checks, Rebuilder, Tries, checks_of};
 use carte_record::{Batch, Kept, Way};
 use carte_value::{Name, NoMemory};
+pub use laws::{
+    early_cutoff, held_is_unchanged, held_links_are_present, one_trace_holds, set_back_is_held,
+    traces_alone_hold, unchanged_is_held,
+};
 use std::alloc::Global;
 
 /// Reuses the result of any trace of a key whose links still have their digests.
