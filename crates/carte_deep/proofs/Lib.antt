@@ -1,3 +1,4 @@
 pub mod Crossing
 mod Places
 mod Begun
+mod Holds

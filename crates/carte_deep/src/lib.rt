@@ -11,6 +11,9 @@
 //! inputs leave about five thousand links. And nothing is cut off early: where an input changes, all rules above it run,
 //! though the values between are the same as before.
 //!
+//! Laws, each the contract of a function that does nothing, say which keys are held: those beneath which the inputs have the
+//! values of a trace (`unchanged_is_held`, `stays_held`), also where inputs are set back (`set_back_is_held`).
+//!
 //! Turned down:
 //! - A check in the job, which asks for the inputs: over a part of the values that lacks one it would stop at a name that
 //!   the key may not need, so a job would stop at names that nobody works out.
@@ -20,6 +23,7 @@
 
 mod held;
 mod job;
+mod laws;
 
 ghost use Rattle.std.specs.Prelude.{◌≡◌, IfOk};
 
@@ -30,6 +34,7 @@ use carte_rebuild::Rebuilder;
 use carte_record::{Batch, Kept, Way};
 use carte_value::{Name, NoMemory};
 pub use job::DeepJob;
+pub use laws::{held_links_are_present, set_back_is_held, stays_held, unchanged_is_held};
 use std::alloc::Global;
 
 /// Reuses the result of any trace of a key whose inputs beneath it still have their digests.

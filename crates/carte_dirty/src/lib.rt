@@ -6,8 +6,13 @@
 //! name. Each other key runs its task. So the needs of a held key aren't looked into, and a build that changes nothing
 //! looks at its targets alone. The price: where a changed need has its old value again, all above it runs.
 //!
+//! Laws, each the contract of a function that does nothing, say that a key is held where nothing beneath it has changed
+//! (`unchanged_is_held`), and only there (`changed_is_not_held`).
+//!
 //! Turned down: a job type of its own for two cases that `Tries` has already.
 #![tactic(auto)]
+
+mod laws;
 
 ghost use Rattle.std.specs.Prelude.{◌≡◌, option_copied, IfOk};
 ghost use Rattle.carte_record.specs.Kept.{kept_view, is_fresh as fresh};
@@ -20,6 +25,7 @@ use carte_rebuild::{Checks, Rebuilder, Tries};
 use carte_record::{Batch, Entry, Kept};
 use carte_task::Check;
 use carte_value::{Links, Name, NoMemory, SharedLinks, Value};
+pub use laws::{changed_is_not_held, unchanged_is_held};
 use std::alloc::Global;
 
 /// Reuses the result that a key has at last, where nothing beneath it has changed.
