@@ -2,7 +2,7 @@
 use Rattle.std.proofs.Common.{◌≡◌, ℕ, true, List, Option, Some, None, Result, Ok, Err, refl, sym, ◌∙◌, subst, inl, inr, ◌⊎◌, cond}
 use Rattle.std.specs.Cmp.Lexicographic.{bytes_decides}
 use Rattle.carte_value.specs.declared.value.Value.{Value}
-use Rattle.carte_value.specs.Names.{name_eq}
+use Rattle.carte_name.specs.Names.{name_eq}
 use Rattle.carte_value.specs.Once.{Answers}
 use Rattle.carte_value.specs.Truths.{Truth, Extends}
 use Rattle.carte_value.proofs.Members.{same_or_not, name_apart}

@@ -1,7 +1,7 @@
 -- What a bench holds.
 use Rattle.std.specs.Prelude.{ℕ, ◌≡◌, List, Option, Some, None, slice_get}
 use Rattle.std.specs.HashMap.{get}
-use Rattle.carte_value.specs.Names.{name_eq}
+use Rattle.carte_name.specs.Names.{name_eq}
 use Rattle.carte_book.specs.Book.{Book, book_view}
 use Rattle.carte_bench.specs.declared.bench.Bench.{Bench}
 use Rattle.carte_bench.specs.declared.look.Shown.{Shown}

@@ -5,11 +5,11 @@ use Rattle.std.proofs.Math.Nat.{eq-or-lt_of_le}
 use Rattle.std.specs.Result.{result_ok}
 use Rattle.std.specs.Ordering.{eq_by_cmp, is_eq}
 use Rattle.std.specs.FinMap.{entries, get, find, get-entries, slice_cmp-IsAntisymmetric, nat_cmp-IsAntisymmetric}
-use Rattle.carte_value.specs.declared.kind.Kind.{Kind}
+use Rattle.carte_name.specs.declared.kind.Kind.{Kind}
 use Rattle.carte_value.specs.declared.value.Value.{Value}
-use Rattle.carte_value.specs.declared.kind.Kind.TheVariants.{Rules, Sheet}
+use Rattle.carte_name.specs.declared.kind.Kind.TheVariants.{Rules, Sheet}
 use Rattle.carte_value.specs.declared.value.Value.TheVariants.{Empty}
-use Rattle.carte_value.specs.Names.{name_cmp, is_cell_name}
+use Rattle.carte_name.specs.Names.{name_cmp, is_cell_name}
 use Rattle.carte_value.specs.Truths.{Truth, Extends}
 use Rattle.carte_value.proofs.Asks.{run_kept, stop_has_value}
 use Rattle.carte_tree.specs.Tree.{Tree}

@@ -2,15 +2,15 @@
 use Rattle.std.proofs.Common.{◌≡◌, ◌∙◌, ap, ℕ, Bool, true, false, cond, IsTrue, List, [], ◌∷◌, ◌++◌, option_map, Option, Some, None, Result, Ok, Err, refl, sym, inl, inr}
 use Rattle.std.specs.Arc.{arc_value}
 use Rattle.std.specs.HashMap as hash
-use Rattle.carte_value.specs.declared.kind.Kind.{Kind}
-use Rattle.carte_value.specs.declared.kind.Kind.TheVariants.{Rules, Sheet}
+use Rattle.carte_name.specs.declared.kind.Kind.{Kind}
+use Rattle.carte_name.specs.declared.kind.Kind.TheVariants.{Rules, Sheet}
 use Rattle.carte_value.specs.declared.value.Value.{Value}
 use Rattle.carte_value.specs.declared.value.Value.TheVariants.{Empty, Number, Text, Bad}
 use Rattle.carte_value.specs.declared.area.Area.{Area}
 use Rattle.carte_value.specs.Areas.{IsArea, cells_of}
 use Rattle.carte_value.specs.Asks.{Asks, done, ask, and_then, asked, asked_on}
-use Rattle.carte_value.specs.Kinds.{is_name_of, is_text_of, name_of}
-use Rattle.carte_value.specs.Names.{name_eq}
+use Rattle.carte_name.specs.Kinds.{is_name_of, is_text_of, name_of}
+use Rattle.carte_name.specs.Names.{name_eq}
 use Rattle.carte_value.specs.Truths.{Truth, Among}
 use Rattle.carte_value.proofs.Firsts.{among_firsts}
 use Rattle.carte_value.proofs.Sides.{cells_within}

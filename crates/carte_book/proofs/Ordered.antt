@@ -11,7 +11,7 @@ use Rattle.std.proofs.lemmas.Cmp.{nat_list_cmp_total}
 use Rattle.std.proofs.lemmas.List.Sorted.{IsPermutation-map}
 use Rattle.std.proofs.lemmas.Map.Keys.{IsDistinct-head, IsDistinct-tail, IsDistinct-from_sorted}
 use Rattle.indexmap.proofs.MapLemmas.{lookup_permutation}
-use Rattle.carte_value.specs.Names.{name_cmp, name_eq}
+use Rattle.carte_name.specs.Names.{name_cmp, name_eq}
 use Rattle.carte_tree.specs.Tree.{Tree}
 use Rattle.carte_book.specs.Book.{Item, input, rule, rules_among, rules_of, entries_view, book_view}
 use Rattle.carte_book.specs.Order.{names_of, rule_view, rules_view}

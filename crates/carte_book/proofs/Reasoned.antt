@@ -4,7 +4,7 @@ use Rattle.std.specs.Ordering.{eq_by_cmp}
 use Rattle.std.specs.FinMap.{entries, find, get-entries}
 use Rattle.std.specs.Result.{result_ok}
 use Rattle.carte_value.specs.declared.value.Value.{Value}
-use Rattle.carte_value.specs.Names.{name_cmp}
+use Rattle.carte_name.specs.Names.{name_cmp}
 use Rattle.carte_value.specs.Truths.{Among, NoneTwice}
 use Rattle.carte_value.proofs.Asks.{stop_open}
 use Rattle.carte_value.proofs.Members.{same_or_not, no_longer}

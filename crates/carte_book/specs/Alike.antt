@@ -1,10 +1,11 @@
 -- That a tree is a formula, and has names of a kind, is so in one way only; what a type keeps must be such a fact.
 use Rattle.std.specs.Prelude.{ℕ, ℤ, pos, negsuc, Bool, true, ◌≡◌}
 use Rattle.std.specs.Coded.{Coded-set, coded_ℕ, coded_bool, ×_prop, Unit-prop, le_prop}
-use Rattle.carte_value.specs.Areas.{IsPlace, IsArea}
-use Rattle.carte_value.specs.Kinds.{is_name_of}
+use Rattle.carte_name.specs.Places.{IsPlace}
+use Rattle.carte_value.specs.Areas.{IsArea}
+use Rattle.carte_name.specs.Kinds.{is_name_of}
 use Rattle.carte_value.specs.declared.area.Area.{Area}
-use Rattle.carte_value.specs.declared.kind.Kind.{Kind}
+use Rattle.carte_name.specs.declared.kind.Kind.{Kind}
 use Rattle.carte_tree.specs.Tree.{level_of, Tree, number, text, ref, neg, chain, call, Steps, no_step, step, Args, no_arg, arg, Arg, one, cells, Arity, many, between, arity, takes_ranges}
 use Rattle.carte_tree.specs.Formula.{IsWhole, IsCount, args_count, HasStep, IsExpr, AreSteps, AreArgs, IsArg, HasNames, StepsNames, ArgsNames, ArgNames, has_ranges}
 use Rattle.carte_tree.specs.declared.expr.Func.{Func}

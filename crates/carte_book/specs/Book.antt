@@ -3,11 +3,11 @@ use Rattle.std.specs.Prelude.{ℕ, zero, suc, ◌+◌, List, [], ◌∷◌, leng
 use Rattle.std.specs.Arc.{arc_value}
 use Rattle.std.specs.Result.{result_ok}
 use Rattle.std.specs.FinMap.{FinMap, get, entries, from_entries}
-use Rattle.carte_value.specs.declared.kind.Kind.{Kind}
-use Rattle.carte_value.specs.declared.kind.Kind.TheVariants.{Rules, Sheet}
+use Rattle.carte_name.specs.declared.kind.Kind.{Kind}
+use Rattle.carte_name.specs.declared.kind.Kind.TheVariants.{Rules, Sheet}
 use Rattle.carte_value.specs.declared.value.Value.{Value}
 use Rattle.carte_value.specs.declared.value.Value.TheVariants.{Empty}
-use Rattle.carte_value.specs.Names.{name_cmp, is_cell_name}
+use Rattle.carte_name.specs.Names.{name_cmp, is_cell_name}
 use Rattle.carte_value.specs.Truths.{Truth}
 use Rattle.carte_tree.specs.Tree.{Tree}
 use Rattle.carte_tree.specs.Code.{tree_of}

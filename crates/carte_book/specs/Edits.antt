@@ -1,7 +1,7 @@
 -- How books change: names are added, and inputs set.
 use Rattle.std.specs.Prelude.{ℕ, ◌≡◌, ◌<◌, ◌≤◌, true, List, length, Some, None, is_some, Result, Ok, Err}
 use Rattle.std.specs.FinMap.{get, insert, entries}
-use Rattle.carte_value.specs.declared.kind.Kind.TheVariants.{Sheet}
+use Rattle.carte_name.specs.declared.kind.Kind.TheVariants.{Sheet}
 use Rattle.carte_value.specs.declared.value.Value.{Value}
 use Rattle.carte_book.specs.Book.{Item, input, Book, content}
 use Rattle.carte_book.specs.Needs.{IsRule}

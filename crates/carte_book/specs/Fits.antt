@@ -3,8 +3,8 @@ use Rattle.std.specs.Prelude.{ℕ, List, ⊤, IsTrue}
 use Rattle.std.specs.Arc.{arc_value}
 use Rattle.std.specs.List.{AllByRecursion, AllByRecursion-prop}
 use Rattle.std.specs.Coded.{×_prop, Unit-prop}
-use Rattle.carte_value.specs.declared.kind.Kind.{Kind}
-use Rattle.carte_value.specs.Kinds.{is_name_of}
+use Rattle.carte_name.specs.declared.kind.Kind.{Kind}
+use Rattle.carte_name.specs.Kinds.{is_name_of}
 use Rattle.carte_tree.specs.Code.{tree_of}
 use Rattle.carte_tree.specs.Formula.{IsExpr, HasNames}
 use Rattle.carte_book.specs.Alike.{truth_alike, expr_alike, names_alike}

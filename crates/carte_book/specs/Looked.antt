@@ -9,9 +9,9 @@ use Rattle.carte_tree.specs.Code.{tree_of}
 use Rattle.carte_tree.specs.Formula.{IsExpr, HasNames}
 use Rattle.carte_book.specs.declared.book.Item.{Item as CodeItem}
 use Rattle.carte_book.specs.declared.book.Item.TheVariants.{Input as InputItem, Rule as RuleItem}
-use Rattle.carte_value.specs.declared.kind.Kind.{Kind}
-use Rattle.carte_value.specs.Kinds.{is_name_of}
-use Rattle.carte_value.specs.Names.{name_cmp}
+use Rattle.carte_name.specs.declared.kind.Kind.{Kind}
+use Rattle.carte_name.specs.Kinds.{is_name_of}
+use Rattle.carte_name.specs.Names.{name_cmp}
 use Rattle.carte_book.specs.Book.{Item, input, rule, Book, content}
 use Rattle.carte_book.specs.Needs.{IsRule}
 use Rattle.carte_book.specs.declared.book.Looked.{Looked}

@@ -1,6 +1,6 @@
 -- The needs of names, and what is reached by them.
 use Rattle.std.specs.Prelude.{ℕ, ◌≡◌, List, [], Option, Some, None, IsTrue}
-use Rattle.carte_value.specs.Kinds.{is_name_of}
+use Rattle.carte_name.specs.Kinds.{is_name_of}
 use Rattle.carte_value.specs.Truths.{Among}
 use Rattle.carte_tree.specs.Tree.{Tree}
 use Rattle.carte_tree.specs.Meaning.{fetched}

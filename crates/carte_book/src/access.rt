@@ -1,6 +1,6 @@
 ghost use Rattle.std.specs.Prelude.{◌≡◌, None, is_some, IsTrue, IfOk, OnOk, OnErr};
 ghost use Rattle.std.specs.FinMap.{empty, get};
-ghost use Rattle.carte_value.specs.Kinds.{is_name_of};
+ghost use Rattle.carte_name.specs.Kinds.{is_name_of};
 ghost use Rattle.carte_book.specs.Fits.{FitsItem};
 ghost use Rattle.carte_book.specs.Book.{book_view, item_view, content, default_of};
 ghost use Rattle.carte_book.specs.Edits.{with_item};

@@ -1,6 +1,6 @@
 ghost use Rattle.std.specs.Prelude.{◌≡◌, ◌<◌, None, IsTrue};
 ghost use Rattle.std.specs.FinMap.{get};
-ghost use Rattle.carte_value.specs.Kinds.{is_name_of};
+ghost use Rattle.carte_name.specs.Kinds.{is_name_of};
 ghost use Rattle.carte_tree.specs.Code.{tree_of};
 ghost use Rattle.carte_tree.specs.Formula.{IsExpr, HasNames};
 ghost use Rattle.carte_book.specs.Fits.{FitsItem};

@@ -2,7 +2,7 @@
 ghost use Rattle.std.specs.Prelude.{◌≡◌, ℕ, List, Some, if◌then◌else◌};
 ghost use Rattle.std.specs.Ordering.{eq_by_cmp};
 ghost use Rattle.std.specs.Result.{result_ok};
-ghost use Rattle.carte_value.specs.Names.{name_cmp};
+ghost use Rattle.carte_name.specs.Names.{name_cmp};
 ghost use Rattle.carte_tree.specs.Tree.{Tree};
 ghost use Rattle.carte_tree.specs.Meaning.{eval};
 ghost use Rattle.carte_book.specs.Book.{Item, Book, rule, content, settled, clean};

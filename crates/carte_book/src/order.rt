@@ -3,7 +3,7 @@ ghost use Rattle.std.specs.Prelude.{◌≡◌, All, IsTrue, IfOk, IsPermutation}
 ghost use Rattle.std.specs.List.{IsDistinct};
 ghost use Rattle.std.specs.List.Sorted.{IsStrictlySortedBy};
 ghost use Rattle.std.specs.Map.{keys_of};
-ghost use Rattle.carte_value.specs.Names.{name_cmp, name_eq};
+ghost use Rattle.carte_name.specs.Names.{name_cmp, name_eq};
 ghost use Rattle.carte_book.specs.Book.{rules_of, rules_among, entries_view, book_view};
 ghost use Rattle.carte_book.specs.Order.{names_of, rules_view, IsFormulaOf};
 

@@ -1,7 +1,7 @@
 //! Books: adding, setting, looking up, and the digest of the rules.
 
 ghost use Rattle.std.specs.Prelude.{IsTrue, IfOk};
-ghost use Rattle.carte_value.specs.Kinds.{is_name_of};
+ghost use Rattle.carte_name.specs.Kinds.{is_name_of};
 ghost use Rattle.carte_book.specs.Book.{book_view};
 
 use crate::rows::{Told, rows_hold};

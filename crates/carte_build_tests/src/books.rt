@@ -1,7 +1,7 @@
 //! Rule files whose rules are written one behind the other, and lists of names as text.
 
 ghost use Rattle.std.specs.Prelude.{IsTrue, IfOk};
-ghost use Rattle.carte_value.specs.Kinds.{is_name_of};
+ghost use Rattle.carte_name.specs.Kinds.{is_name_of};
 ghost use Rattle.carte_book.specs.Book.{book_view};
 
 use carte_book::{Book, Reason};

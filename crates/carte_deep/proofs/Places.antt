@@ -7,8 +7,9 @@ use Rattle.carte_effect.specs.Outcomes.{Outcome}
 use Rattle.carte_record.specs.declared.kept.Kept.{Kept}
 use Rattle.carte_record.specs.declared.trace.Trace.{Trace}
 use Rattle.carte_record.specs.Kept.{kept_view}
-use Rattle.carte_record.specs.Lookups.{is_trace_of, first_value}
-use Rattle.carte_record.specs.Places.{places}
+use Rattle.carte_table.specs.Lookups.{first_value}
+use Rattle.carte_record.specs.Lookups.{is_trace_of}
+use Rattle.carte_table.specs.Places.{places}
 use Rattle.carte_rebuild.proofs.TracesOf.{traces_there, traces_only}
 use Rattle.carte_deep.specs.Holding.{given_by, Finds}
 

@@ -1,7 +1,7 @@
 ghost use Rattle.std.specs.Prelude.{◌≡◌, option_copied, option_map, IfOk};
 ghost use Rattle.carte_book.specs.Book.{book_view};
 ghost use Rattle.carte_record.specs.Kept.{kept_view};
-ghost use Rattle.carte_record.specs.Lookups.{first_value};
+ghost use Rattle.carte_table.specs.Lookups.{first_value};
 ghost use Rattle.carte_sound.specs.Begun.{is_digest};
 ghost use Rattle.carte_sound.specs.Marks.{present};
 ghost use Rattle.carte_deep.specs.Holding.{Finds, are_present as all_present, given_by as given, outcome_at};

@@ -17,7 +17,8 @@ use Rattle.carte_record.specs.declared.way.Way.TheVariants.{Verifying, Construct
 use Rattle.carte_record.specs.Empty.{is_empty}
 use Rattle.carte_record.specs.Folds.{apply, batch_traces}
 use Rattle.carte_record.specs.Kept.{SomeKept, kept_traces, kept_view, nothing_kept, traces_in}
-use Rattle.carte_record.specs.Lookups.{first_entry, first_link, first_value}
+use Rattle.carte_table.specs.Lookups.{first_link, first_value}
+use Rattle.carte_record.specs.Lookups.{first_entry}
 use Rattle.carte_sound.specs.LeadsTo.{empty_batch}
 use Rattle.carte_sound.proofs.Emptied.{empty_applied}
 use Rattle.carte_plan.proofs.Lists.{both, empty_is, no_items}

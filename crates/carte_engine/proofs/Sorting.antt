@@ -8,7 +8,7 @@ use Rattle.std.specs.BTreeSet.{insert_key}
 use Rattle.std.specs.Ordering.{eq_by_cmp, match_ordering, ordering_reverse}
 use Rattle.std.specs.Cmp.{eq_by_cmp_equiv}
 use Rattle.std.proofs.lemmas.Cmp.{nat_list_cmp_total}
-use Rattle.carte_value.specs.Names.{name_cmp}
+use Rattle.carte_name.specs.Names.{name_cmp}
 use Rattle.carte_value.specs.Truths.{Among, IsListOf, NoneTwice}
 use Rattle.carte_value.proofs.Members.{no_longer}
 use Rattle.carte_book.proofs.Clean.{tied_name}

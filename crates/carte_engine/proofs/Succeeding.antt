@@ -1,6 +1,6 @@
 -- What work that is done rightly has made.
 use Rattle.std.proofs.Common.{◌≡◌, ℕ, ◌≤◌, cond, List, [], ◌∷◌, Option, Some, None, map, length, refl, ap, sym, ◌∙◌, subst, inl, inr, arith}
-use Rattle.carte_value.specs.Names.{name_eq}
+use Rattle.carte_name.specs.Names.{name_eq}
 use Rattle.carte_value.specs.Truths.{Among}
 use Rattle.carte_value.proofs.Members.{name_apart, no_longer, same_or_not}
 use Rattle.carte_effect.specs.declared.outcome.Made.{Made}
@@ -10,7 +10,7 @@ use Rattle.carte_book.specs.Needs.{IsRule, target}
 use Rattle.carte_book.specs.Reason.{AllClean, IsClean}
 use Rattle.carte_book.proofs.Clean.{clean_input, clean_nothing}
 use Rattle.carte_record.specs.Kept.{SomeKept}
-use Rattle.carte_record.proofs.Names.{name_eq_self}
+use Rattle.carte_table.proofs.Names.{name_eq_self}
 use Rattle.carte_sound.specs.Begun.{AreMarks, begin}
 use Rattle.carte_sound.specs.Held.{How, IsHeld}
 use Rattle.carte_sound.specs.Left.{keys_of}

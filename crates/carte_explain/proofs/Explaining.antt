@@ -6,7 +6,7 @@ use Rattle.carte_value.specs.declared.link.Link.{Link}
 use Rattle.carte_value.specs.declared.value.Value.{Value}
 use Rattle.carte_value.specs.declared.value.Value.TheVariants.{Empty}
 use Rattle.carte_value.specs.Lists.{Has}
-use Rattle.carte_value.specs.Names.{name_eq}
+use Rattle.carte_name.specs.Names.{name_eq}
 use Rattle.carte_value.specs.Spelling.{digest_of}
 use Rattle.carte_value.specs.Truths.{Among}
 use Rattle.carte_tree.specs.Tree.{Tree}

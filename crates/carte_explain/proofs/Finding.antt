@@ -2,7 +2,7 @@
 use Rattle.std.proofs.Common.{◌≡◌, ◌<◌, ◌+◌, ℕ, zero, suc, Bool, true, false, cond, List, [], ◌∷◌, ◌++◌, take, length, get_or, arith, Option, Some, None, refl, ap, sym, ◌∙◌, subst}
 use Rattle.std.specs.Prelude.{find, slice_get, if◌then◌else◌}
 use Rattle.std.specs.Option.{option_or}
-use Rattle.carte_record.specs.Lookups.{find_last}
+use Rattle.carte_table.specs.Lookups.{find_last}
 
 pub found_at : {A : Type 0} (p : A → Bool) (xs : List A) (i : ℕ) (x : A) → find p (take i xs) ≡ None → slice_get xs i ≡ Some x → p x ≡ true → find p xs ≡ Some x
 found_at p [] i x none is passes = cc

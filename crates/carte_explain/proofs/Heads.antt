@@ -1,10 +1,11 @@
 -- The newest trace of a key stands first among those that are kept.
 use Rattle.std.proofs.Common.{◌≡◌, ℕ, Bool, true, false, not, cond, List, [], ◌∷◌, Option, Some, None, filter, refl, ap, sym, ◌∙◌, subst}
 use Rattle.std.specs.Option.{option_or}
-use Rattle.carte_value.specs.Names.{name_eq}
+use Rattle.carte_name.specs.Names.{name_eq}
 use Rattle.carte_record.specs.declared.trace.Trace.{Trace}
 use Rattle.carte_record.specs.Kept.{newest, traces_in}
-use Rattle.carte_record.specs.Lookups.{find_last, is_trace_of, trace_eq}
+use Rattle.carte_table.specs.Lookups.{find_last}
+use Rattle.carte_record.specs.Lookups.{is_trace_of, trace_eq}
 
 abbrev pub IsHead : Option Trace → List Trace → Type 0
 IsHead None ts = ts ≡ []

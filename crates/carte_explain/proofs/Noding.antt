@@ -6,15 +6,16 @@ use Rattle.std.specs.Ordering.{eq_by_cmp}
 use Rattle.std.proofs.lemmas.List.{map-append, take_more}
 use Rattle.carte_value.specs.declared.digest.Digest.{Digest}
 use Rattle.carte_value.specs.declared.link.Link.{Link}
-use Rattle.carte_value.specs.Names.{name_cmp, name_eq}
+use Rattle.carte_name.specs.Names.{name_cmp, name_eq}
 use Rattle.carte_value.specs.Truths.{Among}
 use Rattle.carte_value.proofs.Members.{among_append}
 use Rattle.carte_book.specs.Book.{Book}
 use Rattle.carte_record.specs.declared.entry.Entry.{Entry}
 use Rattle.carte_record.specs.declared.kept.Kept.{Kept}
 use Rattle.carte_record.specs.Kept.{SomeKept, kept_view}
-use Rattle.carte_record.specs.Lookups.{digest_in, first_entry, first_link, is_entry_of, is_link_of}
-use Rattle.carte_record.proofs.Names.{name_eq_is}
+use Rattle.carte_table.specs.Lookups.{digest_in, first_link, is_link_of}
+use Rattle.carte_record.specs.Lookups.{first_entry, is_entry_of}
+use Rattle.carte_table.proofs.Names.{name_eq_is}
 use Rattle.carte_mark.specs.Marking.{PutsIf}
 use Rattle.carte_mark.specs.Reached.{has_changed}
 use Rattle.carte_search.specs.Search.{HasNodes}

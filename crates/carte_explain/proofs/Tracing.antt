@@ -14,7 +14,8 @@ use Rattle.carte_record.specs.declared.trace.Trace.{Trace}
 use Rattle.carte_record.specs.declared.way.Way.{Way}
 use Rattle.carte_record.specs.declared.way.Way.TheVariants.{Verifying}
 use Rattle.carte_record.specs.Kept.{SomeKept, kept_traces, traces_in}
-use Rattle.carte_record.specs.Lookups.{find_last, is_trace_of}
+use Rattle.carte_table.specs.Lookups.{find_last}
+use Rattle.carte_record.specs.Lookups.{is_trace_of}
 use Rattle.carte_rebuild.proofs.TracesOf.{traces_there, traces_only}
 use Rattle.carte_sound.specs.Held.{AreLinks, digest_now, tracing, IsHeld}
 use Rattle.carte_explain.specs.Found.{apart_why, digest_found, is_apart, is_match, newest_why, traces_why}

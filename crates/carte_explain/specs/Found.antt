@@ -14,7 +14,8 @@ use Rattle.carte_record.specs.declared.trace.Trace.{Trace}
 use Rattle.carte_record.specs.declared.way.Way.{Way}
 use Rattle.carte_record.specs.declared.way.Way.TheVariants.{Verifying, Constructive, Deep}
 use Rattle.carte_record.specs.Kept.{SomeKept, kept_traces, kept_view}
-use Rattle.carte_record.specs.Lookups.{find_last, first_entry, is_trace_of}
+use Rattle.carte_table.specs.Lookups.{find_last}
+use Rattle.carte_record.specs.Lookups.{first_entry, is_trace_of}
 use Rattle.carte_sound.specs.Begun.{is_digest}
 use Rattle.carte_explain.specs.Paths.{IsChangedAnswer}
 use Rattle.carte_explain.specs.declared.why.RebuilderKind.{RebuilderKind}

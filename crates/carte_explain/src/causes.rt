@@ -3,7 +3,8 @@ ghost use Rattle.std.specs.Prelude.{◌≡◌, IfOk, option_copied, find, find a
 ghost use Rattle.carte_book.specs.Book.{book_view};
 ghost use Rattle.carte_book.specs.Digest.{rules_digest_of};
 ghost use Rattle.carte_record.specs.Kept.{kept_view};
-ghost use Rattle.carte_record.specs.Lookups.{first_entry, find_last, is_trace_of};
+ghost use Rattle.carte_table.specs.Lookups.{find_last};
+ghost use Rattle.carte_record.specs.Lookups.{first_entry, is_trace_of};
 ghost use Rattle.carte_record.specs.declared.way.Way.TheVariants.{Verifying as of_links};
 ghost use Rattle.carte_sound.specs.Begun.{has_rules_of, is_digest};
 ghost use Rattle.carte_explain.specs.Found.{Finds, FindsCause, FindsEntry, FindsPath, differing_why, digest_found, is_apart, matching_why, other_why, path_why, stored_why, trace_why, traces_why, verifying_why};

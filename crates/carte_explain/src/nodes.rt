@@ -1,7 +1,7 @@
 // The names that may stand on a path by the needs of entries.
 ghost use Rattle.std.specs.Prelude.{◌≡◌, true, ℕ, List, IfOk, OnOk};
 ghost use Rattle.std.specs.BTreeSet.{contains};
-ghost use Rattle.carte_value.specs.Names.{name_cmp};
+ghost use Rattle.carte_name.specs.Names.{name_cmp};
 ghost use Rattle.carte_mark.specs.Marking.{PutsIf};
 ghost use Rattle.carte_explain.specs.Nodes.{AddsAll, AreNodes, keys_in, names_in};
 

@@ -2,7 +2,8 @@
 ghost use Rattle.std.specs.Prelude.{◌≡◌, option_copied, unwrap_or, find};
 ghost use Rattle.carte_book.specs.Book.{book_view};
 ghost use Rattle.carte_note.specs.Lists.{finished_of};
-ghost use Rattle.carte_record.specs.Lookups.{find_last, is_trace_of};
+ghost use Rattle.carte_table.specs.Lookups.{find_last};
+ghost use Rattle.carte_record.specs.Lookups.{is_trace_of};
 ghost use Rattle.carte_sound.specs.Begun.{is_digest};
 ghost use Rattle.carte_sound.specs.Held.{digest_now};
 ghost use Rattle.carte_value.specs.Spelling.{digest_of};

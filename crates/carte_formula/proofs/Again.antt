@@ -3,15 +3,16 @@ use Rattle.std.proofs.Common.{ℕ, pos, zero, suc, Bool, true, false, List, [], 
 use Rattle.std.proofs.lemmas.Bool.{lt-ltb, ltb-true}
 use Rattle.std.proofs.lemmas.Bool.Decides.{nat_tests}
 use Rattle.std.proofs.lemmas.List.{append-nil}
-use Rattle.carte_value.specs.Names.{is_upper}
-use Rattle.carte_value.specs.declared.kind.Kind.{Kind}
-use Rattle.carte_value.specs.declared.kind.Kind.TheVariants.{Rules, Sheet}
+use Rattle.carte_name.specs.Names.{is_upper}
+use Rattle.carte_name.specs.declared.kind.Kind.{Kind}
+use Rattle.carte_name.specs.declared.kind.Kind.TheVariants.{Rules, Sheet}
 use Rattle.carte_value.specs.Areas.{area_of}
 use Rattle.carte_tree.specs.Tree.{first_corner, last_corner, rank, Tree, number, ref, chain, call, Steps, Args, arg, Arg, one, cells, Term, steps_of, args_of, arity, takes_ranges, is_if, filled}
 use Rattle.carte_formula.specs.Tokens.{Level, compare, concat, sum, product, Func, Token, cell, func, op, lpar, rpar, comma, colon}
 use Rattle.carte_tree.specs.declared.expr.Func.TheVariants as functions
 use Rattle.carte_formula.specs.Grammar.{Counts, Spells, unary, single, chained, Repeats, none, more, Unary, primary, negated, posited, Primary, a_number, a_text, a_word, a_cell, a_call, a_group, Argument, formula, range, Arguments, last, next}
-use Rattle.carte_formula.specs.Print.{name_by, bracketed, shown, steps_shown, args_shown, later_shown, arg_shown, held, AllOfKind}
+use Rattle.carte_formula.specs.Print.{name_by, bracketed, shown, steps_shown, args_shown, later_shown, arg_shown, held}
+use Rattle.carte_lexer.specs.Kinds.{AllOfKind}
 use Rattle.carte_tree.specs.Printed.{tight}
 use Rattle.carte_formula.proofs.Sound.{raise}
 use Rattle.carte_formula.proofs.Corners.{corners_again}

@@ -2,45 +2,9 @@
 use Rattle.std.proofs.Common.{ℕ, Bool, true, false, List, [], ◌∷◌, ◌≡◌, Option, Some, None, if◌then◌else◌}
 use Rattle.carte_tree.specs.Tree.{Tree, number, text, ref, Arg, takes_ranges, signed}
 use Rattle.carte_formula.specs.Tokens.{Op, sub, add, Func, Area, Token, digits, quoted, word, cell, func, op, lpar, rpar, comma, colon}
-use Rattle.carte_formula.specs.Machine.{Frame, sign, chain_at, group, args, State, wants, had, named, corner, half, ranged, after, cell_at, sign_at, begin, joined, go_on, next_state, parsed, with}
-
--- what may follow an operand
-abbrev pub Closing : List Token → Type 0
-Closing [] = Unit {0}
-Closing (op o ∷ ts) = Unit {0}
-Closing (rpar ∷ ts) = Unit {0}
-Closing (comma ∷ ts) = Unit {0}
-Closing (colon ∷ ts) = Unit {0}
-Closing _ = ⊥
-
--- what an operand may begin with
-abbrev pub Opening : List Token → Type 0
-Opening (digits n ∷ ts) = Unit {0}
-Opening (quoted k ∷ ts) = Unit {0}
-Opening (word k ∷ ts) = Unit {0}
-Opening (cell k ∷ ts) = Unit {0}
-Opening (func f ∷ ts) = Unit {0}
-Opening (op add ∷ ts) = Unit {0}
-Opening (op sub ∷ ts) = Unit {0}
-Opening (lpar ∷ ts) = Unit {0}
-Opening _ = ⊥
-
-abbrev pub Bracket : List Token → Type 0
-Bracket (lpar ∷ ts) = Unit {0}
-Bracket _ = ⊥
-
-abbrev pub Clear : Token → List Token → Type 0
-Clear (digits n) ts = Closing ts
-Clear (quoted k) ts = Closing ts
-Clear (word k) ts = Closing ts
-Clear (cell k) ts = Closing ts
-Clear (func f) ts = Bracket ts
-Clear (op o) ts = Opening ts
-Clear _ ts = Unit {0}
-
-abbrev pub AllClear : List Token → Type 0
-AllClear [] = Unit {0}
-AllClear (t ∷ ts) = Clear t ts × AllClear ts
+use Rattle.carte_frames.specs.Begun.{Frame, sign, chain_at, group, args, joined}
+use Rattle.carte_formula.specs.Machine.{State, wants, had, named, corner, half, ranged, after, cell_at, sign_at, begin, go_on, next_state, parsed, with}
+use Rattle.carte_lexer.proofs.Clear.{Closing, Opening, Bracket, Clear, AllClear}
 
 none_some : {P : Type 0} (e : Tree) → ◌≡◌ {A = Option Tree} None (Some e) → P
 none_some e h = absurd (let z : ⊥ = cc in z)

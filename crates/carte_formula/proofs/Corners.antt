@@ -1,8 +1,9 @@
 -- Ranges are again what their corners span.
 use Rattle.std.proofs.Common.{ℕ, List, true, ◌≡◌, ◌≤◌, min, max, refl, arith}
-use Rattle.carte_value.specs.Names.{is_cell_name}
-use Rattle.carte_value.specs.Areas.{area_of, cell_at, column_of, row_of, IsPlace, IsArea}
-use Rattle.carte_value.proofs.Places.{place_within, at_is_cell, column_at, row_at}
+use Rattle.carte_name.specs.Names.{is_cell_name}
+use Rattle.carte_name.specs.Places.{cell_at, column_of, row_of, IsPlace}
+use Rattle.carte_value.specs.Areas.{area_of, IsArea}
+use Rattle.carte_name.proofs.Places.{place_within, at_is_cell, column_at, row_at}
 use Rattle.carte_tree.specs.Tree.{first_corner, last_corner}
 use Rattle.carte_formula.specs.Tokens.{Area}
 

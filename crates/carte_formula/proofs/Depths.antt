@@ -1,33 +1,15 @@
--- The depth that the stack counts is that of its frames.
-use Rattle.std.proofs.Common.{List, [], ◌∷◌, true, length, ◌≡◌, ◌≤◌, ◌+◌, refl, ap, arith}
-use Rattle.carte_formula.specs.Frames.{depth_in, is_empty_at}
-use Rattle.carte_formula.specs.Parser.{frames_of, range_of, range_depth}
-use Rattle.carte_formula.specs.Reading.{depth_of, depth}
+-- How deep a state is where a range is or may be begun, whose call isn't on the stack.
+use Rattle.std.proofs.Common.{List, ◌≡◌, refl}
+use Rattle.carte_frames.specs.Frames.{frames_of}
+use Rattle.carte_frames.specs.Begun.{depth_of}
+use Rattle.carte_formula.specs.Parser.{range_of, range_depth}
+use Rattle.carte_formula.specs.Reading.{depth}
 use Rattle.carte_formula.specs.declared.parser.states.Range.{Range}
 use Rattle.carte_formula.specs.declared.parser.states.Range.TheVariants as ranges
-use Rattle.carte_formula.specs.declared.parser.frames.Frame.{Frame}
-use Rattle.carte_formula.specs.declared.parser.frames.Frame.TheVariants as code
+use Rattle.carte_frames.specs.declared.frames.Frame.{Frame}
 
-pub depth_same : (S : List Frame) → depth_of (frames_of S) ≡ depth_in S
-depth_same [] = refl
-depth_same (code.Sign b ∷ S) = let h = depth_same S in omega arith
-depth_same (code.Chain c ∷ S) = let h = depth_same S in omega arith
-depth_same (code.Group ∷ S) = let h = depth_same S in omega arith
-depth_same (code.Call f xs ∷ S) = let h = depth_same S in omega arith
-
-pub range_same : (r : Range) (S : List Frame) → depth (range_of r S) ≡ range_depth r (depth_in S)
-range_same ranges.Nothing S = depth_same S
-range_same (ranges.Corner k f xs) S = ap (λ n. n + 1) (depth_same S)
-range_same (ranges.Half k f xs) S = ap (λ n. n + 1) (depth_same S)
-range_same (ranges.Whole a f xs) S = ap (λ n. n + 1) (depth_same S)
-
-pub depth_at_most : (S : List Frame) → depth_in S ≤ length S
-depth_at_most [] = omega arith
-depth_at_most (code.Sign b ∷ S) = let h = depth_at_most S in omega arith
-depth_at_most (code.Chain c ∷ S) = let h = depth_at_most S in omega arith
-depth_at_most (code.Group ∷ S) = let h = depth_at_most S in omega arith
-depth_at_most (code.Call f xs ∷ S) = let h = depth_at_most S in omega arith
-
-pub no_frames : (S : List Frame) → is_empty_at S ≡ true → S ≡ []
-no_frames [] h = refl
-no_frames (f ∷ S) h = absurd (let no : ⊥ = cc in no)
+pub range_same : (r : Range) (S : List Frame) → depth (range_of r S) ≡ range_depth r (depth_of (frames_of S))
+range_same ranges.Nothing S = refl
+range_same (ranges.Corner k f xs) S = refl
+range_same (ranges.Half k f xs) S = refl
+range_same (ranges.Whole a f xs) S = refl

@@ -1,14 +1,14 @@
 -- What a text spells is a formula, with names of the book's kind.
 use Rattle.std.proofs.Common.{ℕ, ℤ, pos, negsuc, Bool, true, false, List, [], ◌∷◌, ◌++◌, length, ◌≡◌, ◌≤◌, ◌==◌, IsTrue, refl, arith, length-append}
 use Rattle.std.proofs.lemmas.Bool.{eqb-true, eqb-false}
-use Rattle.carte_value.specs.declared.kind.Kind.{Kind}
-use Rattle.carte_value.specs.declared.kind.Kind.TheVariants.{Rules, Sheet}
+use Rattle.carte_name.specs.declared.kind.Kind.{Kind}
+use Rattle.carte_name.specs.declared.kind.Kind.TheVariants.{Rules, Sheet}
 use Rattle.carte_value.specs.Areas.{area_of}
 use Rattle.carte_tree.specs.Tree.{Tree, number, ref, Arg, one, cells, Term, steps_of, args_of, arity, takes_ranges, is_if, filled}
 use Rattle.carte_formula.specs.Tokens.{Level, Func, Token, digits, word, cell, op, rpar, comma, colon}
 use Rattle.carte_tree.specs.declared.expr.Func.TheVariants as functions
 use Rattle.carte_formula.specs.Grammar.{Counts, Spells, unary, single, chained, Repeats, none, more, Unary, primary, negated, posited, Primary, a_number, a_text, a_word, a_cell, a_call, a_group, Argument, formula, range, Arguments, last, next}
-use Rattle.carte_formula.specs.Print.{OfKind, AllOfKind}
+use Rattle.carte_lexer.specs.Kinds.{OfKind, AllOfKind}
 use Rattle.carte_tree.specs.Formula.{IsWhole, IsCount, args_count, IsExpr, AreSteps, AreArgs, IsArg, HasNames, StepsNames, ArgsNames, ArgNames, has_ranges}
 use Rattle.carte_formula.proofs.Again.{kind_both, Filled}
 use Rattle.carte_formula.proofs.Corners.{area_valid}

@@ -2,7 +2,7 @@
 use Rattle.std.proofs.Common.{ℕ, pos, zero, suc, Bool, true, false, List, [], ◌∷◌, ◌++◌, length, take, ◌≡◌, ◌≤◌, ◌<◌, ◌==◌, slice_index, refl, append_assoc, arith}
 use Rattle.std.proofs.lemmas.Bool.{lt-ltb, ltb-true}
 use Rattle.std.proofs.lemmas.List.{append-nil}
-use Rattle.carte_value.specs.Names.{is_upper}
+use Rattle.carte_name.specs.Names.{is_upper}
 use Rattle.carte_tree.specs.Tree.{rank, Tree, number, text, ref, neg, chain, call, Steps, no_step, step, Args, no_arg, arg, Arg, one, cells, Term, steps_of, args_of, is_if}
 use Rattle.carte_formula.specs.Tokens.{Level, Func, Token, op, rpar, comma}
 use Rattle.carte_formula.specs.Grammar.{Spells, unary, single, chained, Repeats, none, more, Unary, primary, negated, posited, Primary, a_number, a_text, a_word, a_cell, a_call, a_group, Argument, formula, range, Arguments, last, next}

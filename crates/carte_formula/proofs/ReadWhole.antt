@@ -1,17 +1,19 @@
 -- What the parts of reading give together.
 use Rattle.std.proofs.Common.{ℕ, List, [], length, ◌≡◌, ◌≤◌, Option, Some, None, Result, Ok, Err, IfOk, refl}
-use Rattle.carte_value.specs.declared.kind.Kind.{Kind}
+use Rattle.carte_name.specs.declared.kind.Kind.{Kind}
 use Rattle.carte_tree.specs.Tree.{Tree}
 use Rattle.carte_formula.specs.Machine.{wants}
-use Rattle.carte_formula.specs.Reading.{FormulaFault, BadToken, BadSyntax, TooDeep, TooLong, TooWide, NoMemory, Placed, ReadAs, tokens_read}
-use Rattle.carte_formula.specs.Lexer.{idle, lexed}
+use Rattle.carte_formula.specs.Reading.{FormulaFault, BadToken, BadSyntax, TooDeep, TooLong, TooWide, NoMemory, ReadAs, tokens_read}
+use Rattle.carte_formula.specs.Tokens.{Placed}
+use Rattle.carte_lexer.specs.Lexer.{idle, lexed}
 use Rattle.carte_tree.specs.Code.{tree_of}
-use Rattle.carte_formula.specs.Parser.{ReadsTo}
-use Rattle.carte_formula.specs.Whole.{wide_from, with_width, with_tokens, as_tree, Reads}
+use Rattle.carte_lexer.specs.Takes.{ReadsTo}
+use Rattle.carte_lexer.specs.Widths.{wide_from}
+use Rattle.carte_formula.specs.Whole.{with_width, with_tokens, as_tree, Reads}
 use Rattle.carte_tree.specs.Formula.{IsExpr, HasNames}
 use Rattle.carte_tree.specs.declared.expr.Expr.{Expr}
 use Rattle.carte_formula.proofs.Faults.{reads}
-use Rattle.carte_formula.proofs.Lexed.{lexed_kind}
+use Rattle.carte_lexer.proofs.Lexed.{lexed_kind}
 use Rattle.carte_formula.proofs.Formulas.{spelt_expr, spelt_names}
 
 -- what tokens are read as, with the width of their ranges

@@ -3,10 +3,10 @@ use Rattle.std.proofs.Common.{ℕ, List, [], ◌∷◌, ◌++◌, length, take, 
 use Rattle.std.proofs.lemmas.Bool.{le-ltb, lt-ltb}
 use Rattle.std.proofs.lemmas.List.{append-nil, take-append-le, take_all}
 use Rattle.carte_tree.specs.Tree.{Tree}
-use Rattle.carte_formula.specs.Tokens.{Token}
+use Rattle.carte_formula.specs.Tokens.{Token, Placed, tokens_of}
 use Rattle.carte_formula.specs.Grammar.{Spells, Viable}
 use Rattle.carte_formula.specs.Machine.{State, wants, next_state, end_of, parsed, moved, with}
-use Rattle.carte_formula.specs.Reading.{FormulaFault, BadToken, BadSyntax, TooDeep, TooLong, TooWide, NoMemory, Placed, tokens_of, around, Shallow, SyntaxAt, DeepAt, ReadAs, depth, or_syntax, deeper, tokens_read}
+use Rattle.carte_formula.specs.Reading.{FormulaFault, BadToken, BadSyntax, TooDeep, TooLong, TooWide, NoMemory, around, Shallow, SyntaxAt, DeepAt, ReadAs, depth, or_syntax, deeper, tokens_read}
 use Rattle.carte_formula.proofs.Complete.{complete}
 use Rattle.carte_formula.proofs.Sound.{sound}
 use Rattle.carte_formula.proofs.Viable.{viable, stuck}

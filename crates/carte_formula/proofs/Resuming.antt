@@ -1,20 +1,21 @@
 -- What a text is read as does not change while its tokens are read.
 use Rattle.std.proofs.Common.{ℕ, false, List, [], ◌∷◌, length, drop, ◌≡◌, ◌<◌, ◌≤◌, ◌+◌, nat_lt, Some, None, Result, Ok, Err, refl, sym, ◌∙◌, ap, subst, slice_index, arith}
-use Rattle.carte_value.specs.declared.kind.Kind.{Kind}
+use Rattle.carte_name.specs.declared.kind.Kind.{Kind}
 use Rattle.carte_tree.specs.Tree.{Tree}
-use Rattle.carte_formula.specs.Tokens.{Token, Sign, sign_token}
+use Rattle.carte_formula.specs.Tokens.{Token, Sign, sign_token, Placed}
 use Rattle.carte_formula.specs.Machine.{State, wants, next_state}
-use Rattle.carte_formula.specs.Ranges.{wide_after}
-use Rattle.carte_formula.specs.Whole.{wide_from, with_tokens}
-use Rattle.carte_formula.specs.Takes.{MeetsTo}
-use Rattle.carte_formula.specs.Reading.{depth, FormulaFault, BadToken, BadSyntax, TooDeep, TooLong, TooWide, NoMemory, Placed}
-use Rattle.carte_formula.specs.Lexer.{start_of, blank, single, wrong, idle, before, lexed}
-use Rattle.carte_formula.specs.Parser.{reached, StepsTo, ReadsTo}
-use Rattle.carte_formula.specs.Resumed.{resumed, fault_of, remaining, carrying, Advances, Follows}
+use Rattle.carte_lexer.specs.Ranges.{wide_after}
+use Rattle.carte_lexer.specs.Widths.{wide_from}
+use Rattle.carte_formula.specs.Whole.{with_tokens}
+use Rattle.carte_lexer.specs.Takes.{MeetsTo, ReadsTo, fault_of}
+use Rattle.carte_formula.specs.Reading.{depth, FormulaFault, BadToken, BadSyntax, TooDeep, TooLong, TooWide, NoMemory}
+use Rattle.carte_lexer.specs.Lexer.{start_of, blank, single, wrong, idle, before, lexed}
+use Rattle.carte_formula.specs.Parser.{reached, StepsTo}
+use Rattle.carte_formula.specs.Resumed.{resumed, remaining, carrying, Advances, Follows}
 use Rattle.carte_formula.specs.declared.parser.Progress.{Progress}
-use Rattle.carte_formula.proofs.Taking.{blank_met, sign_met, wrong_taken}
+use Rattle.carte_lexer.proofs.Taking.{blank_met, sign_met, wrong_taken}
 use Rattle.carte_tree.specs.declared.expr.Expr.{Expr}
-use Rattle.carte_formula.specs.declared.width.Ranges.{Ranges}
+use Rattle.carte_lexer.specs.declared.width.Ranges.{Ranges}
 use Rattle.carte_formula.specs.declared.parser.states.Parser.{Parser}
 
 only_memory : (g : FormulaFault) (r : Result Tree FormulaFault) → ReadsTo (Err g) (Err NoMemory) → ReadsTo (Err g) r

@@ -1,15 +1,18 @@
 -- A text is read in one way, and what is printed is read again as it was.
 use Rattle.std.proofs.Common.{ℕ, Bool, true, false, List, [], length, Option, Some, None, ◌≡◌, ◌≤◌, ◌+◌, Result, Ok, Err, if◌then◌else◌, refl, sym, ◌∙◌, ap, arith, nat_lt}
 use Rattle.std.proofs.lemmas.Bool.{le-ltb, lt-ltb, ltb-true, ltb-false}
-use Rattle.carte_value.specs.declared.kind.Kind.{Kind}
+use Rattle.carte_name.specs.declared.kind.Kind.{Kind}
 use Rattle.carte_tree.specs.Tree.{Tree}
 use Rattle.carte_formula.specs.Grammar.{Spells}
 use Rattle.carte_formula.specs.Machine.{wants}
-use Rattle.carte_formula.specs.Reading.{FormulaFault, BadToken, BadSyntax, TooDeep, TooLong, TooWide, NoMemory, Placed, tokens_of, ReadAs, tokens_read}
-use Rattle.carte_formula.specs.Print.{shown, AllOfKind}
-use Rattle.carte_formula.specs.Lexer.{idle, lexed, text_of}
+use Rattle.carte_formula.specs.Reading.{FormulaFault, BadToken, BadSyntax, TooDeep, TooLong, TooWide, NoMemory, ReadAs, tokens_read}
+use Rattle.carte_formula.specs.Tokens.{Placed, tokens_of}
+use Rattle.carte_formula.specs.Print.{shown}
+use Rattle.carte_lexer.specs.Kinds.{AllOfKind}
+use Rattle.carte_lexer.specs.Lexer.{idle, lexed, text_of}
 use Rattle.carte_tree.specs.Printed.{printed}
-use Rattle.carte_formula.specs.Whole.{IsTold, width, with_width, wide_from, with_tokens, reading, Tokens, SpelledBy, Reads}
+use Rattle.carte_formula.specs.Whole.{IsTold, with_width, with_tokens, reading, Tokens, SpelledBy, Reads}
+use Rattle.carte_lexer.specs.Widths.{width, wide_from}
 use Rattle.carte_formula.proofs.Complete.{complete}
 use Rattle.carte_formula.proofs.Viable.{one_tree}
 use Rattle.carte_formula.proofs.Faults.{reads}
@@ -20,8 +23,8 @@ use Rattle.carte_formula.proofs.ShownKind.{shown_kind}
 use Rattle.carte_formula.proofs.Heights.{shown_shallow}
 use Rattle.carte_formula.proofs.Widths.{same_width, narrow, not_wide}
 use Rattle.carte_formula.proofs.Clear.{all_clear}
-use Rattle.carte_formula.proofs.Lexing.{lexes}
-use Rattle.carte_formula.proofs.Lexed.{lexed_kind}
+use Rattle.carte_lexer.proofs.Lexing.{lexes}
+use Rattle.carte_lexer.proofs.Lexed.{lexed_kind}
 use Rattle.carte_formula.proofs.Texts.{printed_shown}
 
 short_read : (q : Kind) (bytes : List ℕ) → length bytes ≤ 4096 → reading q bytes ≡ with_tokens (lexed q idle 0 bytes) (length bytes)

@@ -2,14 +2,15 @@
 use Rattle.std.proofs.Common.{ℕ, pos, Bool, true, false, List, [], ◌∷◌, ◌++◌, length, ◌≡◌, ◌<◌, ◌≤◌, nat_le, ◌&&◌, ◌==◌, refl, arith, slice_index}
 use Rattle.std.proofs.lemmas.Bool.{leb-true}
 use Rattle.std.proofs.lemmas.Bool.Decides.{nat_tests}
-use Rattle.carte_value.specs.Names.{is_upper, is_lower, is_rule_name, is_cell_name}
-use Rattle.carte_value.specs.declared.kind.Kind.{Kind}
-use Rattle.carte_value.specs.declared.kind.Kind.TheVariants.{Rules, Sheet}
+use Rattle.carte_name.specs.Names.{is_upper, is_lower, is_rule_name, is_cell_name}
+use Rattle.carte_name.specs.declared.kind.Kind.{Kind}
+use Rattle.carte_name.specs.declared.kind.Kind.TheVariants.{Rules, Sheet}
 use Rattle.carte_value.specs.Areas.{area_of}
 use Rattle.carte_tree.specs.Tree.{rank, Tree, number, Arg, one, cells, Term, steps_of, args_of, is_if, filled}
 use Rattle.carte_formula.specs.Tokens.{Level, Func, Token, digits, word, cell, op, rpar, comma, colon}
 use Rattle.carte_formula.specs.Grammar.{Spells, unary, single, chained, Repeats, none, more, Unary, primary, negated, posited, Primary, a_number, a_text, a_word, a_cell, a_call, a_group, Argument, formula, range, Arguments, last, next}
-use Rattle.carte_formula.specs.Print.{name_token, bracketed, shown, steps_shown, args_shown, later_shown, arg_shown, OfKind, AllOfKind}
+use Rattle.carte_formula.specs.Print.{name_token, bracketed, shown, steps_shown, args_shown, later_shown, arg_shown}
+use Rattle.carte_lexer.specs.Kinds.{OfKind, AllOfKind}
 use Rattle.carte_tree.specs.Printed.{tight}
 use Rattle.carte_formula.proofs.Again.{kind_both, kind_join, later_of, shown_more, Filled}
 use Rattle.carte_formula.proofs.Corners.{first_is_cell, last_is_cell}

@@ -7,7 +7,8 @@ use Rattle.carte_tree.specs.Tree.{level_of, rank, Tree, number, text, ref, chain
 use Rattle.carte_formula.specs.Tokens.{Op, sub, add, Level, compare, concat, sum, product, Func, Token, digits, quoted, word, cell, func, op, lpar, rpar, comma, colon}
 use Rattle.carte_tree.specs.declared.expr.Func.TheVariants as functions
 use Rattle.carte_formula.specs.Grammar.{Counts, Spells, unary, single, chained, Repeats, none, more, Unary, primary, negated, posited, a_number, a_text, a_word, a_cell, a_call, a_group, Argument, formula, range, Arguments, last, next}
-use Rattle.carte_formula.specs.Machine.{Frame, sign, chain_at, group, args, State, wants, had, named, corner, half, ranged, after, cell_at, sign_at, begin, joined, close, split, ended, grown, go_on, next_state, end_of, parsed, with}
+use Rattle.carte_frames.specs.Begun.{Frame, sign, chain_at, group, args, joined, ended, grown}
+use Rattle.carte_formula.specs.Machine.{State, wants, had, named, corner, half, ranged, after, cell_at, sign_at, begin, close, split, go_on, next_state, end_of, parsed, with}
 use Rattle.carte_formula.proofs.Complete.{Fits}
 
 abbrev pub sign_op : Bool → Op

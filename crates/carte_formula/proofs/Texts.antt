@@ -1,12 +1,12 @@
 -- The printed bytes are those of the printed tokens.
 use Rattle.std.proofs.Common.{ℕ, Bool, true, false, List, [], ◌∷◌, ◌++◌, ◌≡◌, refl, sym, ◌∙◌, ap, append_assoc, codes, slice_index}
 use Rattle.std.proofs.lemmas.List.{append-nil}
-use Rattle.carte_value.specs.Names.{is_upper}
+use Rattle.carte_name.specs.Names.{is_upper}
 use Rattle.carte_tree.specs.Tree.{rank, Tree, number, text, ref, neg, chain, call, Steps, no_step, step, Args, no_arg, arg, Arg, one, cells, first_corner, last_corner}
 use Rattle.carte_formula.specs.Tokens.{Level, Token, digits, quoted, rpar}
 use Rattle.carte_formula.specs.Print.{name_by, bracketed, shown, steps_shown, args_shown, later_shown, arg_shown}
 use Rattle.carte_tree.specs.Printed.{tight, func_name, op_bytes, in_brackets, printed, steps_printed, args_printed, later_printed, arg_printed}
-use Rattle.carte_formula.specs.Lexer.{token_bytes, text_of}
+use Rattle.carte_lexer.specs.Lexer.{token_bytes, text_of}
 
 text_append : (ts us : List Token) → text_of (ts ++ us) ≡ text_of ts ++ text_of us
 text_append [] us = refl

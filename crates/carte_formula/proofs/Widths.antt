@@ -4,10 +4,9 @@ use Rattle.std.proofs.lemmas.Bool.{le-ltb, ltb-false}
 use Rattle.std.proofs.lemmas.List.{append-nil}
 use Rattle.carte_value.specs.Areas.{size_of}
 use Rattle.carte_tree.specs.Tree.{Tree, number, text, ref, neg, chain, call, Steps, no_step, step, Args, no_arg, arg, Arg, one, cells, Term, steps_of, args_of, is_if}
-use Rattle.carte_formula.specs.Tokens.{Level, Func, Token, cell, op, rpar, comma, colon}
+use Rattle.carte_formula.specs.Tokens.{Level, Func, Token, cell, op, rpar, comma, colon, Placed, tokens_of}
 use Rattle.carte_formula.specs.Grammar.{Spells, unary, single, chained, Repeats, none, more, Unary, primary, negated, posited, Primary, a_number, a_text, a_word, a_cell, a_call, a_group, Argument, formula, range, Arguments, last, next}
-use Rattle.carte_formula.specs.Reading.{Placed, tokens_of}
-use Rattle.carte_formula.specs.Whole.{range_size, width, wide_from}
+use Rattle.carte_lexer.specs.Widths.{range_size, width, wide_from}
 use Rattle.carte_formula.proofs.Again.{Filled}
 
 abbrev mutual

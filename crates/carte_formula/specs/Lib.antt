@@ -1,14 +1,8 @@
 pub mod Tokens
-pub mod Frames
 pub mod Grammar
 pub mod Machine
 pub mod Reading
 pub mod Print
-pub mod Lexer
 pub mod Whole
 pub mod Parser
-pub mod Runs
-pub mod Takes
-pub mod Longest
-pub mod Ranges
 pub mod Resumed

@@ -1,15 +1,9 @@
 -- The same, token by token.
-use Rattle.std.specs.Prelude.{ℕ, Bool, true, false, List, [], ◌∷◌, ◌++◌, length, nat_lt, ◌==◌, Option, Some, None, if◌then◌else◌}
+use Rattle.std.specs.Prelude.{ℕ, true, false, List, [], ◌∷◌, ◌++◌, length, Option, Some, None, if◌then◌else◌}
 use Rattle.carte_value.specs.Areas.{area_of}
-use Rattle.carte_tree.specs.Tree.{level_of, rank, Tree, number, text, ref, chain, Arg, one, cells, Term, steps_of, arity, enough_in, room_in, takes_ranges, called_tree, signed}
-use Rattle.carte_formula.specs.Tokens.{Op, sub, add, Level, Func, Area, Token, digits, quoted, word, cell, func, op, lpar, rpar, comma, colon}
-
--- what is begun and not ended, newest first
-pub data Frame : Type 0 where
-  sign : Bool → Frame
-  chain_at : Level → Tree → List Term → Op → Frame
-  group : Frame
-  args : Func → List Arg → Frame
+use Rattle.carte_tree.specs.Tree.{Tree, number, text, ref, chain, Arg, one, cells, steps_of, arity, enough_in, room_in, takes_ranges, called_tree, signed}
+use Rattle.carte_formula.specs.Tokens.{Op, sub, add, Func, Area, Token, digits, quoted, word, cell, func, op, lpar, rpar, comma, colon}
+use Rattle.carte_frames.specs.Begun.{Frame, sign, chain_at, group, args, grown, joined, ended}
 
 pub data State : Type 0 where
   wants : List Frame → State  -- an operand comes
@@ -49,20 +43,6 @@ begin (op o) S = sign_at o S
 begin lpar S = Some (wants (group ∷ S))
 begin _ S = None
 
-abbrev pub grown : List Term → Op → Tree → List Term
-grown done p v = done ++ record { op = p; operand = v } ∷ []
-
--- an operator follows an operand: the chains that bind tighter are whole
-abbrev pub joined : Op → Tree → List Frame → List Frame
-joined o v [] = chain_at (level_of o) v [] o ∷ []
-joined o v (sign b ∷ S) = joined o (signed b v) S
-joined o v (chain_at l e done p ∷ S) =
-    if nat_lt (rank l) (rank (level_of o)) then joined o (chain l e (steps_of (grown done p v))) S
-    else if rank l == rank (level_of o) then chain_at l e (grown done p v) o ∷ S
-    else chain_at (level_of o) v [] o ∷ chain_at l e done p ∷ S
-joined o v (group ∷ S) = chain_at (level_of o) v [] o ∷ group ∷ S
-joined o v (args f xs ∷ S) = chain_at (level_of o) v [] o ∷ args f xs ∷ S
-
 abbrev pub end_args : Func → List Arg → List Frame → Option State
 end_args f xs S = if enough_in (arity f) (length xs) then Some (after (called_tree f xs) S) else None
 
@@ -82,13 +62,6 @@ split v (sign b ∷ S) = split (signed b v) S
 split v (chain_at l e done p ∷ S) = split (chain l e (steps_of (grown done p v))) S
 split v (group ∷ S) = None
 split v (args f xs ∷ S) = next_args f (xs ++ one v ∷ []) S
-
-abbrev pub ended : Tree → List Frame → Option Tree
-ended v [] = Some v
-ended v (sign b ∷ S) = ended (signed b v) S
-ended v (chain_at l e done p ∷ S) = ended (chain l e (steps_of (grown done p v))) S
-ended v (group ∷ S) = None
-ended v (args f xs ∷ S) = None
 
 abbrev pub go_on : Token → Tree → List Frame → Option State
 go_on (op o) v S = Some (wants (joined o v S))

@@ -1,31 +1,19 @@
 -- The machine's states as the code holds them.
-use Rattle.std.specs.Prelude.{ℕ, Bool, true, false, nat_lt, List, [], ◌∷◌, ◌+◌, ◌++◌, map, Option, Some, None, Result, Ok, Err, ◌≡◌, if◌then◌else◌}
-use Rattle.carte_value.specs.declared.NoMemory.{NoMemory}
+use Rattle.std.specs.Prelude.{ℕ, Bool, true, false, nat_lt, List, [], ◌∷◌, ◌+◌, ◌++◌, Option, Some, None, Result, Ok, Err, ◌≡◌, if◌then◌else◌}
+use Rattle.carte_name.specs.declared.NoMemory.{NoMemory}
 use Rattle.carte_tree.specs.Tree.{Tree, Arg}
-use Rattle.carte_tree.specs.Code.{tree_of, terms_of, args_trees}
-use Rattle.carte_formula.specs.Machine.{Frame, sign, chain_at, group, args, State, wants, had, named, corner, half, ranged, next_args, after}
+use Rattle.carte_tree.specs.Code.{tree_of, args_trees}
+use Rattle.carte_frames.specs.Begun.{Frame, args}
+use Rattle.carte_frames.specs.Frames.{frames_of}
+use Rattle.carte_formula.specs.Machine.{State, wants, had, named, corner, half, ranged, next_args, after}
 use Rattle.carte_formula.specs.Reading.{FormulaFault, BadSyntax, TooDeep, NoMemory as OutOfMemory, depth}
 use Rattle.carte_tree.specs.declared.expr.Expr.{Expr}
-use Rattle.carte_formula.specs.declared.parser.frames.OpenChain.{OpenChain}
-use Rattle.carte_formula.specs.declared.parser.frames.Frame.{Frame as CodeFrame}
-use Rattle.carte_formula.specs.declared.parser.frames.Frame.TheVariants as code
+use Rattle.carte_frames.specs.declared.frames.Frame.{Frame as CodeFrame}
 use Rattle.carte_formula.specs.declared.parser.states.State.{State as CodeState}
 use Rattle.carte_formula.specs.declared.parser.states.State.TheVariants as states
 use Rattle.carte_formula.specs.declared.parser.states.Range.{Range}
 use Rattle.carte_formula.specs.declared.parser.states.Range.TheVariants as ranges
 use Rattle.carte_formula.specs.declared.parser.states.Parser.{Parser}
-
-abbrev pub open_frame : OpenChain → Frame
-open_frame c = chain_at c.level (tree_of c.first) (terms_of c.steps.items) c.last
-
-abbrev pub frame_of : CodeFrame → Frame
-frame_of (code.Sign b) = sign b
-frame_of (code.Chain c) = open_frame c
-frame_of code.Group = group
-frame_of (code.Call f xs) = args f (args_trees xs.items)
-
-abbrev pub frames_of : List CodeFrame → List Frame
-frames_of = map frame_of
 
 -- a state with no range is never reached
 abbrev pub range_of : Range → List CodeFrame → State
@@ -61,12 +49,7 @@ reached p = state_of p.state p.operand p.range p.stack.frames.items
 abbrev pub holding : Parser → Expr → Parser
 holding p e = record { state = states.Had; operand = e; range = p.range; stack = p.stack }
 
--- the newest frame, a call, has an argument more
-abbrev pub with_arg : Arg → List Frame → List Frame
-with_arg a (args f xs ∷ S) = args f (xs ++ a ∷ []) ∷ S
-with_arg a S = S
-
--- and another may follow
+-- an argument behind those of the newest frame, a call, and another may follow
 abbrev pub args_next : Arg → List Frame → Option State
 args_next a (args f xs ∷ S) = next_args f (xs ++ a ∷ []) S
 args_next a _ = None
@@ -80,11 +63,6 @@ abbrev pub GoesTo : Result Bool NoMemory → Parser → Option State → Type 0
 GoesTo (Ok b) p o = OptionGoesTo b p o
 GoesTo (Err e) p o = Unit {0}
 
-abbrev pub EndsTo : Result (Option Expr) NoMemory → Option Tree → Type 0
-EndsTo (Ok None) o = o ≡ None
-EndsTo (Ok (Some e)) o = o ≡ Some (tree_of e)
-EndsTo (Err e) o = Unit {0}
-
 -- what comes of a token at a place, where the machine goes to o
 abbrev pub StepsTo : Result (Unit {0}) FormulaFault → Parser → Option State → ℕ → Type 0
 StepsTo (Ok _) p o place = (o ≡ Some (reached p)) × (nat_lt 64 (depth (reached p)) ≡ false)
@@ -92,12 +70,6 @@ StepsTo (Err (BadSyntax at)) p o place = (o ≡ None) × (at ≡ place)
 StepsTo (Err (TooDeep at)) p o place = (u : State) × (o ≡ Some u) × (nat_lt 64 (depth u) ≡ true) × (at ≡ place)
 StepsTo (Err OutOfMemory) p o place = Unit {0}
 StepsTo (Err _) p o place = ⊥
-
--- a call answered what it should, unless memory ran out
-abbrev pub ReadsTo : Result Expr FormulaFault → Result Tree FormulaFault → Type 0
-ReadsTo (Ok e) r = r ≡ Ok (tree_of e)
-ReadsTo (Err OutOfMemory) r = Unit {0}
-ReadsTo (Err f) r = r ≡ Err f
 
 -- the same for a token behind which an operand stands, and isn't put away yet
 abbrev pub StandsTo : Result Expr FormulaFault → Parser → Option State → ℕ → Type 0

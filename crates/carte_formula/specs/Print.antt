@@ -1,8 +1,6 @@
 -- The printed form of a formula, as tokens.
-use Rattle.std.specs.Prelude.{ℕ, pos, negsuc, Bool, true, false, List, [], ◌∷◌, ◌++◌, ◌≡◌, ◌≤◌, ◌<◌, ◌^◌, length, slice_index}
-use Rattle.carte_value.specs.Names.{is_upper, is_rule_name, is_cell_name}
-use Rattle.carte_value.specs.declared.kind.Kind.{Kind}
-use Rattle.carte_value.specs.declared.kind.Kind.TheVariants.{Rules, Sheet}
+use Rattle.std.specs.Prelude.{ℕ, Bool, true, false, List, [], ◌∷◌, ◌++◌, slice_index}
+use Rattle.carte_name.specs.Names.{is_upper}
 use Rattle.carte_tree.specs.Tree.{first_corner, last_corner, rank, Tree, number, text, ref, neg, chain, call, Steps, no_step, step, Args, no_arg, arg, Arg, one, cells}
 use Rattle.carte_formula.specs.Tokens.{sub, Level, Token, digits, quoted, word, cell, func, op, lpar, rpar, comma, colon}
 use Rattle.carte_tree.specs.Printed.{tight}
@@ -46,18 +44,3 @@ abbrev mutual
 
 abbrev pub held : ℕ → Tree → List Token
 held n e = bracketed (tight n e) (shown e)
-
--- tokens that a text of the kind can have
-abbrev pub OfKind : Kind → Token → Type 0
-OfKind q (digits (pos n)) = n < 2 ^ 63
-OfKind q (digits (negsuc n)) = ⊥
-OfKind q (quoted k) = length k ≤ 65536
-OfKind Rules (word k) = is_rule_name k ≡ true
-OfKind Sheet (word k) = ⊥
-OfKind Rules (cell k) = ⊥
-OfKind Sheet (cell k) = is_cell_name k ≡ true
-OfKind q _ = Unit {0}
-
-abbrev pub AllOfKind : Kind → List Token → Type 0
-AllOfKind q [] = Unit {0}
-AllOfKind q (t ∷ ts) = OfKind q t × AllOfKind q ts

@@ -1,16 +1,12 @@
 -- What reading gives for tokens and their places.
 use Rattle.std.specs.Prelude.{ℕ, Bool, true, false, List, [], ◌∷◌, ◌++◌, length, take, nat_lt, ◌≡◌, ◌≤◌, ◌<◌, ◌+◌, Option, Some, None, Result, Ok, Err, if◌then◌else◌}
 use Rattle.carte_tree.specs.Tree.{Tree}
-use Rattle.carte_formula.specs.Tokens.{Token, digits, quoted, word, cell, func, op, lpar, rpar, comma, colon}
+use Rattle.carte_formula.specs.Tokens.{Token, digits, quoted, word, cell, func, op, lpar, rpar, comma, colon, Placed, tokens_of}
 use Rattle.carte_formula.specs.Grammar.{Spells, Viable}
-use Rattle.carte_formula.specs.Machine.{Frame, sign, chain_at, group, args, State, wants, had, named, corner, half, ranged, next_state, end_of}
-pub use Rattle.carte_formula.specs.declared.tokens.Placed.{Placed}
+use Rattle.carte_frames.specs.Begun.{depth_of}
+use Rattle.carte_formula.specs.Machine.{State, wants, had, named, corner, half, ranged, next_state, end_of}
 pub use Rattle.carte_tree.specs.declared.fault.FormulaFault.{FormulaFault}
 pub use Rattle.carte_tree.specs.declared.fault.FormulaFault.TheVariants.{BadToken, BadSyntax, TooDeep, TooLong, TooWide, NoMemory}
-
-abbrev pub tokens_of : List Placed → List Token
-tokens_of [] = []
-tokens_of (p ∷ ps) = p.token ∷ tokens_of ps
 
 -- what stands round what comes next, newest first: true for a unary sign, false for a bracket. An operand that is whole ends its signs
 abbrev pub dropped : List Bool → List Bool
@@ -73,13 +69,6 @@ ReadAs ps size (Err (TooDeep place)) =
 ReadAs ps size (Err _) = ⊥
 
 -- the same as a function
-abbrev pub depth_of : List Frame → ℕ
-depth_of [] = 0
-depth_of (sign b ∷ S) = depth_of S + 1
-depth_of (chain_at l e done p ∷ S) = depth_of S
-depth_of (group ∷ S) = depth_of S + 1
-depth_of (args f xs ∷ S) = depth_of S + 1
-
 abbrev pub depth : State → ℕ
 depth (wants S) = depth_of S
 depth (had v S) = depth_of S

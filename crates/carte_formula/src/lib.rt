@@ -2,14 +2,14 @@
 //!
 //! Form. The grammar (specs/Grammar.antt) is a relation between lists of tokens and trees, case by case as it is written down, with the
 //! four levels of operators as one rule with a number. A fault is a statement of the same relation: bad syntax stands at the first
-//! token with which no formula's tokens begin, whatever follows. Tokens (specs/Lexer.antt) are the longest that fit. Trees are those of
-//! `carte_tree`, whose calls are handed on here.
+//! token with which no formula's tokens begin, whatever follows. Tokens are those of `carte_lexer`, the longest that fit, and trees
+//! those of `carte_tree`; the calls of both that users of formulas need are handed on here.
 //!
 //! The reader takes a text's tokens one after the other, as they are met, and makes no list of them: it keeps a state and a stack of
-//! the signs, chains, groups and calls that are begun (specs/Machine.antt), and beside it how many cells the ranges so far have
-//! (specs/Ranges.antt). An operand leaves a chain open, and the next operator ends those that bind tighter. From each state of this
-//! machine some tokens lead to a formula, so the first token that it refuses is the fault's place. Only then is the rest looked
-//! through for a bad token, which comes before a fault of syntax (specs/Resumed.antt). No fitting text is read twice.
+//! the signs, chains, groups and calls that are begun (specs/Machine.antt; the stack is that of `carte_frames`), and beside it how many
+//! cells the ranges so far have (`carte_lexer`). From each state of this machine some tokens lead to a formula, so the first token that
+//! it refuses is the fault's place. Only then is the rest looked through for a bad token, which comes before a fault of syntax
+//! (specs/Resumed.antt). No fitting text is read twice.
 //!
 //! A token goes to the machine from its first byte on (`parser.rt`): a sign is a value that owns nothing, and a number, a text or a
 //! name is an operand where it is made, since a token of any kind that is handed from call to call is copied by each.
@@ -23,18 +23,13 @@
 //! - A list of all tokens before the first is parsed: it took a fifth of the time. The laws of tokens speak of that list all the same.
 #![tactic(auto)]
 
-mod cell;
 mod laws;
-mod lexer;
 mod parser;
 mod reader;
-mod tokens;
-mod width;
 
+pub use carte_lexer::{lexes_blanks, lexes_longest};
 pub use carte_tree::{
     Arg, Args, Chain, Expr, FormulaFault, Func, Level, Op, Rest, is_static, print, refs,
 };
-pub use laws::{
-    lexes_blanks, lexes_longest, reads_one, reads_print, reads_reading, reads_some, spells_one,
-};
+pub use laws::{reads_one, reads_print, reads_reading, reads_some, spells_one};
 pub use reader::{Room, read, read_in};

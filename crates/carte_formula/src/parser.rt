@@ -1,32 +1,30 @@
 ghost use Rattle.std.specs.Prelude.{◌≡◌, ◌<◌, ◌≤◌, true, nat_lt, [], length, slice_index, Ok, Option};
-ghost use Rattle.carte_formula.specs.Lexer.{start_of, single, begins, idle, lexed};
+ghost use Rattle.carte_lexer.specs.Lexer.{start_of, single, begins, idle, lexed};
 ghost use Rattle.carte_formula.specs.Machine.{State as Machine, next_state};
 ghost use Rattle.carte_formula.specs.Tokens.{sign_token};
-ghost use Rattle.carte_formula.specs.Reading.{depth, depth_of};
-ghost use Rattle.carte_formula.specs.declared.tokens.Token.TheVariants as tokens;
-ghost use Rattle.carte_formula.specs.declared.tokens.Class.TheVariants as classes;
-ghost use Rattle.carte_formula.specs.Parser.{frames_of, reached, holding, range_depth, OptionGoesTo, StepsTo, StandsTo, ReadsTo};
+ghost use Rattle.carte_formula.specs.Reading.{depth};
+ghost use Rattle.carte_frames.specs.Begun.{depth_of};
+ghost use Rattle.carte_lexer.specs.declared.tokens.Token.TheVariants as tokens;
+ghost use Rattle.carte_lexer.specs.declared.tokens.Class.TheVariants as classes;
+ghost use Rattle.carte_frames.specs.Frames.{frames_of};
+ghost use Rattle.carte_formula.specs.Parser.{reached, holding, range_depth, OptionGoesTo, StepsTo, StandsTo};
+ghost use Rattle.carte_lexer.specs.Takes.{ReadsTo};
 ghost use Rattle.carte_formula.specs.Whole.{with_tokens};
 ghost use Rattle.carte_formula.specs.Resumed.{Advances, Follows};
 
-mod building;
 mod chains;
 mod ending;
-mod frames;
-mod lists;
 mod operand;
 mod states;
 mod steps;
 
-use crate::lexer::{first_fault, meet_run, start_of};
 use crate::parser::ending::whole;
-use crate::parser::frames::Stack;
 use crate::parser::operand::{put_away, with_signs};
 use crate::parser::states::{Parser, Range, State};
 use crate::parser::steps::{go_on, is_wanting, step, step_sign, take_func};
-use crate::tokens::{Class, Placed, Sign, Start, Token};
-use crate::width::Ranges;
 use crate::{Expr, FormulaFault, Func};
+use carte_frames::Stack;
+use carte_lexer::{Class, Placed, Ranges, Sign, Start, Token, first_fault, meet_run, start_of};
 use carte_value::{Kind, Name};
 use std::alloc::Global;
 
@@ -43,9 +41,9 @@ pub struct Progress {
 impl Progress {
     ghost use Rattle.std.specs.Prelude.{List};
     ghost use Rattle.carte_formula.specs.Machine.{wants};
-    ghost use Rattle.carte_formula.specs.Reading.{Placed as PlacedToken};
-    ghost use Rattle.carte_formula.specs.Ranges.{wide_after};
-    ghost use Rattle.carte_formula.specs.Whole.{wide_from};
+    ghost use Rattle.carte_formula.specs.Tokens.{Placed as PlacedToken};
+    ghost use Rattle.carte_lexer.specs.Ranges.{wide_after};
+    ghost use Rattle.carte_lexer.specs.Widths.{wide_from};
 
     pub fn new(alloc: Global) -> Progress {
         Progress {
@@ -350,7 +348,6 @@ fn not_too_deep(place: usize, operand: Expr, parser: &Parser) -> Result<Expr, Fo
     Ok(operand)
 }
 
-#[tactic(auto, using(crate::proofs::Depths::depth_same))]
 #[inline(always)]
 fn is_stack_too_deep(stack: &Stack) -> bool
     ensures { result ≡ nat_lt 64 (depth_of (frames_of stack.now.frames.items)) }
@@ -373,7 +370,7 @@ fn taken(goes_on: bool, place: usize, parser: &Parser) -> Result<(), FormulaFaul
 }
 
 /// Whether too many brackets, calls and signs stand round what comes next.
-#[tactic(auto, using(crate::proofs::Depths::depth_same, crate::proofs::Depths::range_same))]
+#[tactic(auto, using(crate::proofs::Depths::range_same))]
 #[inline(always)]
 fn is_too_deep(parser: &Parser) -> bool
     ensures { result ≡ nat_lt 64 (depth (reached parser.now)) }

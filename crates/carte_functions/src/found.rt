@@ -2,7 +2,7 @@
 
 ghost use Rattle.std.specs.Prelude.{◌≡◌, [], ◌∷◌, true, None, IsTrue, IfOk, IfErr};
 ghost use Rattle.std.specs.Result.{is_ok};
-ghost use Rattle.carte_value.specs.Kinds.{is_text_of};
+ghost use Rattle.carte_name.specs.Kinds.{is_text_of};
 ghost use Rattle.carte_tree.specs.Coercions.{each_as, first_bad};
 ghost use Rattle.carte_tree.specs.Found.{name_in, named, names_in};
 ghost use Rattle.carte_tree.specs.Texts.{lines};

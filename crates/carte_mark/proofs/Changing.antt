@@ -3,13 +3,13 @@ use Rattle.std.proofs.Common.{◌≡◌, ◌⊎◌, ℕ, suc, ◌+◌, ◌<◌, 
 use Rattle.indexmap.specs.IndexSet.{insert_key}
 use Rattle.carte_value.specs.declared.digest.Digest.{Digest}
 use Rattle.carte_value.specs.declared.link.Link.{Link}
-use Rattle.carte_value.specs.Names.{name_eq}
+use Rattle.carte_name.specs.Names.{name_eq}
 use Rattle.carte_value.specs.Truths.{Among}
 use Rattle.carte_book.specs.Book.{Book}
 use Rattle.carte_record.specs.declared.kept.Kept.{Kept}
 use Rattle.carte_record.specs.Kept.{SomeKept, kept_view}
-use Rattle.carte_record.specs.Lookups.{digest_in, first_link, is_link_of}
-use Rattle.carte_record.proofs.Names.{name_eq_is}
+use Rattle.carte_table.specs.Lookups.{digest_in, first_link, is_link_of}
+use Rattle.carte_table.proofs.Names.{name_eq_is}
 use Rattle.carte_sound.specs.Begun.{is_digest}
 use Rattle.carte_sound.specs.Marks.{present, IsChanged}
 use Rattle.carte_sound.proofs.Tests.{same_digest, digest_self}

@@ -8,14 +8,14 @@ use Rattle.std.specs.Cmp.Lexicographic.{nat_list_eq_equiv, nat_list_cmp_total, t
 use Rattle.std.proofs.lemmas.List.Filters.{dedup_is}
 use Rattle.std.proofs.lemmas.List.Kept.{IsStrictlySortedBy-dedup, Contains-dedup, Contains-from_dedup}
 use Rattle.std.proofs.lemmas.List.Sorted.{Contains-permutation, IsPermutation-sym}
-use Rattle.carte_value.specs.Names.{name_cmp, name_eq}
+use Rattle.carte_name.specs.Names.{name_cmp, name_eq}
 use Rattle.carte_value.specs.Truths.{Among, IsListOf}
 use Rattle.carte_value.proofs.Members.{among_append, among_left, among_right}
 use Rattle.carte_book.specs.Book.{Book}
 use Rattle.carte_record.specs.declared.entry.Entry.{Entry}
 use Rattle.carte_record.specs.declared.kept.Kept.{Kept}
 use Rattle.carte_record.specs.Kept.{kept_view}
-use Rattle.carte_record.proofs.Names.{name_eq_is}
+use Rattle.carte_table.proofs.Names.{name_eq_is}
 use Rattle.carte_sound.specs.Marks.{Leads, need, on, IsMarked}
 use Rattle.carte_mark.specs.Marking.{IsToMark, PushesToMark, AreToMark}
 use Rattle.carte_mark.specs.Reached.{AreChanged, Meets}

@@ -2,12 +2,12 @@
 use Rattle.std.proofs.Common.{◌≡◌, ◌⊎◌, ℕ, zero, suc, ◌+◌, ◌≤◌, ◌<◌, Bool, true, false, cond, List, [], ◌∷◌, length, Some, slice_get, find, refl, ap, sym, ◌∙◌, subst, inl, inr, arith}
 use Rattle.std.specs.Prelude.{◌==◌}
 use Rattle.std.proofs.Math.Dec.{eqb-suc-zero}
-use Rattle.carte_value.specs.Names.{name_eq}
+use Rattle.carte_name.specs.Names.{name_eq}
 use Rattle.carte_record.specs.declared.entry.Entry.{Entry}
 use Rattle.carte_record.specs.declared.kept.Kept.{Kept}
 use Rattle.carte_record.specs.Kept.{kept_view}
 use Rattle.carte_record.specs.Lookups.{first_entry, is_entry_of}
-use Rattle.carte_record.proofs.Names.{name_eq_is}
+use Rattle.carte_table.proofs.Names.{name_eq_is}
 use Rattle.carte_mark.specs.Reached.{Spreads, PutsMore, IsClosedAt}
 use Rattle.carte_mark.specs.Passes.{Passes, IsRound, AreReached}
 use Rattle.carte_mark.proofs.Spreading.{spreads_self, spreads_on}

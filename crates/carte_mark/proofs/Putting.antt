@@ -2,10 +2,10 @@
 use Rattle.std.proofs.Common.{◌≡◌, ◌⊎◌, ℕ, suc, zero, ◌<◌, Bool, true, false, ◌||◌, cond, List, [], ◌∷◌, ◌++◌, length, Some, slice_get, take, add-one, ◌+◌, refl, ap, sym, ◌∙◌, subst, inl, inr, arith}
 use Rattle.std.specs.List.{list_any}
 use Rattle.indexmap.specs.IndexSet.{insert_key}
-use Rattle.carte_value.specs.Names.{name_eq}
+use Rattle.carte_name.specs.Names.{name_eq}
 use Rattle.carte_value.specs.Truths.{Among}
 use Rattle.carte_value.proofs.Members.{among_append, among_left, among_right}
-use Rattle.carte_record.proofs.Names.{name_eq_is, name_eq_self}
+use Rattle.carte_table.proofs.Names.{name_eq_is, name_eq_self}
 use Rattle.carte_mark.specs.Puts.{put_all}
 
 pub any_among : (rs : List (List ℕ)) (k : List ℕ) → list_any (name_eq k) rs ≡ true → Among rs k

@@ -1,7 +1,7 @@
 -- Names, and keys that lead to them, that are put to one another.
 use Rattle.std.proofs.Common.{◌≡◌, ◌⊎◌, ℕ, true, false, List, [], ◌∷◌, ◌++◌, Some, slice_get, refl, sym, ◌∙◌, subst, inl, inr}
 use Rattle.indexmap.specs.IndexSet.{insert_key}
-use Rattle.carte_value.specs.Names.{name_eq}
+use Rattle.carte_name.specs.Names.{name_eq}
 use Rattle.carte_value.specs.Truths.{Among}
 use Rattle.carte_value.proofs.Members.{among_append}
 use Rattle.carte_record.specs.declared.entry.Entry.{Entry}

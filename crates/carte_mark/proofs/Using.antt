@@ -1,11 +1,11 @@
 -- How tables of users grow.
 use Rattle.std.proofs.Common.{◌≡◌, ◌⊎◌, ℕ, Bool, true, false, cond, List, [], ◌∷◌, ◌++◌, Some, None, map, refl, ap, sym, ◌∙◌, subst, inl, inr, find}
-use Rattle.carte_value.specs.Names.{name_eq}
+use Rattle.carte_name.specs.Names.{name_eq}
 use Rattle.carte_value.specs.Truths.{Among}
 use Rattle.carte_value.proofs.Members.{among_append, among_left, among_right}
 use Rattle.carte_record.specs.declared.entry.Entry.{Entry}
 use Rattle.carte_record.specs.Lookups.{first_entry, is_entry_of}
-use Rattle.carte_record.proofs.Names.{name_eq_is, name_eq_self}
+use Rattle.carte_table.proofs.Names.{name_eq_is, name_eq_self}
 use Rattle.carte_mark.specs.Tables.{Users, Needs, AddsKey, AddsFor, AreUsers}
 
 -- for one name

@@ -1,7 +1,7 @@
 ghost use Rattle.std.specs.Prelude.{◌≡◌, IfOk, OnOk};
 ghost use Rattle.carte_book.specs.Book.{book_view};
 ghost use Rattle.carte_record.specs.Kept.{kept_view};
-ghost use Rattle.carte_record.specs.Lookups.{first_link};
+ghost use Rattle.carte_table.specs.Lookups.{first_link};
 ghost use Rattle.carte_sound.specs.Begun.{is_digest};
 ghost use Rattle.carte_sound.specs.Marks.{present};
 ghost use Rattle.carte_mark.specs.Reached.{has_changed, AreChanged, AddsChanged};

@@ -1,6 +1,6 @@
 ghost use Rattle.std.specs.Prelude.{◌≡◌, ◌↔◌, true, OnOk};
 ghost use Rattle.indexmap.specs.IndexSet.{insert_key};
-ghost use Rattle.carte_value.specs.Names.{name_eq};
+ghost use Rattle.carte_name.specs.Names.{name_eq};
 ghost use Rattle.carte_value.specs.Truths.{Among};
 ghost use Rattle.carte_mark.specs.Reached.{Meets};
 

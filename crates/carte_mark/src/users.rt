@@ -1,6 +1,6 @@
 ghost use Rattle.std.specs.Prelude.{◌≡◌, OnOk, IfOk, [], ℕ};
 ghost use Rattle.std.specs.HashMap.{get};
-ghost use Rattle.carte_value.specs.Names.{name_eq};
+ghost use Rattle.carte_name.specs.Names.{name_eq};
 ghost use Rattle.carte_value.specs.Truths.{Among};
 ghost use Rattle.carte_mark.specs.Tables.{keys_in, AddsKey, AddsFor, Needs, AreUsers};
 

@@ -1,6 +1,6 @@
 ghost use Rattle.std.specs.Prelude.{◌≡◌, ◌<◌, length, slice_get, Some, ℕ, List, OnOk, IfOk};
 ghost use Rattle.std.specs.HashMap.{get};
-ghost use Rattle.carte_value.specs.Names.{name_eq};
+ghost use Rattle.carte_name.specs.Names.{name_eq};
 ghost use Rattle.carte_mark.specs.Puts.{put_all};
 ghost use Rattle.carte_mark.specs.Passes.{AreReached};
 ghost use Rattle.carte_mark.specs.Tables.{keys_in};

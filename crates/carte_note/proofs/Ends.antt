@@ -5,15 +5,16 @@ use Rattle.std.specs.Option.{option_or}
 use Rattle.carte_value.specs.declared.digest.Digest.{Digest}
 use Rattle.carte_value.specs.declared.link.Link.{Link}
 use Rattle.carte_value.specs.Lists.{Has}
-use Rattle.carte_value.specs.Names.{name_eq}
+use Rattle.carte_name.specs.Names.{name_eq}
 use Rattle.carte_value.specs.Truths.{Among, NoneTwice}
 use Rattle.carte_value.proofs.Members.{apart_append, has_append}
 use Rattle.carte_record.specs.declared.entry.Entry.{Entry}
-use Rattle.carte_record.specs.Lookups.{find_last, is_link_of, is_entry_of, link_in, entry_in, first_link, digest_in}
-use Rattle.carte_record.proofs.FirstPlaces.{map_end}
-use Rattle.carte_record.proofs.Found.{last_end}
+use Rattle.carte_table.specs.Lookups.{find_last, is_link_of, link_in, first_link, digest_in}
+use Rattle.carte_record.specs.Lookups.{is_entry_of, entry_in}
+use Rattle.carte_table.proofs.FirstPlaces.{map_end}
+use Rattle.carte_table.proofs.Found.{last_end}
 use Rattle.carte_record.proofs.Looked.{first_is_last}
-use Rattle.carte_record.proofs.Names.{name_eq_self}
+use Rattle.carte_table.proofs.Names.{name_eq_self}
 use Rattle.carte_sound.specs.Lists.{EachOnce}
 
 pub or_parts : {A : Type 0} (a b : Option A) → option_or a b ≡ None → (a ≡ None) × (b ≡ None)

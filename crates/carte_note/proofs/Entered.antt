@@ -1,12 +1,13 @@
 -- The entries of a batch with that of one more finished key.
 use Rattle.std.proofs.Common.{◌≡◌, ℕ, Bool, true, false, ◌&&◌, cond, List, [], ◌∷◌, ◌++◌, Option, Some, None, refl, ap, sym, ◌∙◌, map, subst, inl, inr, ◌⊎◌}
 use Rattle.std.specs.Option.{option_or}
-use Rattle.carte_value.specs.Names.{name_eq}
+use Rattle.carte_name.specs.Names.{name_eq}
 use Rattle.carte_value.specs.Truths.{NoneTwice}
 use Rattle.carte_record.specs.declared.entry.Entry.{Entry}
 use Rattle.carte_record.specs.Kept.{put_at}
-use Rattle.carte_record.specs.Lookups.{digest_eq, entry_in}
-use Rattle.carte_record.proofs.Names.{name_eq_self}
+use Rattle.carte_table.specs.Lookups.{digest_eq}
+use Rattle.carte_record.specs.Lookups.{entry_in}
+use Rattle.carte_table.proofs.Names.{name_eq_self}
 use Rattle.carte_sound.specs.Left.{entry_eq, names_eq, bool_eq}
 use Rattle.carte_sound.proofs.Tests.{eq_or_apart, digest_self}
 use Rattle.carte_note.proofs.Ends.{entry_end, once_end}

@@ -1,7 +1,7 @@
 -- Names beside the names of links, and inputs seen, place by place.
 use Rattle.std.proofs.Common.{◌≡◌, ℕ, suc, ◌<◌, Bool, true, false, ◌&&◌, List, [], ◌∷◌, ◌++◌, length, drop, get_or, refl, ap, sym, ◌∙◌, add-one, drop-cons}
 use Rattle.carte_value.specs.declared.link.Link.{Link}
-use Rattle.carte_value.specs.Names.{name_eq}
+use Rattle.carte_name.specs.Names.{name_eq}
 use Rattle.carte_book.specs.Book.{Book}
 use Rattle.carte_sound.specs.Left.{names_eq}
 use Rattle.carte_note.specs.Writes.{names_in, with_seen, all_seen}

@@ -5,7 +5,7 @@ use Rattle.carte_value.specs.declared.digest.Digest.{Digest}
 use Rattle.carte_value.specs.declared.link.Link.{Link}
 use Rattle.carte_value.specs.declared.value.Value.{Value}
 use Rattle.carte_value.specs.Lists.{Has}
-use Rattle.carte_value.specs.Names.{name_eq}
+use Rattle.carte_name.specs.Names.{name_eq}
 use Rattle.carte_value.specs.Spelling.{digest_of}
 use Rattle.carte_value.specs.Truths.{NoneTwice}
 use Rattle.carte_value.proofs.Members.{has_append}
@@ -19,7 +19,8 @@ use Rattle.carte_record.specs.declared.way.Way.{Way}
 use Rattle.carte_record.specs.declared.way.Way.TheVariants.{Verifying, Constructive, Deep}
 use Rattle.carte_record.specs.Folds.{batch_traces}
 use Rattle.carte_record.specs.Kept.{SomeKept, kept_view, newest, traces_in, put_at}
-use Rattle.carte_record.specs.Lookups.{digest_eq, first_entry, first_link, first_value}
+use Rattle.carte_table.specs.Lookups.{digest_eq, first_link, first_value}
+use Rattle.carte_record.specs.Lookups.{first_entry}
 use Rattle.carte_record.proofs.Growing.{traces_on}
 use Rattle.carte_sound.specs.Base.{AllNow}
 use Rattle.carte_sound.specs.Carries.{Carries}

@@ -3,13 +3,13 @@ use Rattle.std.proofs.Common.{◌≡◌, ℕ, Bool, true, false, not, ◌&&◌, 
 use Rattle.std.specs.Option.{option_or}
 use Rattle.carte_value.specs.declared.digest.Digest.{Digest}
 use Rattle.carte_value.specs.declared.link.Link.{Link}
-use Rattle.carte_value.specs.Names.{name_eq}
+use Rattle.carte_name.specs.Names.{name_eq}
 use Rattle.carte_value.specs.Truths.{NoneTwice}
 use Rattle.carte_book.specs.Book.{Book, clean}
 use Rattle.carte_book.proofs.Clean.{clean_input}
 use Rattle.carte_record.specs.Folds.{is_among}
-use Rattle.carte_record.specs.Lookups.{digest_eq, link_in, first_link}
-use Rattle.carte_record.proofs.Names.{name_eq_self, name_eq_sym}
+use Rattle.carte_table.specs.Lookups.{digest_eq, link_in, first_link}
+use Rattle.carte_table.proofs.Names.{name_eq_self, name_eq_sym}
 use Rattle.carte_sound.specs.Begun.{is_digest}
 use Rattle.carte_sound.specs.Left.{seen_left}
 use Rattle.carte_sound.specs.Marks.{present}

@@ -6,9 +6,9 @@ use Rattle.carte_value.specs.declared.digest.Digest.{Digest}
 use Rattle.carte_value.specs.declared.value.Value.{Value}
 use Rattle.carte_value.specs.Lists.{Has}
 use Rattle.carte_value.specs.Spelling.{digest_of}
-use Rattle.carte_record.specs.Lookups.{digest_eq, first_value, is_value_of}
-use Rattle.carte_record.proofs.FirstPlaces.{map_end}
-use Rattle.carte_record.proofs.Found.{find_end, or_none}
+use Rattle.carte_table.specs.Lookups.{digest_eq, first_value, is_value_of}
+use Rattle.carte_table.proofs.FirstPlaces.{map_end}
+use Rattle.carte_table.proofs.Found.{find_end, or_none}
 use Rattle.carte_sound.specs.Left.{or_first}
 use Rattle.carte_sound.specs.Lists.{EachOnce}
 use Rattle.carte_sound.proofs.Tests.{same_digest, digest_self}

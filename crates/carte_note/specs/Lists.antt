@@ -1,6 +1,6 @@
 -- What a list of finished keys has of a name.
 use Rattle.std.specs.Prelude.{ℕ, Bool, List, Option, find}
-use Rattle.carte_value.specs.Names.{name_eq}
+use Rattle.carte_name.specs.Names.{name_eq}
 use Rattle.carte_note.specs.declared.finished.Finished.{Finished}
 use Rattle.carte_note.specs.Right.{key_of}
 

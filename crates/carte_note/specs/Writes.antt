@@ -13,7 +13,8 @@ use Rattle.carte_record.specs.declared.trace.Trace.{Trace}
 use Rattle.carte_record.specs.declared.way.Way.{Way}
 use Rattle.carte_record.specs.declared.way.Way.TheVariants.{Verifying, Constructive, Deep}
 use Rattle.carte_record.specs.Kept.{is_fresh}
-use Rattle.carte_record.specs.Lookups.{first_entry, first_link, first_value}
+use Rattle.carte_table.specs.Lookups.{first_link, first_value}
+use Rattle.carte_record.specs.Lookups.{first_entry}
 use Rattle.carte_sound.specs.Begun.{is_digest}
 use Rattle.carte_sound.specs.Held.{How}
 use Rattle.carte_sound.specs.Left.{entry_eq, is_way}

@@ -1,7 +1,7 @@
 ghost use Rattle.std.specs.Prelude.{◌≡◌, ◌<◌, ◌^◌, ◌++◌, ◌∷◌, [], length, slice_get, option_copied, ◌==◌, is_ok, IfOk, OnOk, OnErr, ℕ, List, if◌then◌else◌};
 ghost use Rattle.std.specs.HashMap.{get};
-ghost use Rattle.carte_value.specs.Names.{name_eq};
-ghost use Rattle.carte_record.specs.Places.{AddsPlace};
+ghost use Rattle.carte_name.specs.Names.{name_eq};
+ghost use Rattle.carte_table.specs.Places.{AddsPlace};
 ghost use Rattle.carte_note.specs.Lists.{finished_of};
 
 use crate::Finished;
@@ -27,8 +27,8 @@ pub struct FinishedList {
 impl Model for FinishedList {
     ghost use Rattle.std.specs.Prelude.{List, length, ◌<◌, ◌^◌};
     ghost use Rattle.std.specs.HashMap.{get};
-    ghost use Rattle.carte_value.specs.Names.{name_eq};
-    ghost use Rattle.carte_record.specs.Places.{IsFirstPlaces};
+    ghost use Rattle.carte_name.specs.Names.{name_eq};
+    ghost use Rattle.carte_table.specs.Places.{IsFirstPlaces};
     ghost use Rattle.carte_note.specs.declared.finished.Finished.{Finished};
     ghost use Rattle.carte_note.specs.Lists.{is_of_key};
 

@@ -1,6 +1,6 @@
 ghost use Rattle.std.specs.Prelude.{◌≡◌, OnOk, is_some};
 ghost use Rattle.carte_book.specs.Book.{book_view};
-ghost use Rattle.carte_record.specs.Lookups.{first_link};
+ghost use Rattle.carte_table.specs.Lookups.{first_link};
 ghost use Rattle.carte_sound.specs.Begun.{is_digest};
 ghost use Rattle.carte_sound.specs.Marks.{present};
 ghost use Rattle.carte_note.specs.Writes.{with_seen, all_seen};

@@ -6,15 +6,16 @@ use Rattle.carte_value.specs.declared.digest.Digest.{Digest}
 use Rattle.carte_value.specs.declared.link.Link.{Link}
 use Rattle.carte_value.specs.declared.value.Value.{Value}
 use Rattle.carte_value.specs.Lists.{Has}
-use Rattle.carte_value.specs.Names.{name_eq}
+use Rattle.carte_name.specs.Names.{name_eq}
 use Rattle.carte_value.specs.Spelling.{digest_of}
 use Rattle.carte_value.specs.Truths.{Among, NoneTwice}
 use Rattle.carte_book.specs.Book.{Book}
 use Rattle.carte_record.specs.declared.batch.Batch.{Batch}
 use Rattle.carte_record.specs.declared.entry.Entry.{Entry}
 use Rattle.carte_record.specs.Kept.{SomeKept}
-use Rattle.carte_record.specs.Lookups.{digest_in, digest_eq, entry_in, find_last, first_value, is_link_of, is_value_of, link_in}
-use Rattle.carte_record.proofs.Names.{name_eq_is, name_eq_self}
+use Rattle.carte_table.specs.Lookups.{digest_in, digest_eq, find_last, first_value, is_link_of, is_value_of, link_in}
+use Rattle.carte_record.specs.Lookups.{entry_in}
+use Rattle.carte_table.proofs.Names.{name_eq_is, name_eq_self}
 use Rattle.carte_sound.specs.Carries.{Carries}
 use Rattle.carte_sound.specs.Lists.{EachOnce}
 use Rattle.carte_sound.proofs.Tests.{digest_self, same_digest}

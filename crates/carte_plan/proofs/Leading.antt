@@ -13,7 +13,7 @@ use Rattle.carte_record.specs.declared.way.Way.{Way}
 use Rattle.carte_record.specs.declared.way.Way.TheVariants.{Verifying, Constructive, Deep}
 use Rattle.carte_record.specs.Folds.{batch_traces, with_marks}
 use Rattle.carte_record.specs.Kept.{SomeKept, nothing_kept, traces_in}
-use Rattle.carte_record.proofs.Found.{or_none}
+use Rattle.carte_table.proofs.Found.{or_none}
 use Rattle.carte_sound.specs.Begun.{AreMarks, begin, has_rules_of}
 use Rattle.carte_sound.specs.Carries.{Carries}
 use Rattle.carte_sound.specs.Held.{How}

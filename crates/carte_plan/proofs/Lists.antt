@@ -3,7 +3,7 @@ use Rattle.std.proofs.Common.{◌≡◌, ℕ, Bool, true, false, not, ◌||◌, 
 use Rattle.std.specs.Prelude.{◌==◌}
 use Rattle.std.proofs.Math.Dec.{eqb-suc-zero}
 use Rattle.std.proofs.lemmas.List.Elements.{filter-append}
-use Rattle.carte_value.specs.Names.{name_eq}
+use Rattle.carte_name.specs.Names.{name_eq}
 use Rattle.carte_value.specs.Truths.{Among, NoneTwice}
 use Rattle.carte_value.proofs.Members.{among_right, among_left}
 use Rattle.carte_book.specs.Book.{Book}
@@ -13,7 +13,7 @@ use Rattle.carte_record.specs.declared.start.Start.TheVariants.{GoOn, Anew, Clea
 use Rattle.carte_record.specs.Empty.{goes_on, is_empty, brings_no_key, brings_no_trace}
 use Rattle.carte_record.specs.Folds.{is_among}
 use Rattle.carte_record.specs.Kept.{SomeKept}
-use Rattle.carte_record.proofs.Names.{name_eq_sym}
+use Rattle.carte_table.proofs.Names.{name_eq_sym}
 use Rattle.carte_sound.specs.Held.{How}
 use Rattle.carte_sound.specs.LeadsTo.{empty_batch, marks_left}
 use Rattle.carte_sound.specs.Left.{Finishes, keys_of, add, add_all, entry_left}

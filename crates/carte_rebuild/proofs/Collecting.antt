@@ -7,7 +7,7 @@ use Rattle.carte_value.specs.declared.value.Value.{Value}
 use Rattle.carte_task.specs.Checking.{Checking}
 use Rattle.carte_record.specs.declared.trace.Trace.{Trace}
 use Rattle.carte_record.specs.Lookups.{is_trace_of}
-use Rattle.carte_record.specs.Places.{places}
+use Rattle.carte_table.specs.Places.{places}
 use Rattle.carte_rebuild.specs.Earlier.{checks_for, checks_if, checks_in}
 
 module _ (wanted : Option Digest) (vs : List Value) (k : List ℕ) where

@@ -5,9 +5,9 @@ use denote.Enum.Declared as choice
 use denote.Struct.Declared as fields
 use Rattle.std.proofs.Crossing.{crosses, Box-send, Box-sync, Arc-send, Arc-sync}
 use Rattle.carte_value.proofs.area.Area.TheSendSync as area
-use Rattle.carte_value.proofs.kind.Kind.TheSendSync as kind
-use Rattle.carte_value.proofs.name.Name.TheSendSync as name
-use Rattle.carte_value.proofs.seeded.Seeded.TheSendSync as seeded
+use Rattle.carte_name.proofs.kind.Kind.TheSendSync as kind
+use Rattle.carte_name.proofs.name.Name.TheSendSync as name
+use Rattle.carte_name.proofs.seeded.Seeded.TheSendSync as seeded
 use Rattle.carte_value.proofs.text.Text.TheSendSync as text
 use Rattle.carte_tree.proofs.expr.Func.TheSendSync as func
 use Rattle.carte_tree.proofs.expr.Level.TheSendSync as level

@@ -3,7 +3,7 @@ use Rattle.std.proofs.Common.{◌≡◌, true, false, cond, List, [], ◌∷◌,
 use Rattle.carte_value.specs.declared.digest.Digest.{Digest}
 use Rattle.carte_value.specs.declared.value.Value.{Value}
 use Rattle.carte_value.specs.Spelling.{digest_of}
-use Rattle.carte_record.specs.Lookups.{is_value_of, first_value}
+use Rattle.carte_table.specs.Lookups.{is_value_of, first_value}
 use Rattle.carte_sound.proofs.Tests.{same_digest}
 
 pub own_digest : (vs : List Value) (d : Digest) (v : Value) → first_value vs d ≡ Some v → d ≡ digest_of v

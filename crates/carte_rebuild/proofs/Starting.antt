@@ -2,13 +2,14 @@
 use Rattle.std.proofs.Common.{◌≡◌, ℕ, Bool, true, false, cond, List, [], ◌∷◌, ◌++◌, ◌⊎◌, Option, Some, None, refl, ap, sym, ◌∙◌, subst, inl, inr}
 use Rattle.carte_value.specs.declared.digest.Digest.{Digest}
 use Rattle.carte_value.specs.declared.value.Value.{Value}
-use Rattle.carte_value.specs.Names.{name_eq}
+use Rattle.carte_name.specs.Names.{name_eq}
 use Rattle.carte_tree.specs.Meaning.{asks}
 use Rattle.carte_task.specs.Checking.{Checking}
 use Rattle.carte_book.specs.Book.{Book}
 use Rattle.carte_record.specs.declared.trace.Trace.{Trace}
 use Rattle.carte_record.specs.declared.way.Way.{Way}
-use Rattle.carte_record.specs.Lookups.{first_value, is_trace_of}
+use Rattle.carte_table.specs.Lookups.{first_value}
+use Rattle.carte_record.specs.Lookups.{is_trace_of}
 use Rattle.carte_record.specs.Kept.{SomeKept, traces_in}
 use Rattle.carte_value.specs.Lists.{Has}
 use Rattle.carte_sound.specs.Held.{IsTrusted}

@@ -1,6 +1,6 @@
 -- The traces of a key are those of the list with that key.
 use Rattle.std.proofs.Common.{◌≡◌, ℕ, Bool, true, false, not, cond, List, [], ◌∷◌, ◌⊎◌, filter, refl, ap, sym, ◌∙◌, subst, inl, inr}
-use Rattle.carte_value.specs.Names.{name_eq}
+use Rattle.carte_name.specs.Names.{name_eq}
 use Rattle.carte_record.specs.declared.trace.Trace.{Trace}
 use Rattle.carte_record.specs.Lookups.{trace_eq}
 use Rattle.carte_record.specs.Kept.{newest, traces_in}

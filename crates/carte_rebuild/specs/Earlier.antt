@@ -4,7 +4,8 @@ use Rattle.carte_value.specs.declared.digest.Digest.{Digest}
 use Rattle.carte_value.specs.declared.value.Value.{Value}
 use Rattle.carte_task.specs.Checking.{Checking}
 use Rattle.carte_record.specs.declared.trace.Trace.{Trace}
-use Rattle.carte_record.specs.Lookups.{digest_eq, is_trace_of, first_value}
+use Rattle.carte_table.specs.Lookups.{digest_eq, first_value}
+use Rattle.carte_record.specs.Lookups.{is_trace_of}
 
 -- the check of a trace that tells of this value
 abbrev pub check_of : List ℕ → Trace → Value → Checking

@@ -3,7 +3,7 @@ use Rattle.std.specs.Prelude.{ℕ, List, [], ◌∷◌, ◌++◌, Option, Some, 
 use Rattle.std.specs.Map.{lookup}
 use Rattle.carte_value.specs.declared.digest.Digest.{Digest}
 use Rattle.carte_value.specs.declared.link.Link.{Link}
-use Rattle.carte_value.specs.Names.{name_eq}
+use Rattle.carte_name.specs.Names.{name_eq}
 use Rattle.carte_value.specs.Spelling.{digest_of}
 use Rattle.carte_book.specs.Book.{Item, input, rule, Book, content}
 use Rattle.carte_effect.specs.declared.outcome.Made.{Made}

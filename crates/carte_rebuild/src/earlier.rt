@@ -1,5 +1,5 @@
 ghost use Rattle.std.specs.Prelude.{◌≡◌, ◌++◌, option_copied, IfOk, OnOk};
-ghost use Rattle.carte_record.specs.Lookups.{first_value};
+ghost use Rattle.carte_table.specs.Lookups.{first_value};
 ghost use Rattle.carte_rebuild.specs.Earlier.{is_wanted as wants, check_at, checks_if, checks_in};
 
 use crate::{Checks, stored};

@@ -1,5 +1,5 @@
 ghost use Rattle.std.specs.Prelude.{◌≡◌, IfOk};
-ghost use Rattle.carte_record.specs.Lookups.{first_value};
+ghost use Rattle.carte_table.specs.Lookups.{first_value};
 
 use carte_effect::Hashed;
 use carte_record::Store;

@@ -7,11 +7,12 @@ use Rattle.carte_record.specs.declared.start.Start.{Start}
 use Rattle.carte_record.specs.declared.start.Start.TheVariants.{GoOn, Anew, Cleared}
 use Rattle.carte_record.specs.declared.way.Way.{Way}
 use Rattle.carte_record.specs.declared.way.Way.TheVariants.{Verifying, Constructive, Deep}
-use Rattle.carte_record.specs.Lookups.{first_value, link_in, entry_in}
+use Rattle.carte_table.specs.Lookups.{first_value, link_in}
+use Rattle.carte_record.specs.Lookups.{entry_in}
 use Rattle.carte_record.specs.Kept.{traces_in, staled}
 use Rattle.carte_record.specs.Folds.{started, carried, batch_traces, is_among}
 use Rattle.carte_record.specs.Empty.{goes_on, brings_no_key, brings_no_trace, EmptyChangesNothing}
-use Rattle.carte_record.proofs.Found.{or_none}
+use Rattle.carte_table.proofs.Found.{or_none}
 use Rattle.carte_record.proofs.Growing.{kept_same}
 
 both : (b c : Bool) → b && c ≡ true → (b ≡ true) × (c ≡ true)

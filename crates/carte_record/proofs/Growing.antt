@@ -4,7 +4,7 @@ use Rattle.std.proofs.Math.Seq.{take-append_seam}
 use Rattle.std.specs.Prelude.{find, option_map, unwrap_or, is_some}
 use Rattle.std.specs.Option.{option_or}
 use Rattle.carte_value.specs.declared.digest.Digest.{Digest}
-use Rattle.carte_value.specs.Names.{name_eq}
+use Rattle.carte_name.specs.Names.{name_eq}
 use Rattle.carte_record.specs.declared.entry.Entry.{Entry}
 use Rattle.carte_record.specs.declared.trace.Trace.{Trace}
 use Rattle.carte_record.specs.declared.way.Way.{Way}
@@ -12,13 +12,14 @@ use Rattle.carte_record.specs.declared.way.Way.TheVariants.{Verifying, Construct
 use Rattle.carte_record.specs.declared.kept.Kept.{Kept}
 use Rattle.carte_record.specs.declared.batch.Batch.{Batch}
 use Rattle.carte_record.specs.declared.lengths.Lengths.{Lengths}
-use Rattle.carte_record.specs.Lookups.{first_link, link_in, first_entry, entry_in, first_value, digest_in, find_last, is_link_of, is_entry_of}
-use Rattle.carte_record.specs.Steps.{Begins, replaced_by, IsReady}
+use Rattle.carte_table.specs.Lookups.{first_link, link_in, first_value, digest_in, find_last, is_link_of}
+use Rattle.carte_record.specs.Lookups.{first_entry, entry_in, is_entry_of}
+use Rattle.carte_table.specs.Steps.{Begins, replaced_by, IsReady}
 use Rattle.carte_record.specs.Kept.{SomeKept, kept_view, kept_traces, newest, traces_in, staled}
 use Rattle.carte_record.specs.Folds.{is_among, batch_traces, carried}
 use Rattle.carte_record.specs.Growth.{Grows, AreLengthsOf, HasTraces, IsReadyIn, TakesEntries, Settles}
-use Rattle.carte_record.proofs.Found.{map_or, or_none}
-use Rattle.carte_record.proofs.Steps.{brought, moved, room_made, begins_self}
+use Rattle.carte_table.proofs.Found.{map_or, or_none}
+use Rattle.carte_table.proofs.Steps.{brought, moved, room_made, begins_self}
 
 -- what is alike is equal
 pub kept_same : (K L : SomeKept) → K.rules ≡ L.rules → ((k : List ℕ) → K.seen k ≡ L.seen k) → ((k : List ℕ) → K.entries k ≡ L.entries k) → ((w : Way) (k : List ℕ) → K.traces w k ≡ L.traces w k)

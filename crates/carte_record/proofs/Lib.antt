@@ -1,11 +1,3 @@
-pub mod FirstPlaces
-pub mod Names
-pub mod Fronts
-pub mod AllPlaces
-pub mod Found
-pub mod Steps
-pub mod Onces
-pub mod Changed
 pub mod Bodies
 pub mod Marks
 pub mod Growing

@@ -5,16 +5,17 @@ use Rattle.std.specs.Option.{option_or}
 use Rattle.carte_value.specs.declared.digest.Digest.{Digest}
 use Rattle.carte_value.specs.declared.link.Link.{Link}
 use Rattle.carte_value.specs.declared.value.Value.{Value}
-use Rattle.carte_value.specs.Names.{name_eq}
+use Rattle.carte_name.specs.Names.{name_eq}
 use Rattle.carte_value.specs.Truths.{Among, NoneTwice}
 use Rattle.carte_value.specs.Spelling.{digest_of}
 use Rattle.carte_record.specs.declared.entry.Entry.{Entry}
 use Rattle.carte_record.specs.declared.trace.Trace.{Trace}
 use Rattle.carte_record.specs.declared.kept.Kept.{Kept}
-use Rattle.carte_record.specs.Lookups.{digest_eq, links_eq, trace_eq, find_last, is_value_of, is_entry_of}
+use Rattle.carte_table.specs.Lookups.{digest_eq, find_last, is_value_of}
+use Rattle.carte_record.specs.Lookups.{links_eq, trace_eq, is_entry_of}
 use Rattle.carte_record.specs.Kept.{kept_view}
-use Rattle.carte_record.proofs.Names.{name_eq_is, name_eq_self}
-use Rattle.carte_record.proofs.Found.{or_none}
+use Rattle.carte_table.proofs.Names.{name_eq_is, name_eq_self}
+use Rattle.carte_table.proofs.Found.{or_none}
 
 pub find_passes : {A : Type 0} (p : A → Bool) (xs : List A) (x : A) → find p xs ≡ Some x → p x ≡ true
 find_passes p [] x is = cc

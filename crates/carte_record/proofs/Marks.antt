@@ -1,14 +1,14 @@
 -- Entries that are marked, one after the other.
 use Rattle.std.proofs.Common.{◌≡◌, ℕ, Bool, true, false, ◌||◌, List, [], ◌∷◌, ◌++◌, Option, Some, None, refl, ap, sym, ◌∙◌, subst}
 use Rattle.std.specs.Prelude.{option_map}
-use Rattle.carte_value.specs.Names.{name_eq}
+use Rattle.carte_name.specs.Names.{name_eq}
 use Rattle.carte_record.specs.declared.entry.Entry.{Entry}
 use Rattle.carte_record.specs.Lookups.{first_entry, is_entry_of}
-use Rattle.carte_record.specs.Changes.{change_first}
+use Rattle.carte_table.specs.Changes.{change_first}
 use Rattle.carte_record.specs.Kept.{staled}
 use Rattle.carte_record.specs.Folds.{is_among}
-use Rattle.carte_record.proofs.Names.{name_eq_is, name_eq_sym}
-use Rattle.carte_record.proofs.Changed.{find_changed, find_other}
+use Rattle.carte_table.proofs.Names.{name_eq_is, name_eq_sym}
+use Rattle.carte_table.proofs.Changed.{find_changed, find_other}
 
 or_false : (b : Bool) → b || false ≡ b
 or_false true = refl

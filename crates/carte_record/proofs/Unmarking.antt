@@ -1,20 +1,20 @@
 -- Marks that are put on and taken off again leave all as it was.
 use Rattle.std.proofs.Common.{◌≡◌, ℕ, Bool, true, false, cond, List, [], ◌∷◌, ◌++◌, ◌||◌, Option, Some, None, find, refl, ap, sym, ◌∙◌, inl, inr}
 use Rattle.std.specs.Prelude.{if◌then◌else◌, option_map}
-use Rattle.carte_value.specs.Names.{name_eq}
+use Rattle.carte_name.specs.Names.{name_eq}
 use Rattle.carte_value.specs.Truths.{Among, NoneTwice}
 use Rattle.carte_record.specs.declared.entry.Entry.{Entry}
 use Rattle.carte_record.specs.declared.kept.Kept.{Kept}
 use Rattle.carte_record.specs.declared.way.Way.{Way}
 use Rattle.carte_record.specs.declared.way.Way.TheVariants.{Verifying, Constructive, Deep}
-use Rattle.carte_record.specs.Changes.{change_first}
+use Rattle.carte_table.specs.Changes.{change_first}
 use Rattle.carte_record.specs.Folds.{is_among, with_marks}
 use Rattle.carte_record.specs.Kept.{kept_traces, kept_view, staled, traces_in}
 use Rattle.carte_record.specs.Lookups.{first_entry, is_entry_of}
 use Rattle.carte_record.specs.Marked.{CanBeMarked, all_marked, lists_marked, marked_as}
 use Rattle.carte_record.proofs.Growing.{kept_same}
 use Rattle.carte_record.proofs.Marks.{marked_more, none_marked}
-use Rattle.carte_record.proofs.Names.{name_eq_is}
+use Rattle.carte_table.proofs.Names.{name_eq_is}
 
 -- changes of items that are apart come in either order
 swapped : {A : Type 0} (p q : A → Bool) (f g : A → A) (xs : List A) → ((y : A) → p y ≡ true → q y ≡ false) → ((y : A) → p (g y) ≡ p y) → ((y : A) → q (f y) ≡ q y)

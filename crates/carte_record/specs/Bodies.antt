@@ -1,7 +1,7 @@
 -- How batches are spelled in bytes.
 use Rattle.std.specs.Prelude.{ℕ, List, [], ◌∷◌, ◌++◌, ◌≡◌, false, Option, Some, None, Result, Ok, Err}
 use Rattle.carte_value.specs.Spelling.{spelling, IsValue}
-use Rattle.carte_value.specs.declared.NoMemory.{NoMemory}
+use Rattle.carte_name.specs.declared.NoMemory.{NoMemory}
 use Rattle.carte_codec.specs.Parts.{spelled_name, FitsName, spelled_digest, FitsDigest, spelled_bool, spelled_option, FitsOption, spelled_list, FitsList, spelled_link, FitsLink}
 use Rattle.carte_record.specs.declared.codec.batch.Kind.{Kind}
 use Rattle.carte_record.specs.declared.start.Start.{Start}

@@ -1,14 +1,15 @@
 -- What a batch makes of what is kept.
 use Rattle.std.specs.Prelude.{ℕ, Bool, ◌||◌, List, [], ◌∷◌, Some, option_map, unwrap_or, false}
 use Rattle.std.specs.Option.{option_or}
-use Rattle.carte_value.specs.Names.{name_eq}
+use Rattle.carte_name.specs.Names.{name_eq}
 use Rattle.carte_record.specs.declared.trace.Trace.{Trace}
 use Rattle.carte_record.specs.declared.way.Way.{Way}
 use Rattle.carte_record.specs.declared.way.Way.TheVariants.{Verifying, Constructive, Deep}
 use Rattle.carte_record.specs.declared.start.Start.{Start}
 use Rattle.carte_record.specs.declared.start.Start.TheVariants.{GoOn, Anew, Cleared}
 use Rattle.carte_record.specs.declared.batch.Batch.{Batch}
-use Rattle.carte_record.specs.Lookups.{link_in, entry_in, first_value}
+use Rattle.carte_table.specs.Lookups.{link_in, first_value}
+use Rattle.carte_record.specs.Lookups.{entry_in}
 use Rattle.carte_record.specs.Kept.{SomeKept, nothing_kept, traces_in, staled}
 
 abbrev pub is_among : List (List ℕ) → List ℕ → Bool

@@ -8,8 +8,9 @@ use Rattle.carte_record.specs.declared.entry.Entry.{Entry}
 use Rattle.carte_record.specs.declared.trace.Trace.{Trace}
 use Rattle.carte_record.specs.declared.kept.Kept.{Kept}
 use Rattle.carte_record.specs.declared.lengths.Lengths.{Lengths}
-use Rattle.carte_record.specs.Lookups.{first_value, first_entry, entry_in, is_link_of, is_entry_of}
-use Rattle.carte_record.specs.Steps.{Begins, replaced_by, IsReady, TakesIn}
+use Rattle.carte_table.specs.Lookups.{first_value, is_link_of}
+use Rattle.carte_record.specs.Lookups.{first_entry, entry_in, is_entry_of}
+use Rattle.carte_table.specs.Steps.{Begins, replaced_by, IsReady, TakesIn}
 use Rattle.carte_record.specs.Kept.{staled}
 use Rattle.carte_record.specs.Folds.{is_among}
 

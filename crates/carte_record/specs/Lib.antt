@@ -1,9 +1,4 @@
 pub mod Lookups
-pub mod Changes
-pub mod Places
-pub mod DigestKeys
-pub mod Steps
-pub mod KeyPlaces
 pub mod Kept
 pub mod Folds
 pub mod Bodies

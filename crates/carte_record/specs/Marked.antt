@@ -3,7 +3,7 @@ use Rattle.std.specs.Prelude.{ℕ, ◌≡◌, Bool, true, false, List, [], ◌�
 use Rattle.carte_value.specs.Truths.{Among, NoneTwice}
 use Rattle.carte_record.specs.declared.entry.Entry.{Entry}
 use Rattle.carte_record.specs.declared.kept.Kept.{Kept}
-use Rattle.carte_record.specs.Changes.{change_first}
+use Rattle.carte_table.specs.Changes.{change_first}
 use Rattle.carte_record.specs.Lookups.{first_entry, is_entry_of}
 
 abbrev pub marked_as : Bool → Entry → Entry

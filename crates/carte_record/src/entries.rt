@@ -1,18 +1,18 @@
 ghost use Rattle.std.specs.Prelude.{◌≡◌, ◌<◌, ◌^◌, ◌∷◌, ◌++◌, [], List, length, slice_get, option_copied, ◌==◌, is_ok, take, IfOk, OnOk, OnErr, IsTrue, ℕ, Bool, option_map, if◌then◌else◌};
 ghost use Rattle.std.specs.HashMap.{get};
-ghost use Rattle.carte_value.specs.Names.{name_eq};
+ghost use Rattle.carte_name.specs.Names.{name_eq};
 ghost use Rattle.carte_record.specs.Lookups.{first_entry, is_entry_of};
 ghost use Rattle.carte_record.specs.Kept.{staled};
 ghost use Rattle.carte_record.specs.Marked.{all_marked, marked_as};
-ghost use Rattle.carte_record.specs.Places.{first_place, IsFirstPlaces};
-ghost use Rattle.carte_record.specs.Changes.{change_first, front};
+ghost use Rattle.carte_table.specs.Places.{first_place, IsFirstPlaces};
+ghost use Rattle.carte_table.specs.Changes.{change_first, front};
 ghost use Rattle.carte_record.specs.Folds.{is_among};
-ghost use Rattle.carte_record.specs.Steps.{Begins, Replaces, HasRoomFor, HasRoom, CanBecome, IsReady};
+ghost use Rattle.carte_table.specs.Steps.{Begins, Replaces, HasRoomFor, HasRoom, CanBecome, IsReady};
 ghost use Rattle.carte_record.specs.Growth.{TakesEntries};
 ghost use Rattle.carte_record.specs.declared.entry.Entry.{Entry as SomeEntry};
 
 use crate::Entry;
-use crate::table::{Table, add, each_once, first, forget, place, push, set, widen};
+use carte_table::table::{Table, add, each_once, first, forget, place, push, set, widen};
 use carte_value::{Name, Names, NoMemory, Same, Seeded};
 use std::alloc::Global;
 use std::marker::Model;
@@ -28,9 +28,9 @@ pub struct Entries {
 impl Model for Entries {
     ghost use Rattle.std.specs.Prelude.{List, length, ◌<◌, ◌^◌};
     ghost use Rattle.std.specs.HashMap.{get};
-    ghost use Rattle.carte_value.specs.Names.{name_eq};
+    ghost use Rattle.carte_name.specs.Names.{name_eq};
     ghost use Rattle.carte_record.specs.declared.entry.Entry.{Entry};
-    ghost use Rattle.carte_record.specs.Places.{IsFirstPlaces};
+    ghost use Rattle.carte_table.specs.Places.{IsFirstPlaces};
     ghost use Rattle.carte_record.specs.Lookups.{is_entry_of};
 
     ghost Value = { List Entry };

@@ -1,16 +1,16 @@
 ghost use Rattle.std.specs.Prelude.{◌≡◌, ◌<◌, ◌^◌, ◌∷◌, ◌++◌, [], List, length, slice_get, option_copied, ◌==◌, is_ok, take, IfOk, if◌then◌else◌};
 ghost use Rattle.std.specs.Prelude.{ℕ, OnOk, OnErr};
 ghost use Rattle.std.specs.HashMap.{get};
-ghost use Rattle.carte_value.specs.Names.{name_eq};
+ghost use Rattle.carte_name.specs.Names.{name_eq};
 ghost use Rattle.carte_record.specs.Lookups.{is_trace_of};
-ghost use Rattle.carte_record.specs.Places.{places, ArePlaces, AddsToPlaces, DropsPlace};
-ghost use Rattle.carte_record.specs.Changes.{front};
-ghost use Rattle.carte_record.specs.Steps.{Begins};
-ghost use Rattle.carte_record.specs.KeyPlaces.{places_in};
+ghost use Rattle.carte_table.specs.Places.{places, ArePlaces, AddsToPlaces, DropsPlace};
+ghost use Rattle.carte_table.specs.Changes.{front};
+ghost use Rattle.carte_table.specs.Steps.{Begins};
+ghost use Rattle.carte_table.specs.KeyPlaces.{places_in};
 
 use crate::Trace;
-use crate::places::Places;
-use crate::table::{MOST, Table, make_place, widen};
+use carte_table::Places;
+use carte_table::table::{MOST, Table, make_place, widen};
 use carte_value::{Name, NoMemory, Same, Seeded};
 use std::alloc::Global;
 use std::marker::Model;
@@ -26,10 +26,10 @@ pub struct Traces {
 impl Model for Traces {
     ghost use Rattle.std.specs.Prelude.{List, length, ◌<◌, ◌^◌};
     ghost use Rattle.std.specs.HashMap.{get};
-    ghost use Rattle.carte_value.specs.Names.{name_eq};
+    ghost use Rattle.carte_name.specs.Names.{name_eq};
     ghost use Rattle.carte_record.specs.declared.trace.Trace.{Trace};
-    ghost use Rattle.carte_record.specs.Places.{ArePlaces};
-    ghost use Rattle.carte_record.specs.KeyPlaces.{places_in};
+    ghost use Rattle.carte_table.specs.Places.{ArePlaces};
+    ghost use Rattle.carte_table.specs.KeyPlaces.{places_in};
     ghost use Rattle.carte_record.specs.Lookups.{is_trace_of};
 
     ghost Value = { List Trace };

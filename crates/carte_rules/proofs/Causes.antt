@@ -2,7 +2,7 @@
 use Rattle.std.proofs.Common.{ℕ, Bool, true, false, cond, List, length, nat_lt, Option, Some, None, is_some, codes, Result, Ok, Err, sym, subst}
 use Rattle.std.specs.FinMap.{get, insert, empty, entries}
 use Rattle.toml.specs.Data.{Data, string, integer, float, boolean, datetime, array, table, Members, no_members, member, as_str}
-use Rattle.carte_value.specs.Names.{is_rule_name, name_eq}
+use Rattle.carte_name.specs.Names.{is_rule_name, name_eq}
 use Rattle.carte_tree.specs.Tree.{Tree}
 use Rattle.carte_tree.specs.declared.fault.FormulaFault.{FormulaFault}
 use Rattle.carte_tree.specs.declared.fault.FormulaFault.TheVariants.{BadToken, BadSyntax, TooDeep, TooLong, TooWide, NoMemory}

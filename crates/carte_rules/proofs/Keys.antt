@@ -3,7 +3,7 @@ use Rattle.std.proofs.Common.{◌≡◌, ℕ, Bool, true, false, cond, List, Opt
 use Rattle.std.specs.FinMap.{get, insert}
 use Rattle.toml.specs.Data.{Data, as_str}
 use Rattle.carte_value.specs.declared.value.Value.{Value}
-use Rattle.carte_value.specs.Names.{is_rule_name}
+use Rattle.carte_name.specs.Names.{is_rule_name}
 use Rattle.carte_tree.specs.Tree.{Tree}
 use Rattle.carte_book.specs.Book.{Item, input}
 use Rattle.carte_book.specs.declared.fault.BookFault.{BookFault}

@@ -2,7 +2,7 @@
 use Rattle.std.proofs.Common.{ℕ, List, Result, Ok, Err, refl}
 use Rattle.std.specs.FinMap.{insert, empty}
 use Rattle.toml.specs.Data.{Data, Members, no_members, member}
-use Rattle.carte_value.specs.declared.kind.Kind.TheVariants.{Rules}
+use Rattle.carte_name.specs.declared.kind.Kind.TheVariants.{Rules}
 use Rattle.carte_formula.specs.Whole.{reading}
 use Rattle.carte_formula.proofs.Round.{reads_reading, told_reading}
 use Rattle.carte_book.specs.Book.{rule}

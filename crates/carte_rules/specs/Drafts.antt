@@ -2,7 +2,7 @@
 use Rattle.std.specs.Prelude.{ℕ, ◌≡◌, ◌<◌, ◌≤◌, ◌||◌, List, length, None, is_some}
 use Rattle.std.specs.FinMap.{get, entries}
 use Rattle.std.specs.BTreeSet.{contains, btree_set_len}
-use Rattle.carte_value.specs.Names.{name_cmp}
+use Rattle.carte_name.specs.Names.{name_cmp}
 use Rattle.carte_book.specs.Book.{book_view}
 use Rattle.carte_rules.specs.Reading.{Content}
 use Rattle.carte_rules.specs.declared.draft.Draft.{Draft}

@@ -2,10 +2,10 @@
 use Rattle.std.specs.Prelude.{ℕ, ◌≡◌, ◌≤◌, nat_le, nat_lt, List, length, Option, Some, None, is_some, Result, Ok, Err, if◌then◌else◌}
 use Rattle.std.specs.FinMap.{FinMap, get, insert, empty, entries}
 use Rattle.toml.specs.Data.{Data, string, integer, Members, no_members, member, as_str}
-use Rattle.carte_value.specs.declared.kind.Kind.TheVariants.{Rules}
+use Rattle.carte_name.specs.declared.kind.Kind.TheVariants.{Rules}
 use Rattle.carte_value.specs.declared.value.Value.{Value}
 use Rattle.carte_value.specs.declared.value.Value.TheVariants.{Number, Text}
-use Rattle.carte_value.specs.Names.{name_cmp, is_rule_name}
+use Rattle.carte_name.specs.Names.{name_cmp, is_rule_name}
 use Rattle.carte_tree.specs.Tree.{Tree}
 use Rattle.carte_tree.specs.declared.fault.FormulaFault.{FormulaFault}
 use Rattle.carte_formula.specs.Whole.{Reads, IsTold, reading}

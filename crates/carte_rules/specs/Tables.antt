@@ -3,7 +3,7 @@ use Rattle.std.specs.Prelude.{ℕ, nat_lt, List, codes, length, Option, Some, No
 use Rattle.std.specs.Str.{is_utf8}
 use Rattle.toml.specs.Data.{Data, table, Members, no_members, member}
 use Rattle.toml.specs.Parse.{parse_document}
-use Rattle.carte_value.specs.Names.{name_eq}
+use Rattle.carte_name.specs.Names.{name_eq}
 use Rattle.carte_book.specs.declared.fault.Which.TheVariants.{Bytes}
 use Rattle.carte_book.specs.declared.fault.BookFault.{BookFault}
 use Rattle.carte_book.specs.declared.fault.BookFault.TheVariants.{Limit, NotToml, BadTable}

@@ -1,5 +1,5 @@
 ghost use Rattle.std.specs.Prelude.{◌≡◌};
-ghost use Rattle.carte_value.specs.declared.kind.Kind.TheVariants.{Rules};
+ghost use Rattle.carte_name.specs.declared.kind.Kind.TheVariants.{Rules};
 ghost use Rattle.carte_book.specs.Book.{book_view};
 
 use carte_book::Book;

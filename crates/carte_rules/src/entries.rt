@@ -2,7 +2,7 @@
 ghost use Rattle.std.specs.Prelude.{◌≡◌, None, IfOk};
 ghost use Rattle.std.specs.FinMap.{empty, get};
 ghost use Rattle.std.specs.List.Sorted.{IsStrictlySortedBy};
-ghost use Rattle.carte_value.specs.Names.{name_cmp};
+ghost use Rattle.carte_name.specs.Names.{name_cmp};
 ghost use Rattle.carte_rules.specs.Drafts.{Holds, HoldsSome, IsFree};
 ghost use Rattle.carte_rules.specs.Entries.{data_of, keys_of, members_of};
 ghost use Rattle.carte_rules.specs.Reading.{Content, input_into, inputs_into, value_of};

@@ -1,7 +1,7 @@
 ghost use Rattle.std.specs.Prelude.{◌≡◌, ◌↔◌, ◌≤◌, None, is_some, length, IsTrue, OnOk};
 ghost use Rattle.std.specs.FinMap.{empty, get, insert, entries};
-ghost use Rattle.carte_value.specs.declared.kind.Kind.TheVariants.{Rules};
-ghost use Rattle.carte_value.specs.Names.{is_rule_name};
+ghost use Rattle.carte_name.specs.declared.kind.Kind.TheVariants.{Rules};
+ghost use Rattle.carte_name.specs.Names.{is_rule_name};
 ghost use Rattle.carte_tree.specs.Code.{tree_of};
 ghost use Rattle.carte_tree.specs.Formula.{IsExpr, HasNames};
 ghost use Rattle.carte_book.specs.Book.{Item, input, rule, book_view};

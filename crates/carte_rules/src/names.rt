@@ -1,6 +1,6 @@
 ghost use Rattle.std.specs.Prelude.{◌≡◌, IsTrue, IfOk};
 ghost use Rattle.carte_book.specs.declared.fault.BookFault.TheVariants.{BadName};
-ghost use Rattle.carte_value.specs.Names.{is_rule_name};
+ghost use Rattle.carte_name.specs.Names.{is_rule_name};
 ghost use Rattle.carte_rules.specs.Drafts.{Holds};
 ghost use Rattle.carte_rules.specs.Reading.{Content, name_of, new_name};
 ghost use Rattle.carte_rules.specs.Steps.{Gives, IsCause};

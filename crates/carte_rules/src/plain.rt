@@ -2,7 +2,7 @@
 ghost use Rattle.std.specs.Prelude.{◌≡◌, ◌≤◌, Some, length, IsTrue, IfSome, IsPermutation};
 ghost use Rattle.std.specs.List.Sorted.{IsStrictlySortedBy};
 ghost use Rattle.toml.specs.Parse.{parse_document};
-ghost use Rattle.carte_value.specs.Names.{name_cmp};
+ghost use Rattle.carte_name.specs.Names.{name_cmp};
 ghost use Rattle.carte_rules.specs.Entries.{keys_of, document_of, ReadsPairs};
 
 use crate::entry::{Entry, PlainTables};

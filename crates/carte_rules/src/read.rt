@@ -2,7 +2,7 @@ ghost use Rattle.std.specs.Prelude.{◌≡◌, ◌≤◌, Some, length, IfSome, 
 ghost use Rattle.std.specs.List.Sorted.{IsStrictlySortedBy};
 ghost use Rattle.toml.specs.View.{table_view};
 ghost use Rattle.toml.specs.Parse.{parse_document};
-ghost use Rattle.carte_value.specs.Names.{name_cmp};
+ghost use Rattle.carte_name.specs.Names.{name_cmp};
 ghost use Rattle.carte_rules.specs.Entries.{keys_of, document_of, plain_view};
 ghost use Rattle.carte_book.specs.Book.{book_view};
 ghost use Rattle.carte_rules.specs.Found.{tables_view};

@@ -1,6 +1,6 @@
 ghost use Rattle.std.specs.Prelude.{◌≡◌, None, IsTrue};
 ghost use Rattle.std.specs.FinMap.{get};
-ghost use Rattle.carte_value.specs.Names.{is_rule_name};
+ghost use Rattle.carte_name.specs.Names.{is_rule_name};
 ghost use Rattle.toml.specs.View.{view, table_view};
 ghost use Rattle.carte_rules.specs.Drafts.{Holds, HoldsSome, IsFree};
 ghost use Rattle.carte_rules.specs.Reading.{Content};

@@ -5,9 +5,9 @@ use Rattle.std.specs.FinMap.{get, insert, empty, get-insert, get-empty}
 use Rattle.std.proofs.lemmas.Bool.{false≢true}
 use Rattle.std.proofs.lemmas.Bool.Decides.{nat_tests}
 use Rattle.std.proofs.lemmas.Cmp.{nat_list_cmp_total}
-use Rattle.carte_value.specs.Names.{name_cmp, is_cell_name}
-use Rattle.carte_value.specs.Areas.{cell_at, row_of, column_of, IsPlace}
-use Rattle.carte_value.proofs.Sides.{cells_by_place}
+use Rattle.carte_name.specs.Names.{name_cmp, is_cell_name}
+use Rattle.carte_name.specs.Places.{cell_at, row_of, column_of, IsPlace}
+use Rattle.carte_name.proofs.Places.{cells_by_place}
 use Rattle.carte_book.proofs.Clean.{tied_name}
 use Rattle.carte_book.specs.Book.{Item}
 use Rattle.carte_book.specs.declared.fault.BookFault.TheVariants.{Limit}

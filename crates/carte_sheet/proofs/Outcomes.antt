@@ -8,7 +8,7 @@ use Rattle.std.specs.FinMap.{empty}
 use Rattle.std.proofs.lemmas.Bool.{false≢true, ltb-true, lt-ltb}
 use Rattle.std.proofs.lemmas.Bool.Decides.{nat_tests}
 use Rattle.carte_value.specs.Reading.{IsNumberText}
-use Rattle.carte_value.specs.declared.kind.Kind.TheVariants.{Sheet}
+use Rattle.carte_name.specs.declared.kind.Kind.TheVariants.{Sheet}
 use Rattle.carte_value.specs.declared.value.Value.TheVariants.{Number, Text}
 use Rattle.carte_formula.specs.Whole.{reading}
 use Rattle.carte_formula.proofs.Round.{reads_reading, told_reading}

@@ -2,7 +2,7 @@
 use Rattle.std.proofs.Common.{◌≡◌, ℕ, ℤ, ◌<◌, ◌==◌, ◌+◌, Bool, true, false, List, [], ◌∷◌, length, drop, Result, Ok, Err, ap, sym, ◌∙◌, subst, arith}
 use Rattle.std.specs.Prelude.{MatchBool, slice_index}
 use Rattle.std.specs.FinMap.{empty}
-use Rattle.carte_value.specs.declared.kind.Kind.TheVariants.{Sheet}
+use Rattle.carte_name.specs.declared.kind.Kind.TheVariants.{Sheet}
 use Rattle.carte_value.specs.declared.value.Value.{Value}
 use Rattle.carte_value.specs.declared.value.Value.TheVariants.{Number, Text, Empty, Bad}
 use Rattle.carte_formula.proofs.Round.{one_reading}

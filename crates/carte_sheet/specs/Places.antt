@@ -1,7 +1,7 @@
 -- Contents that have cells in front of a place alone.
 use Rattle.std.specs.Prelude.{ℕ, ◌≡◌, ◌<◌, ◌⊎◌, true, List, is_some}
 use Rattle.std.specs.FinMap.{get}
-use Rattle.carte_value.specs.Areas.{row_of, column_of}
+use Rattle.carte_name.specs.Places.{row_of, column_of}
 use Rattle.carte_sheet.specs.Reading.{Content}
 
 -- row by row, and in a row from left to right

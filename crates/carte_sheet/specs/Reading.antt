@@ -6,11 +6,11 @@ use Rattle.std.specs.Str.Parse.{without_leading_sign, signed_digits_value}
 use Rattle.std.specs.List.{list_all, starts_with}
 use Rattle.std.specs.FinMap.{FinMap, insert, empty, entries}
 use Rattle.csv.specs.Reading.{default_config, records, strip_bom}
-use Rattle.carte_value.specs.declared.kind.Kind.TheVariants.{Sheet}
+use Rattle.carte_name.specs.declared.kind.Kind.TheVariants.{Sheet}
 use Rattle.carte_value.specs.declared.value.Value.{Value}
 use Rattle.carte_value.specs.declared.value.Value.TheVariants.{Number, Text, Empty, Bad}
-use Rattle.carte_value.specs.Areas.{cell_at}
-use Rattle.carte_value.specs.Names.{name_cmp}
+use Rattle.carte_name.specs.Places.{cell_at}
+use Rattle.carte_name.specs.Names.{name_cmp}
 use Rattle.carte_value.specs.Reading.{IsNumberText}
 use Rattle.carte_tree.specs.Tree.{Tree}
 use Rattle.carte_tree.specs.declared.fault.FormulaFault.{FormulaFault}

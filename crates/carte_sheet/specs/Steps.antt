@@ -3,7 +3,7 @@ use Rattle.std.specs.Prelude.{ℕ, ◌≡◌, ◌+◌, ⊤, List, Option, Some, 
 use Rattle.std.specs.FinMap.{insert}
 use Rattle.csv.specs.declared.error.ErrorKind.{ErrorKind}
 use Rattle.csv.specs.declared.error.ErrorKind.TheVariants as kind
-use Rattle.carte_value.specs.declared.NoMemory.{NoMemory as NoValueMemory}
+use Rattle.carte_name.specs.declared.NoMemory.{NoMemory as NoValueMemory}
 use Rattle.carte_value.specs.declared.value.Value.{Value}
 use Rattle.carte_tree.specs.declared.fault.FormulaFault.TheVariants.{NoMemory as NoFormulaMemory}
 use Rattle.carte_book.specs.Book.{Item, Book, book_view}

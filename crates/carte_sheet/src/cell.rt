@@ -1,6 +1,6 @@
 ghost use Rattle.std.specs.Prelude.{◌≡◌, ◌≤◌, ◌==◌, None, IsTrue, IfOk, slice_index};
 ghost use Rattle.std.specs.FinMap.{get};
-ghost use Rattle.carte_value.specs.Names.{is_cell_name};
+ghost use Rattle.carte_name.specs.Names.{is_cell_name};
 ghost use Rattle.carte_sheet.specs.Drafts.{Holds};
 ghost use Rattle.carte_sheet.specs.Reading.{Content, cell_of, ValueOf, FormulaOf, ItemOf};
 ghost use Rattle.carte_sheet.specs.Steps.{Gives, IsValueOf, LeavesItem, LeavesFilled, LeavesField};

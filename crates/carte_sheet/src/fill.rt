@@ -1,7 +1,7 @@
 ghost use Rattle.std.specs.Prelude.{◌≡◌, ◌↔◌, ◌≤◌, ℕ, List, None, length, IsTrue, OnOk};
 ghost use Rattle.std.specs.FinMap.{empty, get, insert, entries};
-ghost use Rattle.carte_value.specs.declared.kind.Kind.TheVariants.{Sheet};
-ghost use Rattle.carte_value.specs.Names.{is_cell_name};
+ghost use Rattle.carte_name.specs.declared.kind.Kind.TheVariants.{Sheet};
+ghost use Rattle.carte_name.specs.Names.{is_cell_name};
 ghost use Rattle.carte_tree.specs.Code.{tree_of};
 ghost use Rattle.carte_tree.specs.Formula.{IsExpr, HasNames};
 ghost use Rattle.carte_book.specs.Book.{Item, input, rule, book_view};

@@ -1,6 +1,6 @@
 // A line that sets an input, and the digest of the rules, which it doesn't change.
 ghost use Rattle.std.specs.Prelude.{◌≡◌, IfOk, IsTrue, MatchResult, Some, string_bytes};
-ghost use Rattle.carte_value.specs.Kinds.{is_name_of};
+ghost use Rattle.carte_name.specs.Kinds.{is_name_of};
 ghost use Rattle.carte_value.specs.declared.digest.Digest.{Digest as SomeDigest};
 ghost use Rattle.carte_book.specs.Book.{book_view};
 ghost use Rattle.carte_book.specs.Digest.{rules_digest_of};

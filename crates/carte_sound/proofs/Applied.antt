@@ -10,7 +10,8 @@ use Rattle.carte_record.specs.declared.start.Start.TheVariants.{GoOn, Anew}
 use Rattle.carte_record.specs.declared.way.Way.{Way}
 use Rattle.carte_record.specs.Folds.{is_among, batch_traces, with_marks, started, carried, apply}
 use Rattle.carte_record.specs.Kept.{SomeKept, nothing_kept, traces_in, staled}
-use Rattle.carte_record.specs.Lookups.{link_in, entry_in, first_value}
+use Rattle.carte_table.specs.Lookups.{link_in, first_value}
+use Rattle.carte_record.specs.Lookups.{entry_in}
 use Rattle.carte_sound.specs.Begun.{has_rules_of, begin}
 use Rattle.carte_sound.specs.Held.{How}
 use Rattle.carte_sound.specs.Left.{opened, Finishes, keys_of, add, add_all, left}

@@ -2,12 +2,13 @@
 use Rattle.std.proofs.Common.{◌≡◌, ℕ, Bool, true, false, not, ◌&&◌, cond, List, [], ◌∷◌, filter, refl, ap, inl, inr}
 use Rattle.carte_value.specs.declared.digest.Digest.{Digest}
 use Rattle.carte_value.specs.declared.link.Link.{Link}
-use Rattle.carte_value.specs.Names.{name_eq}
+use Rattle.carte_name.specs.Names.{name_eq}
 use Rattle.carte_book.specs.Book.{Book}
 use Rattle.carte_record.specs.declared.trace.Trace.{Trace}
 use Rattle.carte_record.specs.declared.way.Way.{Way}
 use Rattle.carte_record.specs.Kept.{SomeKept, newest}
-use Rattle.carte_record.specs.Lookups.{digest_eq, links_eq, trace_eq}
+use Rattle.carte_table.specs.Lookups.{digest_eq}
+use Rattle.carte_record.specs.Lookups.{links_eq, trace_eq}
 use Rattle.carte_value.specs.Lists.{Has}
 use Rattle.carte_sound.specs.True.{trace_of}
 use Rattle.carte_sound.specs.Held.{How, tracing}

@@ -1,6 +1,6 @@
 -- The entry of a finished key isn't stale, so its mark need not be carried.
 use Rattle.std.proofs.Common.{◌≡◌, ◌⊎◌, ℕ, Bool, true, false, not, ◌&&◌, ◌||◌, cond, List, [], ◌∷◌, filter, Option, Some, None, option_map, refl, ap, sym, ◌∙◌, inl, inr}
-use Rattle.carte_value.specs.Names.{name_eq}
+use Rattle.carte_name.specs.Names.{name_eq}
 use Rattle.carte_value.specs.Truths.{Among}
 use Rattle.carte_book.specs.Book.{Book}
 use Rattle.carte_record.specs.declared.entry.Entry.{Entry}

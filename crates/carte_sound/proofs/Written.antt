@@ -2,7 +2,7 @@
 use Rattle.std.proofs.Common.{◌≡◌, ◌⊎◌, ℕ, Bool, true, false, not, ◌&&◌, cond, List, Option, Some, None, is_some, refl, ap, sym, ◌∙◌, inl, inr}
 use Rattle.carte_value.specs.declared.digest.Digest.{Digest}
 use Rattle.carte_value.specs.declared.value.Value.{Value}
-use Rattle.carte_value.specs.Names.{name_eq}
+use Rattle.carte_name.specs.Names.{name_eq}
 use Rattle.carte_value.specs.Spelling.{digest_of}
 use Rattle.carte_value.specs.Truths.{Among}
 use Rattle.carte_book.specs.Book.{input, Book, content, clean}
@@ -10,7 +10,8 @@ use Rattle.carte_record.specs.declared.trace.Trace.{Trace}
 use Rattle.carte_record.specs.declared.way.Way.{Way}
 use Rattle.carte_record.specs.Folds.{is_among}
 use Rattle.carte_record.specs.Kept.{SomeKept, newest}
-use Rattle.carte_record.specs.Lookups.{digest_eq, trace_eq}
+use Rattle.carte_table.specs.Lookups.{digest_eq}
+use Rattle.carte_record.specs.Lookups.{trace_eq}
 use Rattle.carte_value.specs.Lists.{Has}
 use Rattle.carte_sound.specs.Marks.{digest_in, present}
 use Rattle.carte_sound.specs.True.{digest_or, trace_of}

@@ -6,7 +6,7 @@ use Rattle.carte_book.specs.Book.{Book}
 use Rattle.carte_book.specs.Digest.{rules_digest_of}
 use Rattle.carte_record.specs.Folds.{with_marks}
 use Rattle.carte_record.specs.Kept.{SomeKept, nothing_kept}
-use Rattle.carte_record.specs.Lookups.{digest_eq}
+use Rattle.carte_table.specs.Lookups.{digest_eq}
 use Rattle.carte_sound.specs.Marks.{IsMarked}
 
 abbrev pub is_digest : Option Digest → Digest → Bool

@@ -11,7 +11,8 @@ use Rattle.carte_record.specs.declared.entry.Entry.{Entry}
 use Rattle.carte_record.specs.declared.way.Way.{Way}
 use Rattle.carte_record.specs.Folds.{batch_traces}
 use Rattle.carte_record.specs.Kept.{SomeKept, traces_in}
-use Rattle.carte_record.specs.Lookups.{link_in, entry_in, first_value}
+use Rattle.carte_table.specs.Lookups.{link_in, first_value}
+use Rattle.carte_record.specs.Lookups.{entry_in}
 use Rattle.carte_sound.specs.Lists.{EachOnce}
 use Rattle.carte_sound.specs.Marks.{present}
 

@@ -2,12 +2,12 @@
 use Rattle.std.specs.Prelude.{ℕ, Bool, true, false, not, ◌&&◌, List, [], ◌∷◌, Option, Some, None, is_some, if◌then◌else◌}
 use Rattle.carte_value.specs.declared.digest.Digest.{Digest}
 use Rattle.carte_value.specs.declared.value.Value.{Value}
-use Rattle.carte_value.specs.Names.{name_eq}
+use Rattle.carte_name.specs.Names.{name_eq}
 use Rattle.carte_book.specs.Book.{Book, clean}
 use Rattle.carte_book.specs.Digest.{rules_digest_of}
 use Rattle.carte_record.specs.Folds.{is_among}
 use Rattle.carte_record.specs.Kept.{SomeKept, put_at, newest, is_fresh}
-use Rattle.carte_record.specs.Lookups.{digest_eq}
+use Rattle.carte_table.specs.Lookups.{digest_eq}
 use Rattle.carte_record.specs.declared.entry.Entry.{Entry}
 use Rattle.carte_record.specs.declared.way.Way.{Way}
 use Rattle.carte_record.specs.declared.way.Way.TheVariants.{Verifying, Constructive, Deep}

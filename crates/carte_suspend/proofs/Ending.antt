@@ -2,7 +2,7 @@
 use Rattle.std.proofs.Common.{◌≡◌, ◌⊎◌, ℕ, Bool, true, false, List, [], ◌∷◌, Option, Some, None, refl, sym, ◌∙◌, subst, inl, inr}
 use Rattle.std.proofs.lemmas.Bool.{cases_Bool}
 use Rattle.std.specs.Map.{lookup}
-use Rattle.carte_value.specs.Names.{name_eq}
+use Rattle.carte_name.specs.Names.{name_eq}
 use Rattle.carte_value.specs.Truths.{Truth, Among, HasValue}
 use Rattle.carte_effect.specs.Ledger.{Ledger}
 use Rattle.carte_book.specs.Book.{Item, input, rule, Book, content, clean}

@@ -2,7 +2,7 @@
 use Rattle.std.proofs.Common.{◌≡◌, ℕ, ◌+◌, ◌<◌, ◌≤◌, true, false, cond, List, [], ◌∷◌, Option, Some, None, is_none, Bool, refl, sym, ◌∙◌, inl, inr, arith}
 use Rattle.std.specs.FinMap.{entries, find, get-entries}
 use Rattle.std.specs.Ordering.{eq_by_cmp}
-use Rattle.carte_value.specs.Names.{name_cmp}
+use Rattle.carte_name.specs.Names.{name_cmp}
 use Rattle.carte_book.specs.Book.{Item, rule, Book}
 use Rattle.carte_book.specs.Needs.{IsRule}
 use Rattle.carte_book.proofs.Clean.{rule_held, tied_name}

@@ -3,14 +3,14 @@ use Rattle.std.proofs.Common.{◌≡◌, ℕ, ◌+◌, ◌<◌, Bool, true, fals
 use Rattle.std.proofs.Math.Seq.{drop-cons}
 use Rattle.std.specs.Cmp.Lexicographic.{bytes_decides, nat_list_eq_equiv}
 use Rattle.carte_value.specs.declared.value.Value.{Value}
-use Rattle.carte_value.specs.Names.{name_eq}
+use Rattle.carte_name.specs.Names.{name_eq}
 use Rattle.carte_value.specs.Truths.{Truth, Among, NoneTwice}
 use Rattle.carte_value.specs.Asks.{Asks, done, ask, run, answered, firsts}
 use Rattle.carte_value.specs.Once.{Answers, answer_in, once_on, once, Went, AnswersOf}
 use Rattle.carte_value.proofs.Firsts.{among_filter}
 use Rattle.carte_effect.specs.Effects.{paired}
 use Rattle.carte_effect.specs.Lists.{ValuesOf}
-use Rattle.carte_value.specs.declared.kind.Kind.{Kind}
+use Rattle.carte_name.specs.declared.kind.Kind.{Kind}
 use Rattle.carte_task.specs.declared.code.Instr.{Instr}
 use Rattle.carte_task.specs.declared.progress.Progress.{Progress}
 use Rattle.carte_task.specs.declared.static_task.StaticTask.{StaticTask}

@@ -1,6 +1,6 @@
 -- What a task is a task of.
 use Rattle.std.specs.Prelude.{ℕ, Bool, List, [], ◌≡◌}
-use Rattle.carte_value.specs.declared.kind.Kind.{Kind}
+use Rattle.carte_name.specs.declared.kind.Kind.{Kind}
 use Rattle.carte_value.specs.declared.value.Value.{Value}
 use Rattle.carte_value.specs.Asks.{Asks}
 use Rattle.carte_tree.specs.Tree.{Tree}

@@ -1,6 +1,6 @@
 ghost use Rattle.std.specs.Prelude.{◌≡◌, ◌<◌, ◌++◌, ◌∷◌, [], None, true, IfOk, OnOk, option_copied, vec_len};
 ghost use Rattle.indexmap.specs.IndexMap.{index_map_len, insert_entry, spare};
-ghost use Rattle.carte_value.specs.Names.{name_eq};
+ghost use Rattle.carte_name.specs.Names.{name_eq};
 ghost use Rattle.carte_value.specs.Once.{answer_in};
 ghost use Rattle.carte_effect.specs.Outcomes.{links_of};
 ghost use Rattle.carte_task.specs.Keeping.{are_few};

@@ -1,5 +1,5 @@
 ghost use Rattle.std.specs.Prelude.{◌≡◌, ◌+◌, ◌<◌, ◌≤◌, ◌∷◌, ◌++◌, [], List, length, None, IfOk, OnOk, drop};
-ghost use Rattle.carte_value.specs.declared.kind.Kind.{Kind as SomeKind};
+ghost use Rattle.carte_name.specs.declared.kind.Kind.{Kind as SomeKind};
 ghost use Rattle.carte_task.specs.declared.code.Instr.{Instr};
 ghost use Rattle.carte_value.specs.Once.{answer_in};
 ghost use Rattle.carte_value.specs.Truths.{NoneTwice};

@@ -1,7 +1,7 @@
 //! A static task is a machine whose answers are there before it starts, so there is no second way in which formulas are evaluated.
 
 ghost use Rattle.std.specs.Prelude.{◌≡◌, ℕ, List, length, None, IfOk, is_ok, if◌then◌else◌};
-ghost use Rattle.carte_value.specs.declared.kind.Kind.{Kind as SomeKind};
+ghost use Rattle.carte_name.specs.declared.kind.Kind.{Kind as SomeKind};
 ghost use Rattle.carte_tree.specs.Tree.{Tree};
 ghost use Rattle.carte_effect.specs.Effects.{SameStops};
 ghost use Rattle.carte_task.specs.Statics.{StaticRan, Reads, EndsOver, IsOver, IsStaticTaskOf, static_refs, static_key, with_run};

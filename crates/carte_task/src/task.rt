@@ -1,5 +1,5 @@
 ghost use Rattle.std.specs.Prelude.{◌≡◌, ℕ, List, [], true, IfOk, OnErr};
-ghost use Rattle.carte_value.specs.declared.kind.Kind.{Kind as SomeKind};
+ghost use Rattle.carte_name.specs.declared.kind.Kind.{Kind as SomeKind};
 ghost use Rattle.carte_tree.specs.Tree.{Tree};
 ghost use Rattle.carte_tree.specs.Code.{tree_of};
 ghost use Rattle.carte_tree.specs.Formula.{IsExpr};

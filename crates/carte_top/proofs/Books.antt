@@ -1,6 +1,6 @@
 -- A book that was read, and a run over it.
 use Rattle.std.proofs.Common.{◌≡◌, ℕ, ◌≤◌, List, ◌++◌, length, Result, Ok, Err, refl, sym, ◌∙◌, subst, inl, inr, arith, append-nil}
-use Rattle.carte_value.specs.declared.kind.Kind.{Kind}
+use Rattle.carte_name.specs.declared.kind.Kind.{Kind}
 use Rattle.carte_book.specs.Book.{Book, book_view}
 use Rattle.carte_book.specs.declared.book.Book.{Book as CodeBook}
 use Rattle.carte_book.specs.declared.fault.BookFault.{BookFault}

@@ -5,7 +5,7 @@ use Rattle.std.specs.Prelude.{◌==◌, is_none}
 use Rattle.carte_value.specs.declared.digest.Digest.{Digest}
 use Rattle.carte_value.specs.declared.link.Link.{Link}
 use Rattle.carte_value.specs.declared.value.Value.{Value}
-use Rattle.carte_value.specs.Names.{name_eq}
+use Rattle.carte_name.specs.Names.{name_eq}
 use Rattle.carte_value.specs.Spelling.{digest_of}
 use Rattle.carte_record.specs.declared.entry.Entry.{Entry}
 use Rattle.carte_record.specs.declared.kept.Kept.{Kept}
@@ -15,7 +15,8 @@ use Rattle.carte_record.specs.declared.way.Way.{Way}
 use Rattle.carte_record.specs.declared.way.Way.TheVariants.{Verifying, Constructive, Deep}
 use Rattle.carte_record.specs.Folds.{apply, batch_traces}
 use Rattle.carte_record.specs.Kept.{SomeKept, kept_view, newest, nothing_kept, traces_in}
-use Rattle.carte_record.specs.Lookups.{first_link, first_entry, first_value}
+use Rattle.carte_table.specs.Lookups.{first_link, first_value}
+use Rattle.carte_record.specs.Lookups.{first_entry}
 use Rattle.carte_record.proofs.Growing.{kept_same, no_traces}
 use Rattle.carte_sound.specs.LeadsTo.{empty_batch}
 use Rattle.carte_sound.proofs.Emptied.{empty_applied}

@@ -1,8 +1,8 @@
 -- The status that is due comes, but for want of memory and devices: each cause of another one contradicts it.
 use Rattle.std.proofs.Common.{◌≡◌, ℕ, ◌<◌, false, List, [], ◌∷◌, ◌++◌, length, length-append, Result, Ok, Err, refl, sym, ap, ◌∙◌, inl, inr, ◌⊎◌, subst, arith}
 use Rattle.std.proofs.lemmas.Bool.{lt-ltb}
-use Rattle.carte_value.specs.declared.kind.Kind.{Kind}
-use Rattle.carte_value.specs.declared.kind.Kind.TheVariants.{Rules, Sheet}
+use Rattle.carte_name.specs.declared.kind.Kind.{Kind}
+use Rattle.carte_name.specs.declared.kind.Kind.TheVariants.{Rules, Sheet}
 use Rattle.carte_book.specs.Book.{Book}
 use Rattle.carte_book.specs.Reason.{AllClean, IsReason}
 use Rattle.carte_book.proofs.Reasons.{no_reason, one_reason}

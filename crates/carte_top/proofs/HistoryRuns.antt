@@ -11,7 +11,7 @@ use Rattle.carte_sound.proofs.Begins.{behind_sound, front_distinct}
 use Rattle.carte_sound.proofs.Histories.{nothing_sound}
 use Rattle.carte_session.specs.Lines.{lines_of}
 use Rattle.carte_shell.specs.Books.{AreBooks as AreBooksAt, Edits, IsBookAt, LooksAt}
-use Rattle.carte_value.specs.declared.kind.Kind.{Kind}
+use Rattle.carte_name.specs.declared.kind.Kind.{Kind}
 use Rattle.carte_value.specs.declared.value.Value.{Value}
 use Rattle.carte_words.specs.declared.line.Line.{Line}
 use Rattle.carte_words.specs.declared.line.Line.TheVariants as line

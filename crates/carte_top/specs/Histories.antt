@@ -8,7 +8,7 @@ use Rattle.carte_session.specs.Lines.{lines_of}
 use Rattle.carte_shell.specs.Books.{AreBooks as AreBooksAt}
 use Rattle.carte_sound.specs.Base.{HasDistinctDigests}
 use Rattle.carte_words.specs.Words.{words_of}
-use Rattle.carte_value.specs.declared.kind.Kind.{Kind}
+use Rattle.carte_name.specs.declared.kind.Kind.{Kind}
 use Rattle.carte_words.specs.declared.fault.WordsFault.{WordsFault}
 use Rattle.carte_words.specs.declared.words.Command.{Command}
 use Rattle.carte_words.specs.declared.words.Command.TheVariants as command

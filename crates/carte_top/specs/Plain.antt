@@ -3,7 +3,7 @@ use Rattle.std.specs.Prelude.{ℕ, ◌≡◌, pos, List, [], ◌∷◌, codes, O
 use Rattle.std.specs.FinMap.{empty, insert}
 use Rattle.carte_io.specs.Disk.{Story}
 use Rattle.carte_io.specs.Streams.{SourceState}
-use Rattle.carte_value.specs.declared.kind.Kind.TheVariants.{Rules}
+use Rattle.carte_name.specs.declared.kind.Kind.TheVariants.{Rules}
 use Rattle.carte_value.specs.declared.value.Value.TheVariants.{Number}
 use Rattle.carte_book.specs.Book.{Book, input}
 use Rattle.carte_rules.specs.Reading.{BookOf}

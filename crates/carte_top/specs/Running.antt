@@ -7,7 +7,7 @@ use Rattle.carte_io.specs.declared.whole.ReadEnd.{ReadEnd}
 use Rattle.carte_io.specs.declared.whole.ReadEnd.TheVariants.{TooLong, Failed, NoMemory as ReadNoMemory}
 use Rattle.carte_journal.specs.declared.faults.LoadFault.{LoadFault}
 use Rattle.carte_journal.specs.declared.faults.LoadFault.TheVariants as load
-use Rattle.carte_value.specs.declared.kind.Kind.{Kind}
+use Rattle.carte_name.specs.declared.kind.Kind.{Kind}
 use Rattle.carte_book.specs.Book.{Book, book_view}
 use Rattle.carte_book.specs.Reason.{AllClean, IsReason}
 use Rattle.carte_book.specs.declared.book.Book.{Book as CodeBook}

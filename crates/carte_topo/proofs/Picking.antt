@@ -6,7 +6,7 @@ use Rattle.std.specs.Cmp.{eq_by_cmp_equiv}
 use Rattle.std.specs.FinMap.{slice_cmp-IsAntisymmetric, nat_cmp-IsAntisymmetric}
 use Rattle.std.proofs.lemmas.Cmp.{nat_list_cmp_total}
 use Rattle.std.proofs.lemmas.List.{take_more}
-use Rattle.carte_value.specs.Names.{name_cmp}
+use Rattle.carte_name.specs.Names.{name_cmp}
 use Rattle.carte_value.specs.Truths.{Among}
 use Rattle.carte_book.proofs.Clean.{tied_name}
 use Rattle.carte_topo.specs.Search.{Unvisited, Moves, Stays, PicksOne, Picks}

@@ -4,7 +4,7 @@ use Rattle.std.proofs.Math.Nat.{eq-or-lt_of_le}
 use Rattle.std.specs.BTreeSet.{contains, IsOrdered}
 use Rattle.std.proofs.lemmas.Option.{slice_get_within, get_or_from_slice_get}
 use Rattle.std.proofs.lemmas.Map.Keys.{Less-from_sorted}
-use Rattle.carte_value.specs.Names.{name_cmp}
+use Rattle.carte_name.specs.Names.{name_cmp}
 use Rattle.carte_value.specs.Truths.{Among}
 use Rattle.carte_book.specs.Book.{Book}
 use Rattle.carte_book.specs.Needs.{IsRule}

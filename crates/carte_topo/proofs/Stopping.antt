@@ -1,6 +1,6 @@
 -- A static formula stops at its first reference without a value.
 use Rattle.std.proofs.Common.{◌≡◌, ℕ, zero, suc, true, List, [], ◌∷◌, take, slice_get, Some, None, Result, Ok, Err, refl, ap, ◌∙◌, inl, inr}
-use Rattle.carte_value.specs.declared.kind.Kind.{Kind}
+use Rattle.carte_name.specs.declared.kind.Kind.{Kind}
 use Rattle.carte_value.specs.declared.value.Value.{Value}
 use Rattle.carte_value.specs.Truths.{Truth, Among}
 use Rattle.carte_value.specs.Asks.{asked}

@@ -1,11 +1,11 @@
 -- Meanings that compute, each with the value that Excel or the language's own rule gives.
 use Rattle.std.specs.Prelude.{◌≡◌, ℕ, List, pos, negsuc, [], ◌∷◌, ◌^◌, ◌-◌, Some, None, Ok, Err, refl, if◌then◌else◌}
-use Rattle.carte_value.specs.declared.kind.Kind.TheVariants.{Rules, Sheet}
+use Rattle.carte_name.specs.declared.kind.Kind.TheVariants.{Rules, Sheet}
 use Rattle.carte_value.specs.declared.value.Bad.TheVariants as bad
 use Rattle.carte_value.specs.declared.value.Value.{Value}
 use Rattle.carte_value.specs.declared.value.Value.TheVariants.{Empty, Number, Text, Bad}
 use Rattle.carte_value.specs.Truths.{Truth}
-use Rattle.carte_value.specs.Names.{name_eq}
+use Rattle.carte_name.specs.Names.{name_eq}
 use Rattle.carte_tree.specs.declared.expr.Op.TheVariants as op
 use Rattle.carte_tree.specs.declared.expr.Func.TheVariants as f
 use Rattle.carte_tree.specs.declared.expr.Level.TheVariants as level

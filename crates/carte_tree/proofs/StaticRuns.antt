@@ -1,9 +1,9 @@
 -- Runs of what asks in turn, and so of static formulas.
 use Rattle.std.proofs.Common.{◌∙◌, ◌≡◌, ℕ, Bool, true, false, not, cond, List, [], ◌∷◌, Some, None, Ok, refl, ap, subst, filter}
 use Rattle.std.specs.Cmp.Lexicographic.{bytes_decides}
-use Rattle.carte_value.specs.declared.kind.Kind.{Kind}
+use Rattle.carte_name.specs.declared.kind.Kind.{Kind}
 use Rattle.carte_value.specs.declared.value.Value.{Value}
-use Rattle.carte_value.specs.Names.{name_eq}
+use Rattle.carte_name.specs.Names.{name_eq}
 use Rattle.carte_value.specs.Truths.{Truth}
 use Rattle.carte_value.specs.Asks.{Asks, done, ask, run, asked, asked_on, firsts}
 use Rattle.carte_value.specs.Once.{Answers, answer_in, once}

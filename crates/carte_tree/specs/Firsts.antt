@@ -1,7 +1,7 @@
 -- Each name once, as names come one after the other.
 use Rattle.std.specs.Prelude.{ℕ, List, [], ◌∷◌, ◌++◌, if◌then◌else◌}
 use Rattle.std.specs.List.{list_any}
-use Rattle.carte_value.specs.Names.{name_eq}
+use Rattle.carte_name.specs.Names.{name_eq}
 
 -- one name more, unless it was seen
 abbrev pub seen_also : List (List ℕ) → List ℕ → List (List ℕ)

@@ -1,9 +1,9 @@
 -- Trees that are formulas, and what they refer to.
 use Rattle.std.specs.Prelude.{ℕ, ℤ, pos, negsuc, Bool, true, false, List, [], ◌∷◌, ◌++◌, length, ◌≡◌, ◌≤◌, ◌<◌, ◌+◌, ◌^◌, ◌&&◌, IsTrue}
 use Rattle.carte_value.specs.Areas.{IsArea, cells_of}
-use Rattle.carte_value.specs.Kinds.{is_name_of}
-use Rattle.carte_value.specs.declared.kind.Kind.{Kind}
-use Rattle.carte_value.specs.declared.kind.Kind.TheVariants.{Rules, Sheet}
+use Rattle.carte_name.specs.Kinds.{is_name_of}
+use Rattle.carte_name.specs.declared.kind.Kind.{Kind}
+use Rattle.carte_name.specs.declared.kind.Kind.TheVariants.{Rules, Sheet}
 use Rattle.carte_value.specs.Asks.{firsts}
 use Rattle.carte_tree.specs.Tree.{Level, level_of, Func, Tree, number, text, ref, neg, chain, call, Steps, no_step, step, Args, no_arg, arg, Arg, one, cells, Arity, many, between, arity, takes_ranges}
 use Rattle.carte_tree.specs.declared.expr.Func.TheVariants as functions

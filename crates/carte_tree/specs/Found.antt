@@ -1,7 +1,7 @@
 -- The names that a text is, or that its lines are.
 use Rattle.std.specs.Prelude.{ℕ, List, Option, Some, None, Result, Ok, Err, if◌then◌else◌}
-use Rattle.carte_value.specs.declared.kind.Kind.{Kind}
-use Rattle.carte_value.specs.Kinds.{is_text_of, name_of}
+use Rattle.carte_name.specs.declared.kind.Kind.{Kind}
+use Rattle.carte_name.specs.Kinds.{is_text_of, name_of}
 use Rattle.carte_value.specs.declared.value.Bad.TheVariants as bad
 use Rattle.carte_value.specs.declared.value.Value.{Value}
 use Rattle.carte_value.specs.declared.value.Value.TheVariants.{Text, Bad}

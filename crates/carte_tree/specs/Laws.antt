@@ -1,6 +1,6 @@
 -- What holds of formulas that are static.
 use Rattle.std.specs.Prelude.{true, [], ◌≡◌, Ok}
-use Rattle.carte_value.specs.declared.kind.Kind.{Kind}
+use Rattle.carte_name.specs.declared.kind.Kind.{Kind}
 use Rattle.carte_value.specs.declared.value.Value.{Value}
 use Rattle.carte_value.specs.Truths.{Truth}
 use Rattle.carte_value.specs.Asks.{run, asked}

@@ -1,6 +1,6 @@
 -- What a formula asks for, and what it gives.
 use Rattle.std.specs.Prelude.{ℕ, Bool, true, false, List, [], ◌∷◌, ◌++◌, Result, Ok, Err}
-use Rattle.carte_value.specs.declared.kind.Kind.{Kind}
+use Rattle.carte_name.specs.declared.kind.Kind.{Kind}
 use Rattle.carte_value.specs.declared.value.Value.{Value}
 use Rattle.carte_value.specs.declared.value.Value.TheVariants.{Number, Text}
 use Rattle.carte_value.specs.Truths.{Truth}

@@ -1,7 +1,7 @@
 -- Formulas as trees, without places in memory.
 use Rattle.std.specs.Prelude.{ℕ, ℤ, pos, Bool, true, false, List, [], ◌∷◌, ◌++◌, length, nat_le, nat_lt, ◌==◌, ◌&&◌, if◌then◌else◌}
 pub use Rattle.carte_value.specs.declared.area.Area.{Area}
-use Rattle.carte_value.specs.Areas.{cell_at}
+use Rattle.carte_name.specs.Places.{cell_at}
 pub use Rattle.carte_tree.specs.declared.expr.Level.{Level}
 pub use Rattle.carte_tree.specs.declared.expr.Level.TheVariants.{Compare as compare, Concat as concat, Sum as sum, Product as product}
 pub use Rattle.carte_tree.specs.declared.expr.Op.{Op}

@@ -1,5 +1,6 @@
 ghost use Rattle.std.specs.Prelude.{◌≡◌, ◌++◌, codes, IfOk, OnOk, string_bytes};
-ghost use Rattle.carte_value.specs.Areas.{IsArea, IsPlace, cell_at};
+ghost use Rattle.carte_name.specs.Places.{IsPlace, cell_at};
+ghost use Rattle.carte_value.specs.Areas.{IsArea};
 ghost use Rattle.carte_tree.specs.Tree.{neg, rank, first_corner, last_corner};
 ghost use Rattle.carte_tree.specs.Printed.{tight, func_name, op_bytes, in_brackets, printed, steps_printed, args_printed, arg_printed};
 ghost use Rattle.carte_tree.specs.Code.{tree_of, chain_tree, rest_steps, args_tree, arg_tree};

@@ -1,7 +1,7 @@
 -- The list of each name once has the names of the list.
 use Rattle.std.proofs.Common.{◌≡◌, ℕ, Bool, true, false, not, cond, List, [], ◌∷◌, refl, ap, sym, inl, inr, filter}
 use Rattle.std.specs.Cmp.Lexicographic.{bytes_decides}
-use Rattle.carte_value.specs.Names.{name_eq}
+use Rattle.carte_name.specs.Names.{name_eq}
 use Rattle.carte_value.specs.Truths.{Among}
 use Rattle.carte_value.specs.Asks.{firsts}
 

@@ -6,12 +6,6 @@ pub mod Stops
 pub mod Once
 pub mod Laws
 pub mod Fetches
-pub mod Ascii
-pub mod Fronts
-pub mod Prefixes
-pub mod CellPrefixes
-pub mod Raised
-pub mod Places
 pub mod Quotes
 pub mod Sides
 pub mod Rectangles

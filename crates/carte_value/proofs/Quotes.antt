@@ -3,7 +3,7 @@ use Rattle.std.proofs.Common.{◌≡◌, ℕ, ◌<◌, ◌≤◌, cond, eqb, Lis
 use Rattle.std.specs.List.{flat_map}
 use Rattle.std.proofs.lemmas.Bool.{cases_eq}
 use Rattle.std.proofs.lemmas.List.{append_cancel_right}
-use Rattle.carte_value.specs.declared.NoMemory.{NoMemory}
+use Rattle.carte_name.specs.declared.NoMemory.{NoMemory}
 use Rattle.carte_value.specs.Printed.{escaped, quoted}
 use Rattle.carte_value.specs.Texts.{IsText, IsTextKept}
 use Rattle.carte_value.specs.Reading.{IsPlain, IsTextRead}

@@ -2,15 +2,13 @@
 use Rattle.std.proofs.Common.{◌≡◌, ℕ, zero, suc, ◌+◌, ◌-◌, ◌<◌, ◌≤◌, List, map, ap, sym, ◌∙◌, subst, inl, inr, arith, IsTrue}
 use Rattle.std.specs.List.{flat_map, range_with_len}
 use Rattle.std.proofs.lemmas.Bool.{cases_eq}
+use Rattle.carte_name.specs.Names.{is_cell_name}
+use Rattle.carte_name.specs.Places.{cell_at, column_of, row_of, IsPlace}
+use Rattle.carte_name.proofs.Places.{at_is_cell, column_at, row_at, cell_again}
 use Rattle.carte_value.specs.declared.area.Area.{Area}
 use Rattle.carte_value.specs.Truths.{Among, NoneTwice}
-use Rattle.carte_value.specs.Names.{is_cell_name}
-use Rattle.carte_value.specs.Areas.{cell_at, column_of, row_of, IsPlace, IsArea, row_cells, cells_of, CellsByPlace, EachCellOnce, CellsWithin}
+use Rattle.carte_value.specs.Areas.{IsArea, row_cells, cells_of, EachCellOnce, CellsWithin}
 use Rattle.carte_value.proofs.Members.{among_append, among_left, among_right, apart_append}
-use Rattle.carte_value.proofs.Places.{at_is_cell, column_at, row_at, place_within, cell_again}
-
-pub cells_by_place : CellsByPlace
-cells_by_place = record { cell = at_is_cell; column = column_at; row = row_at; place = place_within; again = cell_again }
 
 -- one row
 

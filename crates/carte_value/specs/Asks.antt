@@ -1,7 +1,7 @@
 -- A task as a computation that asks for the values of names, and what it gives over a truth.
 use Rattle.std.specs.Prelude.{ℕ, not, List, [], ◌∷◌, filter, Option, Some, None, Result, Ok, Err}
 use Rattle.carte_value.specs.declared.value.Value.{Value}
-use Rattle.carte_value.specs.Names.{name_eq}
+use Rattle.carte_name.specs.Names.{name_eq}
 use Rattle.carte_value.specs.Truths.{Truth}
 
 -- it is done, or it asks for the value of a name and goes on with the answer

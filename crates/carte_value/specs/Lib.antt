@@ -1,7 +1,3 @@
-pub mod Names
-pub mod Fronts
-pub mod Prefixes
-pub mod Kinds
 pub mod Truths
 pub mod Lists
 pub mod Asks

@@ -1,6 +1,6 @@
 -- Members of lists, and functions of names with one answer more.
 use Rattle.std.specs.Prelude.{ℕ, List, [], ◌∷◌, ◌++◌, ◌≡◌, ◌⊎◌, Option, Some, cond}
-use Rattle.carte_value.specs.Names.{name_eq}
+use Rattle.carte_name.specs.Names.{name_eq}
 
 -- it is one of the list
 abbrev pub Has : {A : Type 0} → List A → A → Type 0

@@ -6,7 +6,7 @@ use Rattle.std.specs.Str.Parse.{IsNumeral, without_leading_sign, signed_digits_v
 use Rattle.carte_value.specs.Printed.{escaped, quoted, printed}
 use Rattle.carte_value.specs.Texts.{IsText}
 use Rattle.carte_value.specs.Spelling.{IsValue}
-use Rattle.carte_value.specs.declared.NoMemory.{NoMemory}
+use Rattle.carte_name.specs.declared.NoMemory.{NoMemory}
 use Rattle.carte_value.specs.declared.value.Bad.{Bad}
 use Rattle.carte_value.specs.declared.value.Value.{Value}
 use Rattle.carte_value.specs.declared.value.Value.TheVariants as value

@@ -3,7 +3,7 @@ use Rattle.std.specs.Prelude.{ℕ, ℤ, List, [], ◌∷◌, ◌++◌, ◌≡◌
 use Rattle.std.specs.Int.{w32, w64, to_be_bytes, cast_unsigned}
 use Rattle.sha2.specs.Sha256.{sha256}
 use Rattle.carte_value.specs.Texts.{IsText}
-use Rattle.carte_value.specs.declared.NoMemory.{NoMemory}
+use Rattle.carte_name.specs.declared.NoMemory.{NoMemory}
 use Rattle.carte_value.specs.declared.digest.Digest.{Digest}
 use Rattle.carte_value.specs.declared.value.Bad.{Bad}
 use Rattle.carte_value.specs.declared.value.Bad.TheVariants as bad

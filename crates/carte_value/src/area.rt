@@ -1,5 +1,6 @@
 ghost use Rattle.std.specs.Prelude.{◌≡◌, ◌++◌, length, IfOk, IfSome, OnOk};
-ghost use Rattle.carte_value.specs.Areas.{row_cells, cells_of, size_of, IsPlace, IsArea, IsAreaMade};
+ghost use Rattle.carte_name.specs.Places.{IsPlace};
+ghost use Rattle.carte_value.specs.Areas.{row_cells, cells_of, size_of, IsArea, IsAreaMade};
 
 use crate::{Name, Names, NoMemory};
 use std::alloc::Global;

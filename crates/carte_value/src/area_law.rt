@@ -1,9 +1,4 @@
-ghost use Rattle.carte_value.specs.Areas.{CellsByPlace, EachCellOnce, CellsWithin};
-
-/// Each cell of the sheet has one name, and each name of a cell is that of one place.
-pub fn cells_by_place()
-    ensures { CellsByPlace }
-{}
+ghost use Rattle.carte_value.specs.Areas.{EachCellOnce, CellsWithin};
 
 /// The names of an area are different.
 pub fn each_cell_once()

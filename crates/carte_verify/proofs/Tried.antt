@@ -5,7 +5,8 @@ use Rattle.carte_record.specs.declared.entry.Entry.{Entry}
 use Rattle.carte_record.specs.declared.kept.Kept.{Kept}
 use Rattle.carte_record.specs.declared.trace.Trace.{Trace}
 use Rattle.carte_record.specs.declared.way.Way.TheVariants.{Verifying}
-use Rattle.carte_record.specs.Lookups.{first_entry, digest_eq}
+use Rattle.carte_table.specs.Lookups.{digest_eq}
+use Rattle.carte_record.specs.Lookups.{first_entry}
 use Rattle.carte_record.specs.Kept.{kept_view}
 use Rattle.carte_sound.specs.Held.{IsTrusted}
 use Rattle.carte_sound.proofs.Tests.{same_digest, digest_self}

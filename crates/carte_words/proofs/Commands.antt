@@ -1,7 +1,7 @@
 -- The words of a text, and names read word by word.
 use Rattle.std.proofs.Common.{ℕ, ◌≡◌, ◌∙◌, ◌<◌, if◌then◌else◌, Bool, true, false, IsTrue, List, [], ◌∷◌, ◌++◌, Option, Some, None, length, refl, ap, sym, arith, rules, append_assoc}
-use Rattle.carte_value.specs.Kinds.{is_text_of, name_of}
-use Rattle.carte_value.specs.declared.kind.Kind.{Kind}
+use Rattle.carte_name.specs.Kinds.{is_text_of, name_of}
+use Rattle.carte_name.specs.declared.kind.Kind.{Kind}
 use Rattle.carte_words.specs.Cuts.{is_blank, begins_blank, skip, word_of, behind, joined, grown, words_in, NextWord}
 use Rattle.carte_words.specs.Lines.{names_of, in_front}
 use Rattle.carte_words.proofs.Cutting.{skip_begins, skip_shorter}

@@ -1,6 +1,6 @@
 -- By which words a line is meant, and that it has one meaning at most.
 use Rattle.std.proofs.Common.{ℕ, ◌≡◌, ◌∙◌, List, [], ◌∷◌, Some, codes, refl, ap, ap₂, sym, arith, slice_index}
-use Rattle.carte_value.specs.declared.kind.Kind.{Kind}
+use Rattle.carte_name.specs.declared.kind.Kind.{Kind}
 use Rattle.carte_value.specs.declared.value.Value.{Value}
 use Rattle.carte_value.proofs.Readings.{one_reading}
 use Rattle.carte_words.specs.declared.line.Line.{Line}

@@ -1,9 +1,9 @@
 -- What is read of words and lines has names of the kind alone.
 use Rattle.std.proofs.Common.{◌≡◌, if◌then◌else◌, Bool, true, false, IsTrue, List, [], ◌∷◌, Option, Some, None, Result, Ok, Err, IfOk, IfSome, codes, unwrap_or, refl, sym, subst}
-use Rattle.carte_value.specs.Kinds.{is_text_of, is_name_of, name_of}
-use Rattle.carte_value.specs.declared.NoMemory.{NoMemory}
-use Rattle.carte_value.specs.declared.kind.Kind.{Kind}
-use Rattle.carte_value.specs.declared.kind.Kind.TheVariants.{Rules, Sheet}
+use Rattle.carte_name.specs.Kinds.{is_text_of, is_name_of, name_of}
+use Rattle.carte_name.specs.declared.NoMemory.{NoMemory}
+use Rattle.carte_name.specs.declared.kind.Kind.{Kind}
+use Rattle.carte_name.specs.declared.kind.Kind.TheVariants.{Rules, Sheet}
 use Rattle.clap.specs.Words.{Row, Text, first_of, all_of}
 use Rattle.carte_words.specs.declared.choices.Choices.{Choices}
 use Rattle.carte_words.specs.declared.fault.WordsFault.{WordsFault}

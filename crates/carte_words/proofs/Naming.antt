@@ -1,6 +1,6 @@
 -- Names read word by word.
 use Rattle.std.proofs.Common.{ℕ, ◌≡◌, List, [], ◌∷◌, ◌++◌, Result, Ok, Err, ap, sym, ◌∙◌, refl, append_assoc}
-use Rattle.carte_value.specs.declared.kind.Kind.{Kind}
+use Rattle.carte_name.specs.declared.kind.Kind.{Kind}
 use Rattle.carte_words.specs.Words.{◌>>=◌, name_in, names_in, put_first}
 use Rattle.carte_words.specs.declared.fault.WordsFault.{WordsFault}
 

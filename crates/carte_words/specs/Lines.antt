@@ -1,9 +1,9 @@
 -- What a line of a script asks for.
 use Rattle.std.specs.Prelude.{ℕ, ◌≡◌, ⊤, IsTrue, List, [], ◌∷◌, codes, slice_index, Option, Some, None, Result, Ok, Err, IsUtf8, if◌then◌else◌}
-use Rattle.carte_value.specs.Kinds.{is_text_of, name_of}
+use Rattle.carte_name.specs.Kinds.{is_text_of, name_of}
 use Rattle.carte_value.specs.Reading.{Reads}
-use Rattle.carte_value.specs.declared.NoMemory.{NoMemory}
-use Rattle.carte_value.specs.declared.kind.Kind.{Kind}
+use Rattle.carte_name.specs.declared.NoMemory.{NoMemory}
+use Rattle.carte_name.specs.declared.kind.Kind.{Kind}
 use Rattle.carte_value.specs.declared.value.Value.{Value}
 use Rattle.carte_words.specs.declared.line.Line.{Line}
 use Rattle.carte_words.specs.declared.line.Line.TheVariants.{Set, Build, Explain, Clean, Nothing}

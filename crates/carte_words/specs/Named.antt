@@ -1,7 +1,7 @@
 -- Names by the kind of book that has them.
 use Rattle.std.specs.Prelude.{ℕ, IsTrue, List, [], ◌∷◌}
-use Rattle.carte_value.specs.Kinds.{is_name_of}
-use Rattle.carte_value.specs.declared.kind.Kind.{Kind}
+use Rattle.carte_name.specs.Kinds.{is_name_of}
+use Rattle.carte_name.specs.declared.kind.Kind.{Kind}
 use Rattle.carte_words.specs.declared.line.Line.{Line}
 use Rattle.carte_words.specs.declared.line.Line.TheVariants.{Set, Build, Explain, Clean, Nothing}
 

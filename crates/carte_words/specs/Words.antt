@@ -1,8 +1,8 @@
 -- What words ask for, or the first fault why they ask for nothing.
 use Rattle.std.specs.Prelude.{◌≡◌, Bool, true, false, List, [], ◌∷◌, codes, Option, Some, None, Result, Ok, Err, option_and_then, unwrap_or, bytes_eq, if◌then◌else◌}
 use Rattle.clap.specs.Words.{Kinds, Row, Text, first_of, all_of}
-use Rattle.carte_value.specs.Kinds.{is_text_of, name_of}
-use Rattle.carte_value.specs.declared.kind.Kind.{Kind}
+use Rattle.carte_name.specs.Kinds.{is_text_of, name_of}
+use Rattle.carte_name.specs.declared.kind.Kind.{Kind}
 use Rattle.carte_words.specs.declared.words.Command.{Command}
 use Rattle.carte_words.specs.declared.words.Command.TheVariants as command
 use Rattle.carte_words.specs.declared.words.Words.{Words as Asked}

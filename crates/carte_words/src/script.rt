@@ -1,5 +1,5 @@
 ghost use Rattle.std.specs.Prelude.{◌≡◌, IfOk, IfSome, ◌==◌, Ok, Some, None, codes, slice_index, if◌then◌else◌};
-ghost use Rattle.carte_value.specs.declared.kind.Kind.{Kind};
+ghost use Rattle.carte_name.specs.declared.kind.Kind.{Kind};
 ghost use Rattle.carte_words.specs.declared.line.Line.TheVariants.{Nothing};
 ghost use Rattle.carte_words.specs.Cuts.{skip, words_in};
 ghost use Rattle.carte_words.specs.Named.{LineNamed};

@@ -1,67 +1,16 @@
-ghost use Rattle.std.specs.Prelude.{◌≡◌, ◌++◌, ◌∷◌, [], OnOk};
-ghost use Rattle.carte_tree.specs.Tree.{level_of, called_tree};
-ghost use Rattle.carte_formula.specs.Frames.{joint_at, called_at};
-ghost use Rattle.carte_formula.specs.Machine.{after, chain_at, joined, close, split, ended, end_args, next_args};
-ghost use Rattle.carte_formula.specs.declared.parser.frames.Joint.TheVariants as joints;
+ghost use Rattle.std.specs.Prelude.{◌≡◌, ◌++◌, ◌∷◌, []};
+ghost use Rattle.carte_tree.specs.Tree.{called_tree};
+ghost use Rattle.carte_frames.specs.Frames.{called_at, frame_of, frames_of};
+ghost use Rattle.carte_formula.specs.Machine.{after, close, split, end_args, next_args};
 ghost use Rattle.carte_tree.specs.Code.{tree_of, arg_tree, args_trees};
-ghost use Rattle.carte_formula.specs.Parser.{args_next, frame_of, frames_of, GoesTo, EndsTo};
+ghost use Rattle.carte_formula.specs.Parser.{args_next, GoesTo};
 
-use crate::parser::building::{call_of, signed, whole_chain, with_arg};
-use crate::parser::frames::{Frame, Joint, OpenChain, Stack};
-use crate::parser::lists::with_last;
 use crate::parser::operand::{after, put};
 use crate::parser::states::{Parser, State};
-use crate::{Arg, Expr, Func, Op};
+use crate::{Arg, Expr, Func};
+use carte_frames::{Frame, call_of, signed, whole_chain, with_arg, with_last};
 use carte_value::NoMemory;
 use std::alloc::Global;
-
-/// An operator follows an operand: the chains that bind tighter are whole.
-#[cycle(join)]
-#[tactic(auto, using(crate::proofs::Joints::begun_at))]
-#[inline(always)]
-pub fn join(alloc: Global, op: Op, operand: Expr, stack: &mut Stack) -> Result<(), NoMemory>
-    ensures { OnOk result (frames_of stack.new.frames.items ≡ joined op (tree_of operand) (frames_of stack.old.frames.items)) }
-{
-    match stack.joint(op.level()) {
-        Joint::Begins => begin_chain(alloc, op, operand, stack),
-        Joint::GoesOn => stack.lengthen(op, operand),
-        Joint::Ends => match stack.pop() {
-            Some(frame) => join_behind(alloc, op, operand, frame, stack),
-            None => unreachable!(),
-        },
-    }
-}
-
-/// An operator behind an operand that ends what is newest.
-#[cycle(join)]
-fn join_behind(
-    alloc: Global,
-    op: Op,
-    operand: Expr,
-    frame: Frame,
-    stack: &mut Stack,
-) -> Result<(), NoMemory>
-    requires { joint_at (level_of op) frame ≡ joints.Ends }
-    ensures { OnOk result (frames_of stack.new.frames.items ≡ joined op (tree_of operand) (frame_of frame ∷ frames_of stack.old.frames.items)) }
-{
-    match frame {
-        Frame::Sign(minus) => join(alloc, op, signed(alloc, minus, operand)?, stack),
-        Frame::Chain(begun) => join(alloc, op, whole_chain(alloc, begun, operand)?, stack),
-        _ => unreachable!(),
-    }
-}
-
-#[inline(always)]
-fn begin_chain(alloc: Global, op: Op, operand: Expr, stack: &mut Stack) -> Result<(), NoMemory>
-    ensures { OnOk result (frames_of stack.new.frames.items ≡ chain_at (level_of op) (tree_of operand) [] op ∷ frames_of stack.old.frames.items) }
-{
-    stack.push(Frame::Chain(OpenChain {
-        level: op.level(),
-        first: operand,
-        steps: Vec::new(alloc),
-        last: op,
-    }))
-}
 
 /// A closing bracket behind an operand.
 #[inline(always)]
@@ -136,7 +85,7 @@ fn end_call(
 }
 
 /// A comma behind an operand.
-#[tactic(auto, using(crate::proofs::Joints::split_next))]
+#[tactic(auto, using(crate::proofs::Commas::split_next))]
 #[inline(always)]
 pub fn split(alloc: Global, operand: Expr, parser: &mut Parser) -> Result<bool, NoMemory>
     ensures { GoesTo result parser.new (split (tree_of operand) (frames_of parser.old.stack.frames.items)) }
@@ -202,54 +151,4 @@ pub fn next_args(
         return Ok(false);
     }
     put(Frame::Call(func, with_arg(done, arg)?), parser)
-}
-
-/// The text ends behind an operand. Mostly at most one chain ends with it.
-#[inline(always)]
-pub fn end(alloc: Global, operand: Expr, stack: &mut Stack) -> Result<Option<Expr>, NoMemory>
-    ensures { EndsTo result (ended (tree_of operand) (frames_of stack.old.frames.items)) }
-{
-    match stack.pop_chain() {
-        Some(begun) => end_whole(alloc, whole_chain(alloc, begun, operand)?, stack),
-        None => end_whole(alloc, operand, stack),
-    }
-}
-
-/// The same where nothing may be begun any more.
-#[tactic(auto, using(crate::proofs::Joints::ended_whole))]
-#[inline(always)]
-fn end_whole(alloc: Global, operand: Expr, stack: &mut Stack) -> Result<Option<Expr>, NoMemory>
-    ensures { EndsTo result (ended (tree_of operand) (frames_of stack.old.frames.items)) }
-{
-    if stack.is_empty() {
-        return Ok(Some(operand));
-    }
-    end_inner(alloc, operand, stack)
-}
-
-/// The text ends behind an operand that may end signs and chains.
-#[cycle(end)]
-fn end_inner(alloc: Global, operand: Expr, stack: &mut Stack) -> Result<Option<Expr>, NoMemory>
-    ensures { EndsTo result (ended (tree_of operand) (frames_of stack.old.frames.items)) }
-{
-    match stack.pop() {
-        Some(frame) => end_behind(alloc, operand, frame, stack),
-        None => Ok(Some(operand)),
-    }
-}
-
-#[cycle(end)]
-fn end_behind(
-    alloc: Global,
-    operand: Expr,
-    frame: Frame,
-    stack: &mut Stack,
-) -> Result<Option<Expr>, NoMemory>
-    ensures { EndsTo result (ended (tree_of operand) (frame_of frame ∷ frames_of stack.old.frames.items)) }
-{
-    match frame {
-        Frame::Sign(minus) => end_inner(alloc, signed(alloc, minus, operand)?, stack),
-        Frame::Chain(begun) => end_inner(alloc, whole_chain(alloc, begun, operand)?, stack),
-        _ => Ok(None),
-    }
 }

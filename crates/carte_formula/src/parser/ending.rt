@@ -1,13 +1,14 @@
 ghost use Rattle.std.specs.Prelude.{[], Ok, Option};
 ghost use Rattle.carte_tree.specs.Code.{tree_of};
-ghost use Rattle.carte_formula.specs.Parser.{reached, ReadsTo};
+ghost use Rattle.carte_formula.specs.Parser.{reached};
+ghost use Rattle.carte_lexer.specs.Takes.{ReadsTo};
 ghost use Rattle.carte_formula.specs.Whole.{with_width};
 ghost use Rattle.carte_formula.specs.Resumed.{resumed};
 
 use crate::parser::states::Parser;
 use crate::parser::steps::finish;
-use crate::width::Ranges;
 use crate::{Expr, FormulaFault};
+use carte_lexer::Ranges;
 use std::alloc::Global;
 
 /// The formula where a text of so many bytes ends.

@@ -1,6 +1,6 @@
-use crate::cell::Cell;
-use crate::parser::frames::Stack;
 use crate::{Arg, Expr, Func};
+use carte_frames::Stack;
+use carte_lexer::Cell;
 use carte_value::Area;
 
 /// What the tokens so far lead to, beside the stack. It owns nothing, so that each step sets it at no cost.

@@ -4,6 +4,7 @@ ghost use Rattle.carte_codec.specs.Spellings.{IsRead};
 ghost use Rattle.carte_record.specs.Bodies.{spelled_kind, spelled_front, FitsFront, spelled_back, FitsBack, spelled_batch, FitsBatch, IsUnmarked, IsBody, IsDecoded, IsWhole, OneBody};
 ghost use Rattle.carte_record.specs.BodyLaws.{kind_one, batch_of};
 
+use crate::codec::lists::{write_links, write_values};
 use crate::codec::plain::Plain;
 use crate::{Batch, Entries, Entry, Seen, Start, Store, Trace, Traces};
 use carte_codec::{Spelled, Unread};
@@ -47,8 +48,8 @@ fn write_front(batch: &Batch, out: &mut Vec<u8>) -> Result<(), NoMemory>
     ensures fits { OnOk result (EachFits IsUnmarked batch.now.entries → FitsFront batch.now) }
 {
     batch.start.write(out)?;
-    batch.values.write(out)?;
-    batch.seen.write(out)?;
+    write_values(&batch.values, out)?;
+    write_links(&batch.seen, out)?;
     batch.stale.write(out)?;
     batch.entries.write(out)
 }
@@ -72,8 +73,8 @@ fn of_parts(alloc: Global, parts: Parts, hasher: Seeded) -> Result<Batch, NoMemo
     let (verifying, (constructive, (deep, chain))) = back;
     Ok(Batch {
         start,
-        values: Store::of(alloc, values, hasher)?,
-        seen: Seen::of(alloc, seen, hasher)?,
+        values: Store::with_places(alloc, values.into_items(), hasher)?,
+        seen: Seen::with_places(alloc, seen.into_items(), hasher)?,
         stale,
         entries: Entries::of(alloc, entries, hasher)?,
         verifying: Traces::of(alloc, verifying, hasher)?,

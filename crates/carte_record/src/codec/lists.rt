@@ -8,43 +8,25 @@ ghost use Rattle.carte_record.specs.Bodies.{spelled_entry, FitsEntry, IsUnmarked
 use crate::codec::plain::Plain;
 use crate::{Entries, Entry, Seen, Store, Trace, Traces};
 use carte_codec::write_list;
-use carte_value::{Link, NoMemory, Seeded, Value};
+use carte_value::{NoMemory, Seeded};
 use std::alloc::Global;
 
-impl Store {
-    /// Puts how many values there are, and each in order, behind `out`.
-    pub(crate) fn write(&self, out: &mut Vec<u8>) -> Result<(), NoMemory>
-        ensures bytes { OnOk result (out.new.items ≡ out.old.items ++ spelled_list spelling self.now) }
-        ensures fits { OnOk result (FitsList IsValue self.now) }
-    {
-        let _len = self.len();
-        write_list(self.as_slice(), out)
-    }
-
-    /// The list of values that were read: it is theirs, with a table beside it.
-    pub(crate) fn of(alloc: Global, values: Plain<Value>, hasher: Seeded) -> Result<Store, NoMemory>
-        ensures { IfOk result (λ list. list ≡ values) }
-    {
-        Store::with_places(alloc, values.into_items(), hasher)
-    }
+/// Puts how many values there are, and each in order, behind `out`.
+pub(crate) fn write_values(values: &Store, out: &mut Vec<u8>) -> Result<(), NoMemory>
+    ensures bytes { OnOk result (out.new.items ≡ out.old.items ++ spelled_list spelling values.now) }
+    ensures fits { OnOk result (FitsList IsValue values.now) }
+{
+    let _len = values.len();
+    write_list(values.as_slice(), out)
 }
 
-impl Seen {
-    /// Puts how many links there are, and each in order, behind `out`.
-    pub(crate) fn write(&self, out: &mut Vec<u8>) -> Result<(), NoMemory>
-        ensures bytes { OnOk result (out.new.items ≡ out.old.items ++ spelled_list spelled_link self.now) }
-        ensures fits { OnOk result (FitsList FitsLink self.now) }
-    {
-        let _len = self.len();
-        write_list(self.as_slice(), out)
-    }
-
-    /// The list of links that were read: it is theirs, with a table beside it.
-    pub(crate) fn of(alloc: Global, links: Plain<Link>, hasher: Seeded) -> Result<Seen, NoMemory>
-        ensures { IfOk result (λ list. list ≡ links) }
-    {
-        Seen::with_places(alloc, links.into_items(), hasher)
-    }
+/// Puts how many links there are, and each in order, behind `out`.
+pub(crate) fn write_links(links: &Seen, out: &mut Vec<u8>) -> Result<(), NoMemory>
+    ensures bytes { OnOk result (out.new.items ≡ out.old.items ++ spelled_list spelled_link links.now) }
+    ensures fits { OnOk result (FitsList FitsLink links.now) }
+{
+    let _len = links.len();
+    write_list(links.as_slice(), out)
 }
 
 impl Entries {

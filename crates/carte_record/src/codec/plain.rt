@@ -3,8 +3,8 @@ ghost use Rattle.carte_codec.specs.Each.{EachFits};
 ghost use Rattle.carte_codec.specs.Parts.{spelled_list, FitsList};
 ghost use Rattle.carte_codec.specs.Laws.{list_one};
 
-use crate::table::MOST;
 use carte_codec::{ListOf, Spelled, Unread, read_list, write_list};
+use carte_table::table::MOST;
 use carte_value::NoMemory;
 use std::alloc::Global;
 use std::marker::Model;

@@ -1,6 +1,6 @@
 use Rattle.std.proofs.Common.{◌≡◌, ◌≤◌, Less}
 use Rattle.std.specs.List.{AllAdjacentBelow}
-use Rattle.carte_value.specs.Names.{name_cmp}
+use Rattle.carte_name.specs.Names.{name_cmp}
 use Rattle.carte_book.proofs.order.are_ascending.Given as goal
 
 abbrev pub invariant-loop-at : goal.invariant-loop-at

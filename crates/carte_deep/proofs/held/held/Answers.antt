@@ -1,6 +1,6 @@
 use Rattle.std.proofs.Common.{◌<◌, ◌≤◌, ◌-◌, ap, sym, ◌∙◌, length, arith}
 use Rattle.carte_book.specs.Book.{book_view}
-use Rattle.carte_record.specs.Lookups.{first_value}
+use Rattle.carte_table.specs.Lookups.{first_value}
 use Rattle.carte_deep.specs.Holding.{given_by}
 use Rattle.carte_deep.proofs.Places.{finds_some, finds_none}
 use Rattle.carte_deep.proofs.held.held.Goals as goal

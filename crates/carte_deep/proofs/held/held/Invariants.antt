@@ -1,6 +1,6 @@
 use Rattle.std.proofs.Common.{◌≡◌, ℕ, ◌-◌, ◌<◌, length, get_or, slice_get, None}
 use Rattle.carte_book.specs.Book.{book_view}
-use Rattle.carte_record.specs.Lookups.{first_value}
+use Rattle.carte_table.specs.Lookups.{first_value}
 use Rattle.carte_deep.specs.Holding.{given_by}
 use Rattle.carte_deep.proofs.held.held.Given as goal
 

@@ -1,6 +1,6 @@
 use Rattle.std.proofs.Common.{◌≡◌, ◌<◌, ◌≤◌, [], ◌∷◌, ◌++◌, length, take, ap, sym, ◌∙◌, rules}
 use Rattle.std.proofs.lemmas.List.{take_more}
-use Rattle.carte_record.proofs.Fronts.{take_whole}
+use Rattle.carte_table.proofs.Fronts.{take_whole}
 use Rattle.carte_note.specs.Right.{ran_in}
 use Rattle.carte_engine.proofs.Running.{one_ran}
 use Rattle.carte_engine.proofs.reckon.keys_that_ran.Goals as goal

@@ -2,7 +2,7 @@ use Rattle.std.proofs.Common.{◌≡◌, ◌≤◌, length, subst, rules, ap}
 use Rattle.std.specs.Ordering.{eq_by_cmp}
 use Rattle.std.specs.Cmp.{eq_by_cmp_equiv}
 use Rattle.std.proofs.lemmas.Cmp.{nat_list_cmp_total}
-use Rattle.carte_record.proofs.Fronts.{take_whole}
+use Rattle.carte_table.proofs.Fronts.{take_whole}
 use Rattle.carte_explain.specs.Nodes.{AddsAll, names_in}
 use Rattle.carte_explain.proofs.Noding.{adds_next, adds_none}
 use Rattle.carte_explain.proofs.nodes.add_names.Goals as goal

@@ -1,5 +1,6 @@
 use Rattle.std.proofs.Common.{◌≡◌, sym, ap, ◌∙◌, true, false, option_copied}
-use Rattle.carte_record.specs.Lookups.{find_last, is_trace_of}
+use Rattle.carte_table.specs.Lookups.{find_last}
+use Rattle.carte_record.specs.Lookups.{is_trace_of}
 use Rattle.carte_explain.proofs.Finding.{last_fails, last_passes}
 use Rattle.carte_explain.proofs.traces.newest.Goals as goal
 use Rattle.carte_explain.proofs.traces.newest.Goals.{then-eq, else-eq}

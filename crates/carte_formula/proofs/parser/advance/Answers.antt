@@ -1,5 +1,5 @@
 use Rattle.std.proofs.Common.{sym, ◌∙◌, ap, slice_index}
-use Rattle.carte_formula.specs.Lexer.{start_by, start_of}
+use Rattle.carte_lexer.specs.Lexer.{start_by, start_of}
 use Rattle.carte_formula.proofs.Resuming.{blank_advances, wrong_advances}
 use Rattle.carte_formula.proofs.parser.advance.Goals as goal
 

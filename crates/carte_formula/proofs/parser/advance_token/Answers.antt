@@ -1,6 +1,6 @@
 use Rattle.std.proofs.Common.{Ok, Some, subst}
-use Rattle.carte_formula.specs.Takes.{MeetsTo}
-use Rattle.carte_formula.specs.declared.tokens.Token.TheVariants as tokens
+use Rattle.carte_lexer.specs.Takes.{MeetsTo}
+use Rattle.carte_lexer.specs.declared.tokens.Token.TheVariants as tokens
 use Rattle.carte_formula.proofs.Resuming.{fault_advances}
 use Rattle.carte_formula.proofs.parser.advance_token.Goals as goal
 

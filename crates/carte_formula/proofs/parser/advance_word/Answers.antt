@@ -1,8 +1,8 @@
 use Rattle.std.proofs.Common.{Ok, Some, sym, subst}
-use Rattle.carte_formula.specs.Takes.{MeetsTo}
+use Rattle.carte_lexer.specs.Takes.{MeetsTo}
 use Rattle.carte_formula.specs.Machine.{next_state}
 use Rattle.carte_formula.specs.Parser.{reached, holding, StepsTo}
-use Rattle.carte_formula.specs.declared.tokens.Token.TheVariants as tokens
+use Rattle.carte_lexer.specs.declared.tokens.Token.TheVariants as tokens
 use Rattle.carte_formula.proofs.Resuming.{token_advances, fault_advances, operand_advances}
 use Rattle.carte_formula.proofs.parser.advance_word.Goals as goal
 

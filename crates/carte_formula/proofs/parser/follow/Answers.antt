@@ -1,5 +1,5 @@
 use Rattle.std.proofs.Common.{sym, ◌∙◌, ap, slice_index}
-use Rattle.carte_formula.specs.Lexer.{start_by, start_of, single}
+use Rattle.carte_lexer.specs.Lexer.{start_by, start_of, single}
 use Rattle.carte_formula.specs.Tokens.{sign_token}
 use Rattle.carte_formula.proofs.parser.follow.Goals as goal
 

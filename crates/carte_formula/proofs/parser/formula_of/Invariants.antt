@@ -1,5 +1,5 @@
 use Rattle.std.proofs.Common.{◌≡◌, ◌≤◌, ◌-◌, length}
-use Rattle.carte_formula.specs.Lexer.{idle, lexed}
+use Rattle.carte_lexer.specs.Lexer.{idle, lexed}
 use Rattle.carte_formula.specs.Whole.{with_tokens}
 use Rattle.carte_formula.specs.Resumed.{remaining}
 use Rattle.carte_formula.proofs.parser.formula_of.Given as goal

@@ -1,6 +1,6 @@
 use Rattle.std.proofs.Common.{◌<◌, ◌≤◌, [], ◌∷◌, ◌++◌, length, take, ap, sym, ◌∙◌, subst, rules}
 use Rattle.std.proofs.lemmas.List.{take_more}
-use Rattle.carte_record.proofs.Fronts.{take_whole}
+use Rattle.carte_table.proofs.Fronts.{take_whole}
 use Rattle.carte_mark.specs.Marking.{AreToMark}
 use Rattle.carte_mark.proofs.Listing.{to_mark_first, to_mark_more}
 use Rattle.carte_mark.proofs.marking.to_mark.Goals as goal

@@ -1,6 +1,6 @@
 use Rattle.std.proofs.Common.{take}
 use Rattle.std.specs.HashMap.{get}
-use Rattle.carte_value.specs.Names.{name_eq}
+use Rattle.carte_name.specs.Names.{name_eq}
 use Rattle.carte_value.specs.Truths.{Among}
 use Rattle.carte_mark.specs.Tables.{AddsFor, keys_in}
 use Rattle.carte_mark.proofs.users.add_all.Given as goal

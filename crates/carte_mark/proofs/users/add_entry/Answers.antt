@@ -1,6 +1,6 @@
 use Rattle.std.proofs.Common.{ℕ, List, Result, Ok, Err, OnOk, sym, ◌∙◌, ap, option_copied}
 use Rattle.std.specs.HashMap.{get}
-use Rattle.carte_value.specs.Names.{name_eq}
+use Rattle.carte_name.specs.Names.{name_eq}
 use Rattle.carte_mark.specs.Tables.{keys_in}
 use Rattle.carte_mark.proofs.Using.{adds_found, adds_nothing}
 use Rattle.carte_mark.proofs.users.add_entry.Goals as goal

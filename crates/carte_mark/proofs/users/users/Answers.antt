@@ -1,8 +1,8 @@
 use Rattle.std.proofs.Common.{◌<◌, ◌≤◌, ℕ, List, [], ◌∷◌, ◌++◌, length, take, ap, sym, ◌∙◌, subst, rules}
 use Rattle.std.proofs.lemmas.List.{take_more}
 use Rattle.std.specs.HashMap.{get}
-use Rattle.carte_value.specs.Names.{name_eq}
-use Rattle.carte_record.proofs.Fronts.{take_whole}
+use Rattle.carte_name.specs.Names.{name_eq}
+use Rattle.carte_table.proofs.Fronts.{take_whole}
 use Rattle.carte_mark.specs.Tables.{keys_in}
 use Rattle.carte_mark.proofs.Using.{AreUsersSoFar, users_more, users_all}
 use Rattle.carte_mark.proofs.users.users.Goals as goal

@@ -1,6 +1,6 @@
 use Rattle.std.proofs.Common.{take}
 use Rattle.std.specs.HashMap.{get}
-use Rattle.carte_value.specs.Names.{name_eq}
+use Rattle.carte_name.specs.Names.{name_eq}
 use Rattle.carte_mark.specs.Tables.{keys_in}
 use Rattle.carte_mark.proofs.Using.{AreUsersSoFar}
 use Rattle.carte_mark.proofs.users.users.Given as goal

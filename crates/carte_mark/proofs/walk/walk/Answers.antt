@@ -1,6 +1,6 @@
 use Rattle.std.proofs.Common.{◌<◌, ◌≤◌, ◌+◌, ℕ, List, length, sym, subst, rules, arith}
 use Rattle.std.specs.HashMap.{get}
-use Rattle.carte_value.specs.Names.{name_eq}
+use Rattle.carte_name.specs.Names.{name_eq}
 use Rattle.carte_mark.specs.Tables.{keys_in}
 use Rattle.carte_mark.proofs.Putting.{get_there}
 use Rattle.carte_mark.proofs.Reaching.{IsReaching, reaching_first, reaching_next, reached_all, reached_few}

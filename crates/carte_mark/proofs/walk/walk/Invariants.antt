@@ -1,6 +1,6 @@
 use Rattle.std.proofs.Common.{◌-◌, ◌+◌, length}
 use Rattle.std.specs.HashMap.{get}
-use Rattle.carte_value.specs.Names.{name_eq}
+use Rattle.carte_name.specs.Names.{name_eq}
 use Rattle.carte_mark.specs.Tables.{keys_in}
 use Rattle.carte_mark.proofs.Reaching.{IsReaching}
 use Rattle.carte_mark.proofs.walk.walk.Given as goal

@@ -1,6 +1,6 @@
 use Rattle.std.proofs.Common.{◌<◌, ◌≤◌, [], ◌∷◌, ◌++◌, length, take, ap, sym, ◌∙◌, subst, rules}
 use Rattle.std.proofs.lemmas.List.{take_more}
-use Rattle.carte_record.proofs.Fronts.{take_whole}
+use Rattle.carte_table.proofs.Fronts.{take_whole}
 use Rattle.carte_book.specs.Book.{book_view}
 use Rattle.carte_record.specs.Kept.{kept_view}
 use Rattle.carte_plan.specs.Planned.{NotesAll}

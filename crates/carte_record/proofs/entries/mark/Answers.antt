@@ -1,8 +1,8 @@
 use Rattle.std.proofs.Common.{◌≡◌, ◌<◌, length, vec_len, true, false, sym, ◌∙◌, refl, rules}
 use Rattle.std.proofs.lemmas.Option.{slice_get_read}
 use Rattle.carte_record.specs.Marked.{marked_as}
-use Rattle.carte_record.proofs.Changed.{change_at, change_none}
-use Rattle.carte_record.proofs.FirstPlaces.{place_below}
+use Rattle.carte_table.proofs.Changed.{change_at, change_none}
+use Rattle.carte_table.proofs.FirstPlaces.{place_below}
 use Rattle.carte_record.proofs.entries.mark.Goals as goal
 
 pub returns-in-Some-get_mut : goal.returns-in-Some-get_mut

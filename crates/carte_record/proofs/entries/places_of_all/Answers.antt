@@ -1,11 +1,11 @@
 use Rattle.std.proofs.Common.{◌≡◌, ◌<◌, [], ◌∷◌, ◌++◌, length, take, subst, ap, sym, ◌∙◌, rules}
 use Rattle.std.specs.HashMap.{get}
 use Rattle.std.proofs.lemmas.List.{take_more}
-use Rattle.carte_value.specs.Names.{name_eq}
+use Rattle.carte_name.specs.Names.{name_eq}
 use Rattle.carte_record.specs.Lookups.{is_entry_of}
-use Rattle.carte_record.specs.Places.{IsFirstPlaces}
-use Rattle.carte_record.proofs.Names.{name_eq_sym}
-use Rattle.carte_record.proofs.FirstPlaces.{place_added}
+use Rattle.carte_table.specs.Places.{IsFirstPlaces}
+use Rattle.carte_table.proofs.Names.{name_eq_sym}
+use Rattle.carte_table.proofs.FirstPlaces.{place_added}
 use Rattle.carte_record.proofs.entries.places_of_all.Goals as goal
 
 pub loop-at-preserved : goal.loop-at-preserved

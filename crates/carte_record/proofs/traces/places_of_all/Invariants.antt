@@ -1,9 +1,9 @@
 use Rattle.std.proofs.Common.{take}
 use Rattle.std.specs.HashMap.{get}
-use Rattle.carte_value.specs.Names.{name_eq}
-use Rattle.carte_record.specs.KeyPlaces.{places_in}
+use Rattle.carte_name.specs.Names.{name_eq}
+use Rattle.carte_table.specs.KeyPlaces.{places_in}
 use Rattle.carte_record.specs.Lookups.{is_trace_of}
-use Rattle.carte_record.specs.Places.{ArePlaces}
+use Rattle.carte_table.specs.Places.{ArePlaces}
 use Rattle.carte_record.proofs.traces.places_of_all.Given as goal
 
 abbrev pub invariant-loop-at : goal.invariant-loop-at

@@ -1,7 +1,7 @@
 use Rattle.std.proofs.Common.{ℕ, List, IsTrue, sym, subst, arith}
-use Rattle.carte_value.specs.Areas.{IsPlace}
-use Rattle.carte_value.specs.Names.{is_cell_name}
-use Rattle.carte_value.proofs.Sides.{cells_by_place}
+use Rattle.carte_name.specs.Places.{IsPlace}
+use Rattle.carte_name.specs.Names.{is_cell_name}
+use Rattle.carte_name.proofs.Places.{cells_by_place}
 use Rattle.carte_sheet.proofs.cell.name_at.Goals as goal
 
 pub returns-in-Ok-clause-cell : goal.returns-in-Ok-clause-cell

@@ -1,7 +1,7 @@
 use Rattle.std.proofs.Common.{◌≡◌, ◌≤◌, ◌++◌, [], length, string_bytes, subst, ◌∙◌, rules}
 use Rattle.carte_book.specs.Book.{book_view}
 use Rattle.carte_record.specs.Kept.{kept_view}
-use Rattle.carte_record.proofs.Fronts.{take_whole}
+use Rattle.carte_table.proofs.Fronts.{take_whole}
 use Rattle.carte_shell.specs.Explained.{TellsEach}
 use Rattle.carte_shell.proofs.Telling.{tell_next, tell_none}
 use Rattle.carte_shell.proofs.why.why_lines.Goals as goal

@@ -1,7 +1,7 @@
 use Rattle.std.proofs.Common.{refl, sym, ◌∙◌, true, false}
 use Rattle.carte_book.specs.Book.{book_view}
 use Rattle.carte_record.specs.Kept.{kept_view}
-use Rattle.carte_record.specs.Lookups.{first_link}
+use Rattle.carte_table.specs.Lookups.{first_link}
 use Rattle.carte_explain.proofs.Noding.{changed, unchanged}
 use Rattle.carte_explain.proofs.paths.NeedsGraph.look.Goals as goal
 

@@ -1,8 +1,8 @@
 use Rattle.std.proofs.Common.{◌≡◌, ◌<◌, ◌∙◌, ap, sym, length, rules}
 use Rattle.std.specs.HashMap.{get}
-use Rattle.carte_value.specs.Names.{name_eq}
-use Rattle.carte_record.proofs.FirstPlaces.{place_added}
-use Rattle.carte_record.proofs.Names.{name_eq_sym}
+use Rattle.carte_name.specs.Names.{name_eq}
+use Rattle.carte_table.proofs.FirstPlaces.{place_added}
+use Rattle.carte_table.proofs.Names.{name_eq_sym}
 use Rattle.carte_note.specs.Lists.{is_of_key}
 use Rattle.carte_note.specs.Right.{key_of}
 use Rattle.carte_note.proofs.list.FinishedList.push.Goals as goal

@@ -1,10 +1,10 @@
 use Rattle.std.proofs.Common.{◌∙◌, refl, sym, subst, length, map}
 use Rattle.std.proofs.lemmas.Bool.{eqb-true}
 use Rattle.std.specs.List.{IsDistinct}
-use Rattle.carte_value.specs.Names.{name_eq}
+use Rattle.carte_name.specs.Names.{name_eq}
 use Rattle.carte_record.specs.declared.entry.Entry.{Entry}
 use Rattle.carte_record.specs.Lookups.{is_entry_of}
-use Rattle.carte_record.proofs.Onces.{first_is_last, empty_list}
+use Rattle.carte_table.proofs.Onces.{first_is_last, empty_list}
 use Rattle.carte_record.proofs.entries.Entries.can_become.Goals as goal
 
 pub returns : goal.returns

@@ -1,8 +1,8 @@
 use Rattle.std.proofs.Common.{◌<◌, [], ◌∷◌, ◌++◌, length, take, ap, sym, ◌∙◌, subst, rules}
 use Rattle.std.proofs.lemmas.List.{take_more}
 use Rattle.carte_record.specs.Lookups.{is_entry_of}
-use Rattle.carte_record.specs.Steps.{HasRoom}
-use Rattle.carte_record.proofs.Steps.{more_room, room_begins, begins_on}
+use Rattle.carte_table.specs.Steps.{HasRoom}
+use Rattle.carte_table.proofs.Steps.{more_room, room_begins, begins_on}
 use Rattle.carte_record.proofs.entries.Entries.make_room.Goals as goal
 
 pub loop-entry-preserved : goal.loop-entry-preserved

@@ -1,6 +1,6 @@
 use Rattle.std.proofs.Common.{take}
 use Rattle.carte_record.specs.Lookups.{is_entry_of}
-use Rattle.carte_record.specs.Steps.{Begins, HasRoom}
+use Rattle.carte_table.specs.Steps.{Begins, HasRoom}
 use Rattle.carte_record.proofs.entries.Entries.make_room.Given as goal
 
 abbrev pub invariant-loop-entry : goal.invariant-loop-entry

@@ -1,7 +1,7 @@
 use Rattle.std.proofs.Common.{◌∙◌, sym, refl}
 use Rattle.carte_record.specs.Lookups.{is_entry_of}
 use Rattle.carte_record.specs.Marked.{marked_as}
-use Rattle.carte_record.proofs.Changed.{place_kept, length_changed}
+use Rattle.carte_table.proofs.Changed.{place_kept, length_changed}
 use Rattle.carte_record.proofs.entries.Entries.mark.Goals as goal
 
 pub invariant_of-self : goal.invariant_of-self

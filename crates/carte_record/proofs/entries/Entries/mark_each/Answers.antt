@@ -1,6 +1,6 @@
 use Rattle.std.proofs.Common.{◌<◌, [], ◌∷◌, ◌++◌, length, take, ap, sym, ◌∙◌, rules}
 use Rattle.std.proofs.lemmas.List.{take_more}
-use Rattle.carte_record.specs.Changes.{change_first}
+use Rattle.carte_table.specs.Changes.{change_first}
 use Rattle.carte_record.specs.Lookups.{is_entry_of}
 use Rattle.carte_record.specs.Marked.{all_marked, marked_as}
 use Rattle.carte_record.proofs.Unmarking.{marked_end}

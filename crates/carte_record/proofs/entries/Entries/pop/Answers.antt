@@ -1,10 +1,10 @@
 use Rattle.std.proofs.Common.{◌≡◌, [], ◌∷◌, length, subst, ap, rules, arith, length-append}
 use Rattle.std.specs.HashMap.{get}
-use Rattle.carte_value.specs.Names.{name_eq}
-use Rattle.carte_record.specs.Places.{IsFirstPlaces}
+use Rattle.carte_name.specs.Names.{name_eq}
+use Rattle.carte_table.specs.Places.{IsFirstPlaces}
 use Rattle.carte_record.specs.Lookups.{is_entry_of}
-use Rattle.carte_record.proofs.Names.{name_eq_is, name_eq_self, name_eq_sym}
-use Rattle.carte_record.proofs.FirstPlaces.{place_forgotten}
+use Rattle.carte_table.proofs.Names.{name_eq_is, name_eq_self, name_eq_sym}
+use Rattle.carte_table.proofs.FirstPlaces.{place_forgotten}
 use Rattle.carte_record.proofs.entries.Entries.pop.Goals as goal
 
 pub invariant_of-self : goal.invariant_of-self

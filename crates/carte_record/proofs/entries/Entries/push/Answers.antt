@@ -1,7 +1,7 @@
 use Rattle.std.proofs.Common.{◌∙◌, ap, sym}
-use Rattle.carte_value.specs.Names.{name_eq}
+use Rattle.carte_name.specs.Names.{name_eq}
 use Rattle.carte_record.specs.Lookups.{is_entry_of}
-use Rattle.carte_record.proofs.Names.{name_eq_sym}
+use Rattle.carte_table.proofs.Names.{name_eq_sym}
 use Rattle.carte_record.proofs.entries.Entries.push.Goals as goal
 
 pub invariant_of-self : goal.invariant_of-self

@@ -1,4 +1,4 @@
-use Rattle.carte_record.proofs.Steps.{replaced_more}
+use Rattle.carte_table.proofs.Steps.{replaced_more}
 use Rattle.carte_record.proofs.entries.Entries.replace_all.Goals as goal
 
 pub loop-entry-preserved : goal.loop-entry-preserved

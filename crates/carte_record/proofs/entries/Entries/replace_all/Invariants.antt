@@ -1,5 +1,5 @@
 use Rattle.carte_record.specs.Lookups.{is_entry_of}
-use Rattle.carte_record.specs.Steps.{Replaces}
+use Rattle.carte_table.specs.Steps.{Replaces}
 use Rattle.carte_record.proofs.entries.Entries.replace_all.Given as goal
 
 abbrev pub invariant-loop-entry : goal.invariant-loop-entry

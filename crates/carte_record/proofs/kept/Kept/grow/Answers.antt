@@ -2,8 +2,9 @@ use Rattle.std.proofs.Common.{◌≡◌, subst}
 use Rattle.std.specs.Option.{option_or}
 use Rattle.std.proofs.lemmas.Result.{on_ok_weaker}
 use Rattle.carte_value.specs.declared.digest.Digest.{Digest}
-use Rattle.carte_record.specs.Lookups.{first_value, is_link_of, is_entry_of}
-use Rattle.carte_record.specs.Steps.{IsReady}
+use Rattle.carte_table.specs.Lookups.{first_value, is_link_of}
+use Rattle.carte_record.specs.Lookups.{is_entry_of}
+use Rattle.carte_table.specs.Steps.{IsReady}
 use Rattle.carte_record.proofs.kept.Kept.grow.Goals as goal
 
 pub returns-clause-rest : goal.returns-clause-rest

@@ -1,5 +1,5 @@
 use Rattle.std.proofs.Common.{refl}
-use Rattle.carte_record.proofs.Steps.{begins_self}
+use Rattle.carte_table.proofs.Steps.{begins_self}
 use Rattle.carte_record.proofs.kept.Kept.grow_traces.Goals as goal
 
 pub returns-in_err-append-clause-front : goal.returns-in_err-append-clause-front

@@ -1,5 +1,6 @@
 use Rattle.std.proofs.Common.{refl, ap}
-use Rattle.carte_record.specs.Lookups.{first_link, first_entry, first_value}
+use Rattle.carte_table.specs.Lookups.{first_link, first_value}
+use Rattle.carte_record.specs.Lookups.{first_entry}
 use Rattle.carte_record.proofs.Growing.{kept_same, no_traces}
 use Rattle.carte_record.proofs.kept.Kept.under.Goals as goal
 

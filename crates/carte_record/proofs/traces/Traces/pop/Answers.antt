@@ -1,11 +1,11 @@
 use Rattle.std.proofs.Common.{[], ◌∷◌, length, subst, ap, arith, length-append}
 use Rattle.std.specs.HashMap.{get}
-use Rattle.carte_value.specs.Names.{name_eq}
-use Rattle.carte_record.specs.KeyPlaces.{places_in}
-use Rattle.carte_record.specs.Places.{ArePlaces}
+use Rattle.carte_name.specs.Names.{name_eq}
+use Rattle.carte_table.specs.KeyPlaces.{places_in}
+use Rattle.carte_table.specs.Places.{ArePlaces}
 use Rattle.carte_record.specs.Lookups.{is_trace_of}
-use Rattle.carte_record.proofs.Names.{name_eq_sym}
-use Rattle.carte_record.proofs.AllPlaces.{places_dropped}
+use Rattle.carte_table.proofs.Names.{name_eq_sym}
+use Rattle.carte_table.proofs.AllPlaces.{places_dropped}
 use Rattle.carte_record.proofs.traces.Traces.pop.Goals as goal
 
 pub invariant_of-self : goal.invariant_of-self

@@ -1,10 +1,10 @@
 use Rattle.std.proofs.Common.{◌≡◌, ◌<◌, ◌∙◌, ap, sym, length, rules}
 use Rattle.std.specs.HashMap.{get}
-use Rattle.carte_value.specs.Names.{name_eq}
-use Rattle.carte_record.specs.KeyPlaces.{places_in}
+use Rattle.carte_name.specs.Names.{name_eq}
+use Rattle.carte_table.specs.KeyPlaces.{places_in}
 use Rattle.carte_record.specs.Lookups.{is_trace_of}
-use Rattle.carte_record.proofs.Names.{name_eq_sym}
-use Rattle.carte_record.proofs.AllPlaces.{places_added}
+use Rattle.carte_table.proofs.Names.{name_eq_sym}
+use Rattle.carte_table.proofs.AllPlaces.{places_added}
 use Rattle.carte_record.proofs.traces.Traces.push.Goals as goal
 
 pub invariant_of-self-2 : goal.invariant_of-self-2

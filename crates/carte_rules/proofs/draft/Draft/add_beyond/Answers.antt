@@ -1,6 +1,6 @@
 use Rattle.std.proofs.Common.{refl}
 use Rattle.std.specs.BTreeSet.{contains, btree_set_len}
-use Rattle.carte_value.specs.Names.{name_cmp}
+use Rattle.carte_name.specs.Names.{name_cmp}
 use Rattle.carte_rules.proofs.Drafts.{holds_name, not_beyond, one_key}
 use Rattle.carte_rules.proofs.draft.Draft.add_beyond.Goals as goal
 

@@ -1,6 +1,6 @@
 use Rattle.std.proofs.Common.{◌≡◌, ◌-◌, ◌++◌, map}
 use Rattle.std.specs.List.{range_with_len}
-use Rattle.carte_value.specs.Areas.{cell_at}
+use Rattle.carte_name.specs.Places.{cell_at}
 use Rattle.carte_value.proofs.area.Area.push_row.Given as goal
 
 abbrev pub invariant-loop-column : goal.invariant-loop-column

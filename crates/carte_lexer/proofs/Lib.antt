@@ -1,0 +1,9 @@
+pub mod Bytes
+pub mod Clear
+pub mod Lexing
+pub mod Lexed
+pub mod Longest
+pub mod Running
+pub mod Unpaired
+pub mod Taking
+pub mod Ranging

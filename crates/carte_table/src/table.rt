@@ -1,0 +1,143 @@
+//! Tables from keys to places in a list.
+ghost use Rattle.std.specs.Prelude.{◌≡◌, ◌<◌, ◌^◌, ◌++◌, ◌∷◌, [], Bool, None, Some, IsTrue, ◌↔◌, length, map, find, slice_get, option_copied, is_ok, OnOk, OnErr, vec_len, vec_capacity, if◌then◌else◌};
+ghost use Rattle.std.specs.HashMap.{get};
+ghost use Rattle.std.specs.List.{IsDistinct};
+ghost use Rattle.carte_table.specs.Places.{first_place, IsFirstPlaces, AddsPlace, ForgetsPlace};
+ghost use Rattle.carte_table.specs.Changes.{change_first};
+
+use carte_value::{NoMemory, Seeded};
+use std::collections::HashMap;
+use std::hash::Hash;
+
+/// The one name of these tables, so that their hasher can be changed here. It begins with a seed, since names can be chosen
+/// that collide in one that is fixed.
+pub type Table<K, V> = HashMap<K, V, Seeded>;
+
+/// The most items that a list has.
+pub const MOST: usize = 4294967295;
+
+/// From how many items on a list grows by less than doubling.
+const LONG: usize = 1024;
+
+/// Makes room at once for so many more items, where the list is short beside them: then it takes just what it needs. A
+/// longer one grows as items come, since else each of many small batches would copy it. Where there is no memory for the
+/// room, putting an item behind the others says so.
+pub fn widen<T>(items: &mut Vec<T>, more: usize)
+    ensures { items.new.items ≡ items.old.items }
+{
+    if items.len() < more / 2 {
+        let _room = items.reserve_exact(more);
+    }
+}
+
+/// Makes a place for one more item. A long list that is full grows by an eighth of itself and isn't doubled: what was
+/// loaded takes just what it needs, and one item more would make it twice that.
+pub fn make_place<T>(items: &mut Vec<T>) -> Result<(), NoMemory>
+    ensures items { items.new.items ≡ items.old.items }
+    ensures ok { OnOk result (vec_len items.new < vec_capacity items.new) }
+{
+    let len = items.len();
+    if len >= LONG && len == items.capacity() {
+        let _room = items.reserve_exact(len / 8);
+    }
+    items.reserve(1)?;
+    Ok(())
+}
+
+/// The first item of a key.
+pub fn first<'a, K: Eq + Hash, T>(items: &'a [T], table: &Table<K, u32>, key: &K) -> Option<&'a T>
+    ensures { (is_of : K → T → Bool) → IsFirstPlaces is_of items.now (get K.eq table.now) → option_copied result ≡ find (is_of key.now) items.now }
+{
+    match place(table, key) {
+        Some(at) => item(items, at),
+        None => None,
+    }
+}
+
+fn item<T>(items: &[T], at: usize) -> Option<&T>
+    ensures { option_copied result ≡ slice_get items.now at }
+{
+    items.get(at)
+}
+
+/// The first place of a key.
+pub fn place<K: Eq + Hash>(table: &Table<K, u32>, key: &K) -> Option<usize>
+    ensures { result ≡ get K.eq table.now key.now }
+{
+    match table.get(key) {
+        Some(at) => Some(*at as usize),
+        None => None,
+    }
+}
+
+/// Whether no key comes twice in a list with this table, which has then as many keys as there are items.
+pub fn each_once<K: Eq + Hash, T>(items: &[T], table: &Table<K, u32>) -> bool
+    ensures { IsTrue result → (is_of : K → T → Bool) (key : T → K) → ((k : K) (x : T) → is_of k x ≡ K.eq k (key x)) → IsFirstPlaces is_of items.now (get K.eq table.now) → IsDistinct K.eq (map key items.now) }
+{
+    items.len() == table.len()
+}
+
+/// Puts an item in the place of the first one of its key, where there is one.
+pub fn set<T: Drop>(items: &mut Vec<T>, at: Option<usize>, item: T)
+    ensures { (p : T → Bool) → at ≡ first_place p items.old.items → items.new.items ≡ change_first p (λ x. item) items.old.items }
+{
+    if let Some(at) = at {
+        if let Some(old) = items.get_mut(at) {
+            *old = item;
+        }
+    }
+}
+
+/// Takes a place that is no longer one out of the table.
+pub fn forget<K: Eq + Hash + Drop>(table: &mut Table<K, u32>, key: &K, at: usize)
+    ensures { ForgetsPlace K.eq (get K.eq table.old) (get K.eq table.new) key.now at }
+{
+    if has_place(table, key, at) {
+        table.remove(key);
+    }
+}
+
+fn has_place<K: Eq + Hash>(table: &Table<K, u32>, key: &K, at: usize) -> bool
+    ensures { IsTrue result ↔ (get K.eq table.now key.now ≡ Some at) }
+{
+    match place(table, key) {
+        Some(place) => place == at,
+        None => false,
+    }
+}
+
+/// Puts an item behind the others, and the place of its key into the table where it has none.
+pub fn push<K: Eq + Hash + Drop, T: Drop>(
+    items: &mut Vec<T>,
+    table: &mut Table<K, u32>,
+    key: K,
+    item: T,
+) -> Result<(), NoMemory>
+    requires { length items.old.items < 2 ^ 32 }
+    ensures items { items.new.items ≡ (if is_ok result then items.old.items ++ item ∷ [] else items.old.items) }
+    ensures bound { length items.new.items < 2 ^ 32 }
+    ensures table { (is_of : K → T → Bool) → ((q : K) → is_of q item ≡ K.eq key q) → IsFirstPlaces is_of items.old.items (get K.eq table.old) → IsFirstPlaces is_of items.new.items (get K.eq table.new) }
+{
+    let at = items.len();
+    if at >= MOST {
+        return Err(NoMemory);
+    }
+    make_place(items)?;
+    add(table, key, at as u32)?;
+    items.push_reserved(item);
+    Ok(())
+}
+
+/// Puts the place of a key into the table, where it has none.
+pub fn add<K: Eq + Hash + Drop>(table: &mut Table<K, u32>, key: K, at: u32) -> Result<(), NoMemory>
+    ensures ok { OnOk result (AddsPlace K.eq (get K.eq table.old) (get K.eq table.new) key at) }
+    ensures no_memory { OnErr result ((q : K) → get K.eq table.new q ≡ get K.eq table.old q) }
+{
+    match table.entry(key) {
+        Ok(entry) => {
+            entry.or_insert(at);
+            Ok(())
+        }
+        Err(_) => Err(NoMemory),
+    }
+}
