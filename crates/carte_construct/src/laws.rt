@@ -30,9 +30,9 @@ pub fn early_cutoff()
     ensures { (K : SomeKept) (b c : Book) (H : List Book) (k : List ℕ) (marks : List (List ℕ)) → IsBase K b H → IsHeld (tracing Constructive) K b k → ((j : List ℕ) → Among (needs b k) j → clean c j ≡ clean b j) → IsHeld (tracing Constructive) (with_marks K marks) c k }
 {}
 
-/// Inputs set back: a key that is held for a book is held for it again behind the build of any other book, whichever keys
-/// that has run, by whichever rebuilder, and with any marks. So its old result comes without a run, though newer traces
-/// and the key's entry tell of another one.
+/// Inputs set back: a key that is held for a book is held for it again behind the build of another book with the same
+/// rules, whichever keys that has run, by whichever rebuilder, and with any marks; other rules have all traces dropped.
+/// So its old result comes without a run, though newer traces and the key's entry tell of another one.
 pub fn set_back_is_held()
     ensures { (h : How) (K : SomeKept) (b c : Book) (k : List ℕ) (finished : Finishes) (chain marks : List (List ℕ)) → IsHeld (tracing Constructive) K b k → IsHeld (tracing Constructive) (with_marks (left h c K finished chain) marks) b k }
 {}

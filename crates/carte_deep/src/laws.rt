@@ -23,8 +23,8 @@ pub fn stays_held()
     ensures { (K : SomeKept) (b c : Book) (H : List Book) (k : List ℕ) (marks : List (List ℕ)) → IsBase K b H → IsHeld (tracing Deep) K b k → ((i : List ℕ) → Among (beneath b k) i → content c i ≡ content b i) → IsHeld (tracing Deep) (with_marks K marks) c k }
 {}
 
-/// Inputs set back: a key that is held for a book is held for it again behind the build of any other book, whichever keys
-/// that has run, by whichever rebuilder, and with any marks.
+/// Inputs set back: a key that is held for a book is held for it again behind the build of another book with the same
+/// rules, whichever keys that has run, by whichever rebuilder, and with any marks; other rules have all traces dropped.
 pub fn set_back_is_held()
     ensures { (h : How) (K : SomeKept) (b c : Book) (k : List ℕ) (finished : Finishes) (chain marks : List (List ℕ)) → IsHeld (tracing Deep) K b k → IsHeld (tracing Deep) (with_marks (left h c K finished chain) marks) b k }
 {}
