@@ -10,3 +10,7 @@ IsEarlier k r c = (row_of k < r) ⊎ ((row_of k ≡ r) × (column_of k < c))
 
 pub record IsBefore (m : Content) (r c : ℕ) : Type 0 where
   pub each : (k : List ℕ) → is_some (get m k) ≡ true → IsEarlier k r c
+
+-- in the rows above this one alone
+abbrev pub IsAbove : Content → ℕ → Type 0
+IsAbove m r = IsBefore m r 1

@@ -94,9 +94,13 @@ abbrev pub FieldsInto : ℕ → ℕ → List (List ℕ) → Content → Result C
 FieldsInto r c [] m o = o ≡ Ok m
 FieldsInto r c (f ∷ fs) m o = (x : Result Content BookFault) × FieldInto r c f m x × Then x (FieldsInto r (c + 1) fs) o
 
+-- all fields of a row
+abbrev pub RowInto : ℕ → List (List ℕ) → Content → Result Content BookFault → Type 0
+RowInto r fields m o = FieldsInto r 1 fields m o
+
 abbrev pub RowsInto : ℕ → List (List (List ℕ)) → Content → Result Content BookFault → Type 0
 RowsInto r [] m o = o ≡ Ok m
-RowsInto r (fs ∷ rows) m o = (x : Result Content BookFault) × FieldsInto r 1 fs m x × Then x (RowsInto (r + 1) rows) o
+RowsInto r (fs ∷ rows) m o = (x : Result Content BookFault) × RowInto r fs m x × Then x (RowsInto (r + 1) rows) o
 
 -- at most 65,536 keys
 abbrev pub book_of : Content → Result Book BookFault

@@ -10,8 +10,8 @@ use Rattle.carte_book.specs.Book.{Item, Book, book_view}
 use Rattle.carte_book.specs.declared.book.Book.{Book as CodeBook}
 use Rattle.carte_book.specs.declared.fault.BookFault.{BookFault}
 use Rattle.carte_book.specs.declared.fault.BookFault.TheVariants.{Formula, NoMemory}
-use Rattle.carte_sheet.specs.Reading.{Content, ValueAt, IsTooLong, FilledInto, FieldInto, FieldsInto}
-use Rattle.carte_sheet.specs.Places.{IsBefore}
+use Rattle.carte_sheet.specs.Reading.{Content, ValueAt, IsTooLong, FilledInto, FieldInto, RowInto}
+use Rattle.carte_sheet.specs.Places.{IsAbove, IsBefore}
 use Rattle.carte_sheet.specs.Drafts.{Holds}
 use Rattle.carte_sheet.specs.declared.draft.Draft.{Draft}
 
@@ -58,8 +58,8 @@ LeavesField r c field m d (Err fault) = IsCause fault → FieldInto r c field m 
 
 -- and what all fields of the row give
 abbrev pub LeavesRow : ℕ → List (List ℕ) → Content → Draft → Result (Unit {0}) BookFault → Type 0
-LeavesRow r fields m d (Ok u) = (n : Content) × FieldsInto r 1 fields m (Ok n) × Holds d n × IsBefore n (r + 1) 1
-LeavesRow r fields m d (Err fault) = IsCause fault → FieldsInto r 1 fields m (Err fault)
+LeavesRow r fields m d (Ok u) = (n : Content) × RowInto r fields m (Ok n) × Holds d n × IsAbove n (r + 1)
+LeavesRow r fields m d (Err fault) = IsCause fault → RowInto r fields m (Err fault)
 
 -- an error that no record's length or bytes give
 abbrev pub EndsRecords : ErrorKind → Type 0

@@ -6,7 +6,7 @@ ghost use Rattle.csv.specs.Records.{fields_of};
 ghost use Rattle.carte_sheet.specs.Drafts.{Holds};
 ghost use Rattle.carte_sheet.specs.Reading.{Content, InRows, records_of};
 ghost use Rattle.carte_sheet.specs.Steps.{Answers, LeavesRow, LeavesField, EndsRecords};
-ghost use Rattle.carte_sheet.specs.Places.{IsBefore};
+ghost use Rattle.carte_sheet.specs.Places.{IsAbove, IsBefore};
 
 use crate::cell::read_field;
 use crate::draft::Draft;
@@ -61,7 +61,7 @@ fn read_row(
     draft: &mut Draft,
 ) -> Result<(), BookFault>
     requires { 1 ≤ row }
-    ensures { (m : Content) → Holds draft.old m → IsBefore m row 1 → LeavesRow row (fields_of fields.now) m draft.new result }
+    ensures { (m : Content) → Holds draft.old m → IsAbove m row → LeavesRow row (fields_of fields.now) m draft.new result }
 {
     for at in 0..fields.len() {
         if let Err(fault) = read_at(alloc, row, at, fields, draft) {

@@ -30,7 +30,7 @@ use Rattle.carte_report.specs.declared.status.Status.TheVariants.{Done, BookRefu
 use Rattle.carte_top.specs.Around.{OverSource, OverDisk, OverSink, TakesAll}
 use Rattle.carte_top.specs.Chosen.{scheduler_of, BookOfKind}
 use Rattle.carte_top.specs.Due.{AllFit, AllOver, IsBadNow, IsBook, IsBuildDue, IsCleanDue, IsDue, IsDueFor, IsExplainDue, IsFound, IsHindered, IsKept, IsPlanned, IsSessionDue}
-use Rattle.carte_top.specs.Found.{Clears, ClearsNot, Commits, FitsIn, Found, HasRoomFor, Holds, IsClearing, IsNeeded, IsOver, IsPut, Overfills, Refuses, Replies, Explains, Carries}
+use Rattle.carte_top.specs.Found.{Clears, ClearsNot, Commits, FitsIn, Found, Holds, IsClearing, IsNeeded, IsOver, IsPut, Overfills, Refuses, Replies, Explains, Carries}
 use Rattle.carte_top.specs.Outcome.{Asks, Built, Cleaned, ComesTo, Does, Explained, IsBad, Lacks, Ran, Sat}
 use Rattle.carte_top.proofs.Unique.{one_meant, one_needed, one_of_kind, one_outcome, one_refusal, served_or_refused}
 
@@ -237,7 +237,7 @@ module _ (limit : ℕ) (w : Asked) (s : OverSource) (d : OverDisk) (k : OverSink
 
 module _ (limit : ℕ) (d : OverDisk) (k : OverSink) where
   abbrev Fits : SomeKept → Type 0
-  Fits K = (B : Batch) → IsClearing K B → HasRoomFor limit d.old.now.reads B
+  Fits K = AllFit limit d (IsClearing K)
 
   cleaned_due : (status due : Status) → Cleaned limit d k status → IsCleanDue limit d due → (status ≡ due) ⊎ IsHindered status
   cleaned_due ReadFault due did is = inr tt
@@ -266,7 +266,7 @@ module _ (limit : ℕ) (d : OverDisk) (k : OverSink) where
   cleaned_due (BadState at) (StateFull n m) did is = absurd (kept_or_bad limit d (λ K. AllOver limit d n m (IsClearing K)) at is did.0)
   cleaned_due (StateFull n m) Done did is =
       let at = found_one limit d Fits (ClearsNot limit d n m) is did.0 in
-      absurd (let within = at.2 at.3.batch at.3.clearing n (at.3.over.needed_is is.0) in omega (arith, within, at.3.over.over))
+      absurd (all_fit limit d (IsClearing at.0) at.3.batch at.3.clearing is.0 at.2 n m at.3.filled at.3.over)
   cleaned_due (StateFull n m) (BadState at) did is = absurd (found_or_bad limit d (ClearsNot limit d n m) at is did.0)
   cleaned_due (StateFull n m) (StateFull needed most) did is =
       let at = found_one limit d (λ K. AllOver limit d needed most (IsClearing K)) (ClearsNot limit d n m) is did.0 in

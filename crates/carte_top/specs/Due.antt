@@ -20,7 +20,7 @@ use Rattle.carte_report.specs.declared.status.Status.{Status}
 use Rattle.carte_report.specs.declared.status.Status.TheVariants.{Done, BookRefused, Usage, BuildRefused, ReadFault, WriteFault, DiskFault, BadState, StateFull, NoMemory, ScriptTooLong}
 use Rattle.carte_top.specs.Around.{OverSource, OverDisk}
 use Rattle.carte_top.specs.Chosen.{scheduler_of, how_of, BookOfKind}
-use Rattle.carte_top.specs.Found.{FitsIn, HasRoomFor, IsNeeded, IsClearing}
+use Rattle.carte_top.specs.Found.{FitsIn, IsNeeded, IsClearing}
 use Rattle.carte_top.specs.Outcome.{Asks}
 
 -- ---- what is there
@@ -65,7 +65,7 @@ IsBuildDue limit w s d (StateFull needed most) = IsBook w.kind s (λ b. IsFound 
 IsBuildDue limit w s d _ = ⊥
 
 abbrev pub IsCleanDue : ℕ → OverDisk → Status → Type 0
-IsCleanDue limit d Done = IsKept limit d (λ K. (B : Batch) → IsClearing K B → HasRoomFor limit d.old.now.reads B)
+IsCleanDue limit d Done = IsKept limit d (λ K. AllFit limit d (IsClearing K))
 IsCleanDue limit d (BadState at) = IsBadNow limit d at
 IsCleanDue limit d (StateFull needed most) = IsKept limit d (λ K. AllOver limit d needed most (IsClearing K))
 IsCleanDue limit d _ = ⊥

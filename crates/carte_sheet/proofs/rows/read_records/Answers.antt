@@ -4,7 +4,7 @@ use Rattle.csv.specs.Reading.{strip_bom}
 use Rattle.csv.specs.Records.{fields_of}
 use Rattle.csv.specs.declared.parser.State.{State}
 use Rattle.carte_sheet.specs.Reading.{RowsInto, records_of}
-use Rattle.carte_sheet.specs.Places.{IsBefore}
+use Rattle.carte_sheet.specs.Places.{IsAbove}
 use Rattle.carte_sheet.proofs.Cells.{before_first}
 use Rattle.carte_sheet.proofs.Records.{rest_from, all_from_start}
 use Rattle.carte_sheet.proofs.RowLemmas.{rows_turn, rows_fault, rows_end, all_rows}
@@ -61,7 +61,7 @@ loop-found-preserved c =
       turn.1,
       left.0,
       left.2,
-      subst (λ (q : ℕ). IsBefore left.0 q 1) (sym up) left.3,
+      subst (λ (q : ℕ). IsAbove left.0 q) (sym up) left.3,
       λ o r. inv.12 o (rows_turn row (rest_from a.state inv.7) (rest_from b.state turn.0) fs inv.9 left.0 o turn.2 left.1 (subst (λ (q : ℕ). RowsInto q (rest_from b.state turn.0) left.0 o) up r)),
     )
 
