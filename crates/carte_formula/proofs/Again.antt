@@ -8,13 +8,13 @@ use Rattle.carte_name.specs.declared.kind.Kind.{Kind}
 use Rattle.carte_name.specs.declared.kind.Kind.TheVariants.{Rules, Sheet}
 use Rattle.carte_value.specs.Areas.{area_of}
 use Rattle.carte_tree.specs.Tree.{first_corner, last_corner, rank, Tree, number, ref, chain, call, Steps, Args, arg, Arg, one, cells, Term, steps_of, args_of, arity, takes_ranges, is_if, filled}
-use Rattle.carte_formula.specs.Tokens.{Level, compare, concat, sum, product, Func, Token, cell, func, op, lpar, rpar, comma, colon}
+use Rattle.carte_formula.specs.Tokens.{Level, Func, Token, cell, func, op, lpar, rpar, comma, colon}
 use Rattle.carte_tree.specs.declared.expr.Func.TheVariants as functions
 use Rattle.carte_formula.specs.Grammar.{Counts, Spells, unary, single, chained, Repeats, none, more, Unary, primary, negated, posited, Primary, a_number, a_text, a_word, a_cell, a_call, a_group, Argument, formula, range, Arguments, last, next}
 use Rattle.carte_formula.specs.Print.{name_by, bracketed, shown, steps_shown, args_shown, later_shown, arg_shown, held}
 use Rattle.carte_lexer.specs.Kinds.{AllOfKind}
 use Rattle.carte_tree.specs.Printed.{tight}
-use Rattle.carte_formula.proofs.Sound.{raise}
+use Rattle.carte_formula.proofs.Sound.{raise, rank_low}
 use Rattle.carte_formula.proofs.Corners.{corners_again}
 
 pub kind_both : (q : Kind) (ts us : List Token) → AllOfKind q (ts ++ us) → AllOfKind q ts × AllOfKind q us
@@ -41,15 +41,9 @@ anywhere m p = raise m zero (least m) (unary (primary p))
 everywhere : (m : ℕ) {ts : List Token} {e : Tree} → Unary ts e → Spells m ts e
 everywhere m u = raise m zero (least m) (unary u)
 
-pub rank_below : (l : Level) → suc (rank l) ≤ 4
-rank_below product = omega arith
-rank_below sum = omega arith
-rank_below concat = omega arith
-rank_below compare = omega arith
-
 held_chain : (b : Bool) (l : Level) (e : Tree) (ss : Steps) (m : ℕ) → nat_lt (rank l) m ≡ b → Spells (suc (rank l)) (shown (chain l e ss)) (chain l e ss) → Spells m (bracketed b (shown (chain l e ss))) (chain l e ss)
 held_chain true l e ss m is h = raise m (suc (rank l)) (ltb-true (rank l) m is) h
-held_chain false l e ss m is h = anywhere m (a_group (raise 4 (suc (rank l)) (rank_below l) h))
+held_chain false l e ss m is h = anywhere m (a_group (raise 4 (suc (rank l)) (rank_low l) h))
 
 word_token : (b : Bool) (k : List ℕ) (m : ℕ) → Spells m (name_by b k ∷ []) (ref k)
 word_token true k m = anywhere m (a_cell k)
@@ -106,7 +100,7 @@ filled_arguments false b orig h = h
 
 -- no bracket stands round a whole formula
 pub bare : (e : Tree) → tight 4 e ≡ true
-bare (chain l e ss) = lt-ltb (rank l) 4 (rank_below l)
+bare (chain l e ss) = lt-ltb (rank l) 4 (rank_low l)
 bare _ = refl
 
 range_again : {f : Func} (q : Kind) → takes_ranges f ≡ true → (a b : List ℕ) → AllOfKind q (cell a ∷ colon ∷ cell b ∷ []) → Argument f (arg_shown (cells (area_of a b))) (cells (area_of a b))

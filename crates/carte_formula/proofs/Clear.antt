@@ -2,7 +2,7 @@
 use Rattle.std.proofs.Common.{ℕ, Bool, true, false, List, [], ◌∷◌, ◌≡◌, Option, Some, None, if◌then◌else◌}
 use Rattle.carte_tree.specs.Tree.{Tree, number, text, ref, Arg, takes_ranges, signed}
 use Rattle.carte_formula.specs.Tokens.{Op, sub, add, Func, Area, Token, digits, quoted, word, cell, func, op, lpar, rpar, comma, colon}
-use Rattle.carte_frames.specs.Begun.{Frame, sign, chain_at, group, args, joined}
+use Rattle.carte_formula.specs.Begun.{Frame, sign, chain_at, group, args, joined}
 use Rattle.carte_formula.specs.Machine.{State, wants, had, named, corner, half, ranged, after, cell_at, sign_at, begin, go_on, next_state, parsed, with}
 use Rattle.carte_lexer.proofs.Clear.{Closing, Opening, Bracket, Clear, AllClear}
 

@@ -5,12 +5,12 @@ use Rattle.carte_tree.specs.Tree.{Tree, Arg, one, arity, room_in}
 use Rattle.carte_tree.specs.Code.{args_trees}
 use Rattle.carte_tree.specs.declared.expr.Arg.{Arg as CodeArg}
 use Rattle.carte_formula.specs.Tokens.{Func}
-use Rattle.carte_frames.specs.Frames.{called_at, frames_of, with_arg}
-use Rattle.carte_frames.specs.Begun.{Frame as Begun, args}
+use Rattle.carte_formula.specs.Frames.{called_at, frames_of, with_arg}
+use Rattle.carte_formula.specs.Begun.{Frame as Begun, args}
 use Rattle.carte_formula.specs.Machine.{wants, split, next_args}
 use Rattle.carte_formula.specs.Parser.{args_next}
-use Rattle.carte_frames.specs.declared.frames.Frame.{Frame}
-use Rattle.carte_frames.specs.declared.frames.Frame.TheVariants as code
+use Rattle.carte_formula.specs.declared.frames.Frame.{Frame}
+use Rattle.carte_formula.specs.declared.frames.Frame.TheVariants as code
 
 -- a comma in a call
 next_by : (f g : Func) (xs : List Arg) (S : List Begun) (n : ℕ) → f ≡ g → length xs ≡ n → next_args f xs S ≡ (if room_in (arity g) n then Some (wants (args f xs ∷ S)) else None)

@@ -6,7 +6,7 @@ use Rattle.std.proofs.lemmas.List.{append-nil}
 use Rattle.carte_tree.specs.Tree.{level_of, rank, Tree, ref, chain, Arg, Term, steps_of, Arity, many, between, arity, enough_in, room_in, takes_ranges, called_tree}
 use Rattle.carte_formula.specs.Tokens.{Op, Level, Func, Token, op, rpar, comma, colon}
 use Rattle.carte_formula.specs.Grammar.{Counts, Spells, unary, single, chained, Repeats, none, more, Unary, primary, negated, posited, Primary, a_number, a_text, a_word, a_cell, a_call, a_group, Argument, formula, range, Arguments, last, next}
-use Rattle.carte_frames.specs.Begun.{Frame, sign, chain_at, group, args, joined, grown}
+use Rattle.carte_formula.specs.Begun.{Frame, sign, chain_at, group, args, joined, grown}
 use Rattle.carte_formula.specs.Machine.{wants, had, corner, after, cell_at, end_args, next_args, parsed, with}
 
 -- what follows is no part of what operators of ranks below n join

@@ -2,7 +2,7 @@
 use Rattle.std.proofs.Common.{ℕ, List, true, ◌≡◌, ◌≤◌, min, max, refl, arith}
 use Rattle.carte_name.specs.Names.{is_cell_name}
 use Rattle.carte_name.specs.Places.{cell_at, column_of, row_of, IsPlace}
-use Rattle.carte_value.specs.Areas.{area_of, IsArea}
+use Rattle.carte_value.specs.Areas.{area_of}
 use Rattle.carte_name.proofs.Places.{place_within, at_is_cell, column_at, row_at}
 use Rattle.carte_tree.specs.Tree.{first_corner, last_corner}
 use Rattle.carte_formula.specs.Tokens.{Area}
@@ -45,12 +45,3 @@ first_is_cell a b h k = at_is_cell _ _ (least_place (column_of a) (row_of a) (co
 pub last_is_cell : (a b : List ℕ) → is_cell_name a ≡ true → is_cell_name b ≡ true → is_cell_name (last_corner (area_of a b)) ≡ true
 unfolding area_of
 last_is_cell a b h k = at_is_cell _ _ (greatest_place (column_of a) (row_of a) (column_of b) (row_of b) (place_within a h) (place_within b k))
-
-pub area_valid : (a b : List ℕ) → is_cell_name a ≡ true → is_cell_name b ≡ true → IsArea (area_of a b)
-unfolding area_of
-area_valid a b h k = record {
-  first = least_place (column_of a) (row_of a) (column_of b) (row_of b) (place_within a h) (place_within b k);
-  last = greatest_place (column_of a) (row_of a) (column_of b) (row_of b) (place_within a h) (place_within b k);
-  across = omega arith;
-  down = omega arith;
-}

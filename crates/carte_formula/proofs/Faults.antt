@@ -4,7 +4,7 @@ use Rattle.std.proofs.lemmas.Bool.{ltb-true, ltb-false}
 use Rattle.std.proofs.lemmas.List.{append-nil, take-append-le, take_all}
 use Rattle.carte_tree.specs.Tree.{level_of, rank, Tree, number, text, ref, chain, Arg, one, cells, Term, steps_of, arity, enough_in, room_in, takes_ranges, called_tree, signed}
 use Rattle.carte_formula.specs.Tokens.{Op, sub, add, Level, Func, Token, digits, quoted, word, cell, func, op, lpar, rpar, comma, colon, Placed, tokens_of}
-use Rattle.carte_frames.specs.Begun.{Frame, sign, chain_at, group, args, joined, grown, depth_of}
+use Rattle.carte_formula.specs.Begun.{Frame, sign, chain_at, group, args, joined, grown, depth_of}
 use Rattle.carte_formula.specs.Machine.{State, wants, had, named, corner, half, ranged, after, cell_at, sign_at, begin, close, split, go_on, next_state, end_of, parsed, moved, with}
 use Rattle.carte_formula.specs.Reading.{FormulaFault, TooDeep, dropped, closed, Round, round_step, rounds, around, Shallow, ReadAs, depth, or_syntax, deeper, tokens_read}
 use Rattle.carte_formula.proofs.Complete.{Fits, complete}

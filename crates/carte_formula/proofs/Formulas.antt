@@ -11,7 +11,7 @@ use Rattle.carte_formula.specs.Grammar.{Counts, Spells, unary, single, chained, 
 use Rattle.carte_lexer.specs.Kinds.{OfKind, AllOfKind}
 use Rattle.carte_tree.specs.Formula.{IsWhole, IsCount, args_count, IsExpr, AreSteps, AreArgs, IsArg, HasNames, StepsNames, ArgsNames, ArgNames, has_ranges}
 use Rattle.carte_formula.proofs.Again.{kind_both, Filled}
-use Rattle.carte_formula.proofs.Corners.{area_valid}
+use Rattle.carte_value.proofs.Rectangles.{area_within}
 
 number_whole : (q : Kind) (n : ℤ) → OfKind q (digits n) → IsWhole n
 number_whole q (pos n) h = h
@@ -58,7 +58,7 @@ filled_names false b f q xs h = h
 
 range_is : (f : Func) (q : Kind) (a b : List ℕ) → takes_ranges f ≡ true → AllOfKind q (cell a ∷ colon ∷ cell b ∷ []) → IsArg f (cells (area_of a b))
 range_is f Rules a b is h = absurd h.0
-range_is f Sheet a b is h = (is, area_valid a b h.0 h.1.1.0)
+range_is f Sheet a b is h = (is, area_within a b h.0 h.1.1.0)
 
 mutual
   pub spelt_expr : {n : ℕ} {ts : List Token} {e : Tree} (q : Kind) → Spells n ts e → AllOfKind q ts → IsExpr e

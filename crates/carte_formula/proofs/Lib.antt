@@ -18,3 +18,5 @@ pub mod Resuming
 pub mod Wanting
 pub mod Formulas
 pub mod ReadWhole
+pub mod FrameDepths
+pub mod Joints

@@ -36,7 +36,7 @@ told q bytes (Err (BadToken place)) s low is h = rw is at h
 told q bytes (Err (TooLong place)) s low is h = rw is at h
 told q bytes (Err (TooWide place)) s low is h = rw is at h
 
-of_tokens : (q : Kind) (bytes : List ℕ) (x : Result (List Placed) ℕ) → length bytes ≤ 4096 → lexed q idle 0 bytes ≡ x → Reads q bytes (with_tokens x (length bytes))
+pub of_tokens : (q : Kind) (bytes : List ℕ) (x : Result (List Placed) ℕ) → length bytes ≤ 4096 → lexed q idle 0 bytes ≡ x → Reads q bytes (with_tokens x (length bytes))
 of_tokens q bytes (Ok ps) low is = with_both q bytes ps (tokens_read (wants []) ps (length bytes)) (wide_from 0 ps) low is (reads ps (length bytes)) refl
 of_tokens q bytes (Err place) low is = (low, is)
 

@@ -17,7 +17,7 @@ use Rattle.carte_formula.proofs.Complete.{complete}
 use Rattle.carte_formula.proofs.Viable.{one_tree}
 use Rattle.carte_formula.proofs.Faults.{reads}
 use Rattle.carte_formula.proofs.Readings.{read_so}
-use Rattle.carte_formula.proofs.ReadWhole.{with_both}
+use Rattle.carte_formula.proofs.ReadWhole.{of_tokens}
 use Rattle.carte_formula.proofs.Again.{again, bare}
 use Rattle.carte_formula.proofs.ShownKind.{shown_kind}
 use Rattle.carte_formula.proofs.Heights.{shown_shallow}
@@ -44,13 +44,9 @@ pub only_reading : (q : Kind) (bytes : List ℕ) (r : Result Tree FormulaFault) 
 only_reading q bytes r h t = sym (told q bytes r h t)
 
 -- and so each text is read
-reads_tokens : (q : Kind) (bytes : List ℕ) (r : Result (List Placed) ℕ) → length bytes ≤ 4096 → lexed q idle 0 bytes ≡ r → Reads q bytes (with_tokens r (length bytes))
-reads_tokens q bytes (Err place) low is = (low, is)
-reads_tokens q bytes (Ok ps) low is = with_both q bytes ps (tokens_read (wants []) ps (length bytes)) (wide_from 0 ps) low is (reads ps (length bytes)) refl
-
 reads_by : (long : Bool) (q : Kind) (bytes : List ℕ) → nat_lt 4096 (length bytes) ≡ long → Reads q bytes (if long then Err (TooLong (length bytes)) else with_tokens (lexed q idle 0 bytes) (length bytes))
 reads_by true q bytes is = (ltb-true 4096 (length bytes) is, refl)
-reads_by false q bytes is = reads_tokens q bytes (lexed q idle 0 bytes) (ltb-false 4096 (length bytes) is) refl
+reads_by false q bytes is = of_tokens q bytes (lexed q idle 0 bytes) (ltb-false 4096 (length bytes) is) refl
 
 pub reads_reading : (q : Kind) (bytes : List ℕ) → Reads q bytes (reading q bytes)
 reads_reading q bytes = reads_by (nat_lt 4096 (length bytes)) q bytes refl

@@ -12,6 +12,7 @@ use Rattle.carte_formula.specs.Grammar.{Spells, unary, single, chained, Repeats,
 use Rattle.carte_formula.specs.Print.{name_token, bracketed, shown, steps_shown, args_shown, later_shown, arg_shown}
 use Rattle.carte_lexer.specs.Kinds.{OfKind, AllOfKind}
 use Rattle.carte_tree.specs.Printed.{tight}
+use Rattle.carte_lexer.proofs.Bytes.{and_left, and_right}
 use Rattle.carte_formula.proofs.Again.{kind_both, kind_join, later_of, shown_more, Filled}
 use Rattle.carte_formula.proofs.Corners.{first_is_cell, last_is_cell}
 
@@ -25,14 +26,6 @@ and_false false = refl
 
 lt_leb : (a b : ℕ) → b < a → nat_le a b ≡ false
 lt_leb a b h = grind (arith, nat_tests)
-
-and_left : (a b : Bool) → (a && b) ≡ true → a ≡ true
-and_left true b h = refl
-and_left false b h = h
-
-and_right : (a b : Bool) → (a && b) ≡ true → b ≡ true
-and_right true b h = h
-and_right false b h = absurd (let z : ⊥ = cc in z)
 
 not_upper : (b : ℕ) → is_lower b ≡ true → is_upper b ≡ false
 not_upper b h = let k : 97 ≤ b = leb-true 97 b (and_left (nat_le 97 b) (nat_le b 122) h) in rw (lt_leb b 90 (omega arith)) (and_false (nat_le 65 b))

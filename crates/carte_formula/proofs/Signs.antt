@@ -4,11 +4,11 @@ use Rattle.carte_tree.specs.Tree.{Tree, Arg, ref, takes_ranges}
 use Rattle.carte_tree.specs.Code.{args_trees}
 use Rattle.carte_tree.specs.declared.expr.Arg.{Arg as CodeArg}
 use Rattle.carte_formula.specs.Tokens.{Func}
-use Rattle.carte_frames.specs.Frames.{NoSign, is_signed_at, may_range, frames_of}
-use Rattle.carte_frames.specs.Begun.{Frame as Begun, args}
+use Rattle.carte_formula.specs.Frames.{NoSign, is_signed_at, may_range, frames_of}
+use Rattle.carte_formula.specs.Begun.{Frame as Begun, args}
 use Rattle.carte_formula.specs.Machine.{after, had, corner, cell_at}
-use Rattle.carte_frames.specs.declared.frames.Frame.{Frame}
-use Rattle.carte_frames.specs.declared.frames.Frame.TheVariants as code
+use Rattle.carte_formula.specs.declared.frames.Frame.{Frame}
+use Rattle.carte_formula.specs.declared.frames.Frame.TheVariants as code
 
 pub unsigned_after : (v : Tree) (S : List Frame) → NoSign S → after v (frames_of S) ≡ had v (frames_of S)
 unsigned_after v [] h = refl

@@ -7,7 +7,7 @@ use Rattle.carte_tree.specs.Tree.{level_of, rank, Tree, number, text, ref, chain
 use Rattle.carte_formula.specs.Tokens.{Op, sub, add, Level, compare, concat, sum, product, Func, Token, digits, quoted, word, cell, func, op, lpar, rpar, comma, colon}
 use Rattle.carte_tree.specs.declared.expr.Func.TheVariants as functions
 use Rattle.carte_formula.specs.Grammar.{Counts, Spells, unary, single, chained, Repeats, none, more, Unary, primary, negated, posited, a_number, a_text, a_word, a_cell, a_call, a_group, Argument, formula, range, Arguments, last, next}
-use Rattle.carte_frames.specs.Begun.{Frame, sign, chain_at, group, args, joined, ended, grown}
+use Rattle.carte_formula.specs.Begun.{Frame, sign, chain_at, group, args, joined, ended, grown}
 use Rattle.carte_formula.specs.Machine.{State, wants, had, named, corner, half, ranged, after, cell_at, sign_at, begin, close, split, go_on, next_state, end_of, parsed, with}
 use Rattle.carte_formula.proofs.Complete.{Fits}
 
@@ -90,7 +90,7 @@ nexts_args : (f : Func) (xs : List Arg) (x : Arg) (S : List Frame) (us ys ws ts 
 nexts_args f xs x S us ys ws ts false room s g h is = tt
 nexts_args f xs x S us ys ws ts true room s g h is = (us, s, ys ++ (ws ++ comma ∷ []), given_more f ys ws xs x g h, room, rw is (simp append_assoc refl))
 
-rank_low : (l : Level) → suc (rank l) ≤ 4
+pub rank_low : (l : Level) → suc (rank l) ≤ 4
 rank_low product = omega arith
 rank_low sum = omega arith
 rank_low concat = omega arith

@@ -7,7 +7,7 @@ use Rattle.carte_tree.specs.Tree.{Tree, number, ref, chain, Arg, one, cells, ste
 use Rattle.carte_formula.specs.Tokens.{Func, Area, Token, digits, cell, lpar, rpar, comma}
 use Rattle.carte_tree.specs.declared.expr.Func.TheVariants as functions
 use Rattle.carte_formula.specs.Grammar.{Spells, Viable}
-use Rattle.carte_frames.specs.Begun.{Frame, sign, chain_at, group, args, ended, grown}
+use Rattle.carte_formula.specs.Begun.{Frame, sign, chain_at, group, args, ended, grown}
 use Rattle.carte_formula.specs.Machine.{State, wants, had, named, corner, half, ranged, after, close, split, end_args, next_args, next_state, parsed, moved, with}
 use Rattle.carte_formula.proofs.Complete.{complete}
 use Rattle.carte_formula.proofs.Sound.{sound}

@@ -5,9 +5,9 @@ use Rattle.carte_tree.specs.Code.{tree_of}
 use Rattle.carte_tree.specs.declared.expr.Expr.{Expr}
 use Rattle.carte_formula.specs.Tokens.{Func, digits, quoted, word, func}
 use Rattle.carte_formula.specs.Machine.{State as Begun, after, had, named, next_state}
-use Rattle.carte_frames.specs.Frames.{frames_of}
+use Rattle.carte_formula.specs.Frames.{frames_of}
 use Rattle.carte_formula.specs.Parser.{state_of, reached, holding, is_wanting, operand_at}
-use Rattle.carte_frames.specs.declared.frames.Frame.{Frame}
+use Rattle.carte_formula.specs.declared.frames.Frame.{Frame}
 use Rattle.carte_formula.specs.declared.parser.states.Parser.{Parser}
 use Rattle.carte_formula.specs.declared.parser.states.State.{State}
 use Rattle.carte_formula.specs.declared.parser.states.State.TheVariants as states

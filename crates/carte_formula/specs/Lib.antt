@@ -1,5 +1,7 @@
 pub mod Tokens
 pub mod Grammar
+pub mod Begun
+pub mod Frames
 pub mod Machine
 pub mod Reading
 pub mod Print

@@ -3,7 +3,7 @@ use Rattle.std.specs.Prelude.{ℕ, true, false, List, [], ◌∷◌, ◌++◌, l
 use Rattle.carte_value.specs.Areas.{area_of}
 use Rattle.carte_tree.specs.Tree.{Tree, number, text, ref, chain, Arg, one, cells, steps_of, arity, enough_in, room_in, takes_ranges, called_tree, signed}
 use Rattle.carte_formula.specs.Tokens.{Op, sub, add, Func, Area, Token, digits, quoted, word, cell, func, op, lpar, rpar, comma, colon}
-use Rattle.carte_frames.specs.Begun.{Frame, sign, chain_at, group, args, grown, joined, ended}
+use Rattle.carte_formula.specs.Begun.{Frame, sign, chain_at, group, args, grown, joined, ended}
 
 pub data State : Type 0 where
   wants : List Frame → State  -- an operand comes

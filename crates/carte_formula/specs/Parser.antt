@@ -3,12 +3,12 @@ use Rattle.std.specs.Prelude.{ℕ, Bool, true, false, nat_lt, List, [], ◌∷�
 use Rattle.carte_name.specs.declared.NoMemory.{NoMemory}
 use Rattle.carte_tree.specs.Tree.{Tree, Arg}
 use Rattle.carte_tree.specs.Code.{tree_of, args_trees}
-use Rattle.carte_frames.specs.Begun.{Frame, args}
-use Rattle.carte_frames.specs.Frames.{frames_of}
+use Rattle.carte_formula.specs.Begun.{Frame, args}
+use Rattle.carte_formula.specs.Frames.{frames_of}
 use Rattle.carte_formula.specs.Machine.{State, wants, had, named, corner, half, ranged, next_args, after}
 use Rattle.carte_formula.specs.Reading.{FormulaFault, BadSyntax, TooDeep, NoMemory as OutOfMemory, depth}
 use Rattle.carte_tree.specs.declared.expr.Expr.{Expr}
-use Rattle.carte_frames.specs.declared.frames.Frame.{Frame as CodeFrame}
+use Rattle.carte_formula.specs.declared.frames.Frame.{Frame as CodeFrame}
 use Rattle.carte_formula.specs.declared.parser.states.State.{State as CodeState}
 use Rattle.carte_formula.specs.declared.parser.states.State.TheVariants as states
 use Rattle.carte_formula.specs.declared.parser.states.Range.{Range}

@@ -3,7 +3,7 @@ use Rattle.std.specs.Prelude.{ℕ, Bool, true, false, List, [], ◌∷◌, ◌++
 use Rattle.carte_tree.specs.Tree.{Tree}
 use Rattle.carte_formula.specs.Tokens.{Token, digits, quoted, word, cell, func, op, lpar, rpar, comma, colon, Placed, tokens_of}
 use Rattle.carte_formula.specs.Grammar.{Spells, Viable}
-use Rattle.carte_frames.specs.Begun.{depth_of}
+use Rattle.carte_formula.specs.Begun.{depth_of}
 use Rattle.carte_formula.specs.Machine.{State, wants, had, named, corner, half, ranged, next_state, end_of}
 pub use Rattle.carte_tree.specs.declared.fault.FormulaFault.{FormulaFault}
 pub use Rattle.carte_tree.specs.declared.fault.FormulaFault.TheVariants.{BadToken, BadSyntax, TooDeep, TooLong, TooWide, NoMemory}

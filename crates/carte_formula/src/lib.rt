@@ -6,8 +6,8 @@
 //! those of `carte_tree`; the calls of both that users of formulas need are handed on here.
 //!
 //! The reader takes a text's tokens one after the other, as they are met, and makes no list of them: it keeps a state and a stack of
-//! the signs, chains, groups and calls that are begun (specs/Machine.antt; the stack is that of `carte_frames`), and beside it how many
-//! cells the ranges so far have (`carte_lexer`). From each state of this machine some tokens lead to a formula, so the first token that
+//! the signs, chains, groups and calls that are begun (specs/Machine.antt; `frames.rt`), and beside it how many cells
+//! the ranges so far have (`carte_lexer`). From each state of this machine some tokens lead to a formula, so the first token that
 //! it refuses is the fault's place. Only then is the rest looked through for a bad token, which comes before a fault of syntax
 //! (specs/Resumed.antt). No fitting text is read twice.
 //!
@@ -23,6 +23,7 @@
 //! - A list of all tokens before the first is parsed: it took a fifth of the time. The laws of tokens speak of that list all the same.
 #![tactic(auto)]
 
+mod frames;
 mod laws;
 mod parser;
 mod reader;

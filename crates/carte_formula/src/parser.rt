@@ -3,10 +3,9 @@ ghost use Rattle.carte_lexer.specs.Lexer.{start_of, single, begins, idle, lexed}
 ghost use Rattle.carte_formula.specs.Machine.{State as Machine, next_state};
 ghost use Rattle.carte_formula.specs.Tokens.{sign_token};
 ghost use Rattle.carte_formula.specs.Reading.{depth};
-ghost use Rattle.carte_frames.specs.Begun.{depth_of};
+ghost use Rattle.carte_formula.specs.Begun.{depth_of};
 ghost use Rattle.carte_lexer.specs.declared.tokens.Token.TheVariants as tokens;
-ghost use Rattle.carte_lexer.specs.declared.tokens.Class.TheVariants as classes;
-ghost use Rattle.carte_frames.specs.Frames.{frames_of};
+ghost use Rattle.carte_formula.specs.Frames.{frames_of};
 ghost use Rattle.carte_formula.specs.Parser.{reached, holding, range_depth, OptionGoesTo, StepsTo, StandsTo};
 ghost use Rattle.carte_lexer.specs.Takes.{ReadsTo};
 ghost use Rattle.carte_formula.specs.Whole.{with_tokens};
@@ -18,12 +17,12 @@ mod operand;
 mod states;
 mod steps;
 
+use crate::frames::Stack;
 use crate::parser::ending::whole;
 use crate::parser::operand::{put_away, with_signs};
 use crate::parser::states::{Parser, Range, State};
 use crate::parser::steps::{go_on, is_wanting, step, step_sign, take_func};
 use crate::{Expr, FormulaFault, Func};
-use carte_frames::Stack;
 use carte_lexer::{Class, Placed, Ranges, Sign, Start, Token, first_fault, meet_run, start_of};
 use carte_value::{Kind, Name};
 use std::alloc::Global;
@@ -151,7 +150,7 @@ fn advance_one(
     }
 }
 
-/// The names of a rule file have a way of their own, and so have those of its functions, since a book's formulas have little else.
+/// The names of a rule file and those of its functions are told from other runs here, since a book's formulas have little else.
 #[inline(always)]
 fn advance_run(
     alloc: Global,
@@ -166,41 +165,13 @@ fn advance_run(
     ensures { Advances kind text.now at progress.old result progress.new }
 {
     match class {
-        Class::Word => advance_word(alloc, kind, text, at, progress),
+        Class::Word => advance_token(alloc, kind, text, at, Class::Word, progress),
         Class::Capitals => advance_token(alloc, kind, text, at, Class::Capitals, progress),
         _ => advance_token(alloc, kind, text, at, class, progress),
     }
 }
 
-/// A name, as the only run behind which `follow` stands, so that `follow` is written out here and not called.
-#[inline(always)]
-fn advance_word(
-    alloc: Global,
-    kind: Kind,
-    text: &str,
-    at: usize,
-    progress: &mut Progress,
-) -> Result<usize, FormulaFault>
-    requires place { at < length text.now }
-    requires start { start_of kind (slice_index text.now at) ≡ begins classes.Word }
-    ensures { Advances kind text.now at progress.old result progress.new }
-{
-    let (token, end) = meet_run(alloc, kind, text, at, Class::Word)?;
-    let placed = Placed { place: at, token };
-    progress.ranges.take(alloc, &placed)?;
-    let token = placed.token;
-    match token {
-        Token::Word(name) => match stand(alloc, at, name, &mut progress.parser) {
-            Ok(operand) => follow(alloc, kind, text, end, operand, progress),
-            Err(fault) => Err(first_fault(alloc, kind, text, end, fault)),
-        },
-        token => match take(alloc, Placed { place: at, token }, &mut progress.parser) {
-            Ok(()) => Ok(end),
-            Err(fault) => Err(first_fault(alloc, kind, text, end, fault)),
-        },
-    }
-}
-
+/// A run's token. Behind a name stands what mostly follows it, so that the operand isn't put away first.
 #[inline(always)]
 fn advance_token(
     alloc: Global,
@@ -219,6 +190,10 @@ fn advance_token(
     progress.ranges.take(alloc, &placed)?;
     let token = placed.token;
     match token {
+        Token::Word(name) => match stand(alloc, at, name, &mut progress.parser) {
+            Ok(operand) => follow(alloc, kind, text, end, operand, progress),
+            Err(fault) => Err(first_fault(alloc, kind, text, end, fault)),
+        },
         Token::Func(func) => match take_func_at(at, func, &mut progress.parser) {
             Ok(()) => Ok(end),
             Err(fault) => Err(first_fault(alloc, kind, text, end, fault)),

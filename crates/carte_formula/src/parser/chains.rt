@@ -1,14 +1,14 @@
 ghost use Rattle.std.specs.Prelude.{◌≡◌, ◌++◌, ◌∷◌, []};
 ghost use Rattle.carte_tree.specs.Tree.{called_tree};
-ghost use Rattle.carte_frames.specs.Frames.{called_at, frame_of, frames_of};
+ghost use Rattle.carte_formula.specs.Frames.{called_at, frame_of, frames_of};
 ghost use Rattle.carte_formula.specs.Machine.{after, close, split, end_args, next_args};
 ghost use Rattle.carte_tree.specs.Code.{tree_of, arg_tree, args_trees};
 ghost use Rattle.carte_formula.specs.Parser.{args_next, GoesTo};
 
+use crate::frames::{Frame, call_of, signed, whole_chain, with_arg, with_last};
 use crate::parser::operand::{after, put};
 use crate::parser::states::{Parser, State};
 use crate::{Arg, Expr, Func};
-use carte_frames::{Frame, call_of, signed, whole_chain, with_arg, with_last};
 use carte_value::NoMemory;
 use std::alloc::Global;
 

@@ -1,13 +1,13 @@
 ghost use Rattle.std.specs.Prelude.{◌≡◌, ◌∷◌, true, OnOk, IfOk};
 ghost use Rattle.carte_formula.specs.Machine.{after, had, cell_at, begin, sign_at, wants};
-ghost use Rattle.carte_frames.specs.Frames.{may_range, frame_of, frames_of};
+ghost use Rattle.carte_formula.specs.Frames.{may_range, frame_of, frames_of};
 ghost use Rattle.carte_formula.specs.Tokens.{sign_token};
 ghost use Rattle.carte_tree.specs.Code.{tree_of};
 ghost use Rattle.carte_formula.specs.Parser.{holding, reached, GoesTo};
 
+use crate::frames::{Frame, Stack, signed};
 use crate::parser::states::{Parser, Range, State};
 use crate::{Expr, Op};
-use carte_frames::{Frame, Stack, signed};
 use carte_lexer::{Cell, Sign};
 use carte_value::NoMemory;
 use std::alloc::Global;

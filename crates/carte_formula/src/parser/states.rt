@@ -1,5 +1,5 @@
+use crate::frames::Stack;
 use crate::{Arg, Expr, Func};
-use carte_frames::Stack;
 use carte_lexer::Cell;
 use carte_value::Area;
 

@@ -4,14 +4,14 @@ ghost use Rattle.carte_tree.specs.Code.{tree_of, args_trees};
 ghost use Rattle.carte_formula.specs.Tokens.{sign_token};
 ghost use Rattle.carte_lexer.specs.declared.tokens.Token.TheVariants as tokens;
 ghost use Rattle.carte_formula.specs.declared.parser.states.State.TheVariants as states;
-ghost use Rattle.carte_frames.specs.Frames.{frames_of, EndsTo};
+ghost use Rattle.carte_formula.specs.Frames.{frames_of, EndsTo};
 ghost use Rattle.carte_formula.specs.Parser.{range_of, reached, is_wanting, operand_at, GoesTo, OptionGoesTo};
 
+use crate::frames::{Frame, end, join};
 use crate::parser::chains::{close, end_args, next_args, split};
 use crate::parser::operand::{after, begin, cell_at, put, sign_at};
 use crate::parser::states::{Parser, Range, State};
 use crate::{Arg, Expr, Func, Op};
-use carte_frames::{Frame, end, join};
 use carte_lexer::{Cell, Sign, Token};
 use carte_value::{Area, NoMemory};
 use std::alloc::Global;

@@ -1,7 +1,7 @@
 use Rattle.std.proofs.Common.{None, Some, sym, ◌∙◌, ap, if◌then◌else◌}
 use Rattle.carte_tree.specs.Code.{arg_tree}
 use Rattle.carte_formula.specs.Machine.{wants}
-use Rattle.carte_frames.specs.Frames.{frames_of, with_arg}
+use Rattle.carte_formula.specs.Frames.{frames_of, with_arg}
 use Rattle.carte_formula.proofs.Commas.{arg_room}
 use Rattle.carte_formula.proofs.parser.chains.next_arg.Goals as goal
 

@@ -1,9 +1,9 @@
 -- The depth that the stack counts is that of its frames.
 use Rattle.std.proofs.Common.{List, [], ◌∷◌, true, length, ◌≡◌, ◌≤◌, refl, arith}
-use Rattle.carte_frames.specs.Frames.{depth_in, is_empty_at, frames_of}
-use Rattle.carte_frames.specs.Begun.{depth_of}
-use Rattle.carte_frames.specs.declared.frames.Frame.{Frame}
-use Rattle.carte_frames.specs.declared.frames.Frame.TheVariants as code
+use Rattle.carte_formula.specs.Frames.{depth_in, is_empty_at, frames_of}
+use Rattle.carte_formula.specs.Begun.{depth_of}
+use Rattle.carte_formula.specs.declared.frames.Frame.{Frame}
+use Rattle.carte_formula.specs.declared.frames.Frame.TheVariants as code
 
 pub depth_same : (S : List Frame) → depth_of (frames_of S) ≡ depth_in S
 depth_same [] = refl

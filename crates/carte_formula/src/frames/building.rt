@@ -1,10 +1,10 @@
 ghost use Rattle.std.specs.Prelude.{◌≡◌, ◌++◌, ◌∷◌, [], ◌==◌, ◌&&◌, IfOk};
 ghost use Rattle.carte_tree.specs.Tree.{chain, steps_of, signed, call, args_of, filled, is_if, called_tree};
-ghost use Rattle.carte_frames.specs.Begun.{grown};
+ghost use Rattle.carte_formula.specs.Begun.{grown};
 ghost use Rattle.carte_tree.specs.Code.{tree_of, chain_tree, rest_steps, terms_of, args_trees};
 
 use crate::frames::OpenChain;
-use crate::lists::{add, with_last};
+use crate::frames::lists::{add, with_last};
 use carte_tree::{Arg, Args, Chain, Expr, Func, Level, Op, Rest, chain_of, neg_of};
 use carte_value::NoMemory;
 use std::alloc::Global;

@@ -1,11 +1,11 @@
 ghost use Rattle.std.specs.Prelude.{◌≡◌, ◌∷◌, [], OnOk};
 ghost use Rattle.carte_tree.specs.Tree.{level_of};
 ghost use Rattle.carte_tree.specs.Code.{tree_of};
-ghost use Rattle.carte_frames.specs.Begun.{chain_at, joined, ended};
-ghost use Rattle.carte_frames.specs.Frames.{joint_at, frame_of, frames_of, EndsTo};
-ghost use Rattle.carte_frames.specs.declared.frames.Joint.TheVariants as joints;
+ghost use Rattle.carte_formula.specs.Begun.{chain_at, joined, ended};
+ghost use Rattle.carte_formula.specs.Frames.{joint_at, frame_of, frames_of, EndsTo};
+ghost use Rattle.carte_formula.specs.declared.frames.Joint.TheVariants as joints;
 
-use crate::building::{signed, whole_chain};
+use crate::frames::building::{signed, whole_chain};
 use crate::frames::{Frame, Joint, OpenChain, Stack};
 use carte_tree::{Expr, Op};
 use carte_value::NoMemory;

@@ -8,12 +8,12 @@ use Rattle.carte_tree.specs.declared.expr.Expr.{Expr}
 use Rattle.carte_tree.specs.declared.expr.Func.{Func}
 use Rattle.carte_tree.specs.declared.expr.Level.{Level}
 use Rattle.carte_name.specs.declared.NoMemory.{NoMemory}
-use Rattle.carte_frames.specs.Begun.{Frame as Begun, sign, chain_at, group, args}
-use Rattle.carte_frames.specs.declared.frames.Joint.{Joint}
-use Rattle.carte_frames.specs.declared.frames.OpenChain.{OpenChain}
-use Rattle.carte_frames.specs.declared.frames.Joint.TheVariants as joints
-use Rattle.carte_frames.specs.declared.frames.Frame.{Frame}
-use Rattle.carte_frames.specs.declared.frames.Frame.TheVariants as code
+use Rattle.carte_formula.specs.Begun.{Frame as Begun, sign, chain_at, group, args}
+use Rattle.carte_formula.specs.declared.frames.Joint.{Joint}
+use Rattle.carte_formula.specs.declared.frames.OpenChain.{OpenChain}
+use Rattle.carte_formula.specs.declared.frames.Joint.TheVariants as joints
+use Rattle.carte_formula.specs.declared.frames.Frame.{Frame}
+use Rattle.carte_formula.specs.declared.frames.Frame.TheVariants as code
 
 abbrev pub open_frame : OpenChain → Begun
 open_frame c = chain_at c.level (tree_of c.first) (terms_of c.steps.items) c.last

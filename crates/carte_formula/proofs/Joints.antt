@@ -3,13 +3,13 @@ use Rattle.std.proofs.Common.{Bool, true, false, List, [], ◌∷◌, ◌≡◌,
 use Rattle.carte_tree.specs.Tree.{Tree, chain, level_of, rank, steps_of}
 use Rattle.carte_tree.specs.Code.{tree_of, terms_of}
 use Rattle.carte_tree.specs.declared.expr.Op.{Op}
-use Rattle.carte_frames.specs.Frames.{joint_at, joint_of, is_empty_at, open_frame, frames_of}
-use Rattle.carte_frames.specs.Begun.{Frame as Begun, chain_at, grown, joined, ended}
-use Rattle.carte_frames.specs.declared.frames.OpenChain.{OpenChain}
-use Rattle.carte_frames.specs.declared.frames.Frame.{Frame}
-use Rattle.carte_frames.specs.declared.frames.Frame.TheVariants as code
-use Rattle.carte_frames.specs.declared.frames.Joint.{Joint}
-use Rattle.carte_frames.specs.declared.frames.Joint.TheVariants as joints
+use Rattle.carte_formula.specs.Frames.{joint_at, joint_of, is_empty_at, open_frame, frames_of}
+use Rattle.carte_formula.specs.Begun.{Frame as Begun, chain_at, grown, joined, ended}
+use Rattle.carte_formula.specs.declared.frames.OpenChain.{OpenChain}
+use Rattle.carte_formula.specs.declared.frames.Frame.{Frame}
+use Rattle.carte_formula.specs.declared.frames.Frame.TheVariants as code
+use Rattle.carte_formula.specs.declared.frames.Joint.{Joint}
+use Rattle.carte_formula.specs.declared.frames.Joint.TheVariants as joints
 
 abbrev joint_by : Bool → Bool → Joint
 joint_by less same = if less then joints.Ends else if same then joints.GoesOn else joints.Begins

@@ -1,9 +1,26 @@
+// What of a formula is begun and not ended, and how it is ended.
+//
+// Behind some tokens stand signs, brackets and calls that nothing has closed yet, and chains of operators of one level whose last
+// operator wants its operand: the frames (specs/Begun.antt), newest first on a `Stack`, which counts its depth. An operator behind an
+// operand ends the signs and the chains that bind tighter, and goes on with a chain of its own level or begins one (`join`). The text's
+// end ends all (`end`). Contracts see a frame with trees in place of the code's expressions (specs/Frames.antt). The newest frame is
+// looked at in place and changed in place: one that was taken from the stack and put back would be copied twice for each token.
+//
+// Turned down: a stack of operators beside one of operands, since a chain keeps what it has, so that a sum of many terms is built
+// once; and chains as pairs that lean to the left, flattened at the end, which takes memory for each operator, and a second walk.
 ghost use Rattle.std.specs.Prelude.{◌≡◌, [], ◌∷◌, drop, slice_get, IsSome, OnOk};
-ghost use Rattle.carte_frames.specs.Frames.{weight_of, depth_in, PopsSign, PopsCall, PopsChain, is_empty_at, is_called_at, is_chained_at, is_signed_at, called_at, called_by, may_range, chain_joint, joint_at, joint_of};
+ghost use Rattle.carte_formula.specs.Frames.{weight_of, depth_in, PopsSign, PopsCall, PopsChain, is_empty_at, is_called_at, is_chained_at, is_signed_at, called_at, called_by, may_range, chain_joint, joint_at, joint_of};
 
-use crate::lists::add;
+mod building;
+mod chains;
+mod lists;
+
+use crate::frames::lists::add;
+pub use building::{call_of, signed, whole_chain, with_arg};
 use carte_tree::{Arg, Expr, Func, Level, Op};
 use carte_value::NoMemory;
+pub use chains::{end, join};
+pub use lists::with_last;
 use std::alloc::Global;
 use std::collections::VecDeque;
 
@@ -51,9 +68,9 @@ pub struct Stack {
 impl Stack {
     ghost use Rattle.carte_tree.specs.Tree.{level_of};
     ghost use Rattle.carte_tree.specs.Code.{tree_of, arg_tree};
-    ghost use Rattle.carte_frames.specs.Begun.{depth_of, joined};
-    ghost use Rattle.carte_frames.specs.Frames.{frames_of, with_arg};
-    ghost use Rattle.carte_frames.specs.declared.frames.Joint.TheVariants as joints;
+    ghost use Rattle.carte_formula.specs.Begun.{depth_of, joined};
+    ghost use Rattle.carte_formula.specs.Frames.{frames_of, with_arg};
+    ghost use Rattle.carte_formula.specs.declared.frames.Joint.TheVariants as joints;
 
     /// Nothing is begun.
     pub fn new(alloc: Global) -> Stack
@@ -66,7 +83,7 @@ impl Stack {
     }
 
     /// Nothing is begun any more. Behind a whole formula nothing is anyway.
-    #[tactic(auto, using(crate::proofs::Depths::no_frames))]
+    #[tactic(auto, using(crate::proofs::FrameDepths::no_frames))]
     #[inline(always)]
     pub fn clear(&mut self)
         ensures { self.new.frames.items ≡ [] }
@@ -89,7 +106,7 @@ impl Stack {
     }
 
     /// How many brackets, calls and signs stand round the present place.
-    #[tactic(auto, using(crate::proofs::Depths::depth_same))]
+    #[tactic(auto, using(crate::proofs::FrameDepths::depth_same))]
     pub fn depth(&self) -> usize
         ensures { result ≡ depth_of (frames_of self.now.frames.items) }
     {
@@ -97,7 +114,7 @@ impl Stack {
     }
 
     /// A frame is begun.
-    #[tactic(auto, using(crate::proofs::Depths::depth_at_most))]
+    #[tactic(auto, using(crate::proofs::FrameDepths::depth_at_most))]
     #[inline(always)]
     pub fn push(&mut self, frame: Frame) -> Result<(), NoMemory>
         ensures { OnOk result (self.new.frames.items ≡ frame ∷ self.old.frames.items) }
@@ -263,9 +280,9 @@ impl Frame {
     ghost use Rattle.std.specs.Prelude.{List};
     ghost use Rattle.carte_tree.specs.Tree.{level_of};
     ghost use Rattle.carte_tree.specs.Code.{tree_of, arg_tree};
-    ghost use Rattle.carte_frames.specs.Begun.{Frame as Begun, joined};
-    ghost use Rattle.carte_frames.specs.Frames.{frame_of, with_arg};
-    ghost use Rattle.carte_frames.specs.declared.frames.Joint.TheVariants as joints;
+    ghost use Rattle.carte_formula.specs.Begun.{Frame as Begun, joined};
+    ghost use Rattle.carte_formula.specs.Frames.{frame_of, with_arg};
+    ghost use Rattle.carte_formula.specs.declared.frames.Joint.TheVariants as joints;
 
     /// A chain goes on with an operand and an operator.
     #[tactic(auto, using(crate::proofs::Joints::chain_longer))]
@@ -297,8 +314,8 @@ impl Frame {
 
 impl OpenChain {
     ghost use Rattle.carte_tree.specs.Code.{tree_of, terms_of};
-    ghost use Rattle.carte_frames.specs.Begun.{chain_at, grown};
-    ghost use Rattle.carte_frames.specs.Frames.{open_frame};
+    ghost use Rattle.carte_formula.specs.Begun.{chain_at, grown};
+    ghost use Rattle.carte_formula.specs.Frames.{open_frame};
 
     /// The last operator has its operand, and another operator follows.
     #[inline(always)]

@@ -1,5 +1,5 @@
 use Rattle.std.proofs.Common.{◌+◌, ◌*◌, length}
-use Rattle.carte_frames.proofs.chains.+end.Given as goal
+use Rattle.carte_formula.proofs.frames.chains.+end.Given as goal
 
 abbrev pub decreases-end_inner : goal.decreases-end_inner
 decreases-end_inner l = 2 * length l.stack.now.frames.items

@@ -1,5 +1,5 @@
 use Rattle.std.proofs.Common.{◌+◌, ◌*◌, length}
-use Rattle.carte_frames.proofs.chains.+join.Given as goal
+use Rattle.carte_formula.proofs.frames.chains.+join.Given as goal
 
 abbrev pub decreases-join : goal.decreases-join
 decreases-join l = 2 * length l.stack.now.frames.items
