@@ -29,6 +29,7 @@ pub throughout_more : (old new : Story) (Q R : Moment → Type 0) → ((m : Mome
 throughout_more old new Q R f all = record {
   later = all.later;
   goes_on = all.goes_on;
+  bound = all.bound;
   first = f old.now all.first;
   each = each_more Q R all.later f all.each;
 }
@@ -36,6 +37,7 @@ throughout_more old new Q R f all = record {
 pub throughout_then : (old mid new : Story) (Q : Moment → Type 0) → Throughout old mid Q → Throughout mid new Q → Throughout old new Q
 throughout_then old mid new Q one two = record {
   later = two.later ++ one.later;
+  bound = two.bound ∙ one.bound;
   goes_on = two.goes_on ∙ ap (λ ms. two.later ++ ms) one.goes_on ∙ sym (append_assoc two.later one.later (moments old));
   first = one.first;
   each = each_append Q two.later one.later two.each one.each;
@@ -43,11 +45,11 @@ throughout_then old mid new Q one two = record {
 
 -- no moment has passed
 pub throughout_none : (old new : Story) (Q : Moment → Type 0) → new ≡ old → Q old.now → Throughout old new Q
-throughout_none old new Q is now = record { later = []; goes_on = ap moments is; first = now; each = tt }
+throughout_none old new Q is now = record { later = []; goes_on = ap moments is; bound = ap (λ (s : Story). s.most) is; first = now; each = tt }
 
 -- one moment has passed
-pub throughout_one : (old new : Story) (Q : Moment → Type 0) (m : Moment) → moments new ≡ m ∷ moments old → Q old.now → Q m → Throughout old new Q
-throughout_one old new Q m is first now = record { later = m ∷ []; goes_on = is; first = first; each = (now, tt) }
+pub throughout_one : (old new : Story) (Q : Moment → Type 0) (m : Moment) → moments new ≡ m ∷ moments old → new.most ≡ old.most → Q old.now → Q m → Throughout old new Q
+throughout_one old new Q m is most first now = record { later = m ∷ []; goes_on = is; bound = most; first = first; each = (now, tt) }
 
 last_moment : (old new : Story) (Q : Moment → Type 0) (later : List Moment) → moments new ≡ later ++ moments old → Q old.now → EachMoment Q later → Q new.now
 last_moment old new Q [] goes_on first each = let is : new.now ≡ old.now = cc in subst Q (sym is) first
@@ -81,6 +83,7 @@ throughout_counted old new Q up all =
     record {
       later = all.later;
       goes_on = all.goes_on;
+      bound = all.bound;
       first = (all.first, omega arith, few_first new.now.passed all.later old.now old.past few);
       each = each_counted new.now.passed old.now.passed Q all.later (moments old) few many all.each;
     }

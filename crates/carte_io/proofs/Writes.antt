@@ -38,12 +38,12 @@ module _ (s : Story) where
 
   -- one moment more, which has this range too
   wrote_some : (at n : ℕ) (ranges : List (ℕ × ℕ)) (count calls : ℕ) (t u : Story) (reads : List ℕ) → Writing ranges count t
-      → moments u ≡ written_at t.now calls at n reads ∷ moments t → Throughout s u (IsOnTheWay ((at, at + n) ∷ ranges) (count + calls))
-  wrote_some at n ranges count calls t u reads so is =
+      → moments u ≡ written_at t.now calls at n reads ∷ moments t → u.most ≡ t.most → Throughout s u (IsOnTheWay ((at, at + n) ∷ ranges) (count + calls))
+  wrote_some at n ranges count calls t u reads so is most =
       let on : Throughout s t (IsOnTheWay ((at, at + n) ∷ ranges) (count + calls)) =
       throughout_more s t _ _ (λ m. wider (at, at + n) ranges count (count + calls) m (omega arith)) so.so_far in
       throughout_then s t u _ on
-      (throughout_one t u _ (written_at t.now calls at n reads) is
+      (throughout_one t u _ (written_at t.now calls at n reads) is most
       (record {
         torn = λ c image. torn_more (at, at + n) ranges s.now.reads c (torn_now ranges t.now so.synced so.written c image);
         few = omega (arith, so.passed);
@@ -56,7 +56,7 @@ module _ (s : Story) where
   pub goes_on : (at : ℕ) (piece : List ℕ) (ranges : List (ℕ × ℕ)) (count : ℕ) (t u : Story) → Writing ranges count t → u ≡ wrote at piece t
       → Writing ((at, at + length piece) ∷ ranges) (count + 1) u
   goes_on at piece ranges count t u so is = record {
-    so_far = wrote_some at (length piece) ranges count 1 t u (put_at t.now.reads at piece) so (ap moments is);
+    so_far = wrote_some at (length piece) ranges count 1 t u (put_at t.now.reads at piece) so (ap moments is) (ap (λ (v : Story). v.most) is);
     synced = ap (λ (v : Story). v.now.synced) is ∙ so.synced;
     written = ap (λ (v : Story). v.now.written) is ∙ ap (λ rs. (at, at + length piece) ∷ rs) so.written;
     passed = omega (arith, ap (λ (v : Story). v.now.passed) is, so.passed);
@@ -78,7 +78,7 @@ module _ (s : Story) where
       (throughout_more s t _ _ (λ m on. unsynced ((at, at + n) ∷ ranges) count end new m below (wider (at, at + n) ranges count count m (omega arith) on)) so.so_far)
   write_fails at n ranges count end new t u below so (inr (reads, torn, is)) =
       throughout_more s u _ _ (λ m. unsynced ((at, at + n) ∷ ranges) (count + 0) end new m (omega arith))
-      (wrote_some at n ranges count 0 t u reads so (ap moments is))
+      (wrote_some at n ranges count 0 t u reads so (ap moments is) (ap (λ (v : Story). v.most) is))
 
   pub sync_fails : (ranges : List (ℕ × ℕ)) (count end : ℕ) (new : List ℕ) (t u : Story) → s.now.passed + count < end → Writing ranges count t
       → FailsToSync t u → Throughout s u (IsMidway ranges s.now.reads new end)
@@ -88,7 +88,7 @@ module _ (s : Story) where
   sync_fails ranges count end new t u below so (inr (reads, image, is)) =
       let torn : IsOnTheWay ranges count t.now = record { torn = torn_now ranges t.now so.synced so.written; few = omega (arith, so.passed) } in
       throughout_more s u _ _ (λ m. unsynced ranges count end new m below)
-      (throughout_then s t u _ so.so_far (throughout_one t u _ (record t.now { reads = reads }) (ap moments is) torn
+      (throughout_then s t u _ so.so_far (throughout_one t u _ (record t.now { reads = reads }) (ap moments is) (ap (λ (v : Story). v.most) is) torn
       (record { torn = torn_now ranges (record t.now { reads = reads }) so.synced so.written; few = omega (arith, so.passed) })))
 
   pub sync_passes : (ranges : List (ℕ × ℕ)) (count end : ℕ) (t u : Story) → end ≡ s.now.passed + count + 1 → Writing ranges count t
@@ -99,7 +99,7 @@ module _ (s : Story) where
       λ c image. settled_image (did_sync t).now c (record { synced = refl; written = refl }) image in
       let torn : IsOnTheWay ranges count t.now = record { torn = torn_now ranges t.now so.synced so.written; few = omega (arith, so.passed) } in
       throughout_then s t u _ (throughout_more s t _ _ (λ m. unsynced ranges count end t.now.reads m below) so.so_far)
-      (throughout_one t u _ (did_sync t).now (ap moments is) (unsynced ranges count end t.now.reads t.now below torn)
+      (throughout_one t u _ (did_sync t).now (ap moments is) (ap (λ (v : Story). v.most) is) (unsynced ranges count end t.now.reads t.now below torn)
       (record {
         few = omega (arith, so.passed, end_is);
         torn = λ c image. subst (IsTorn ranges s.now.reads) (sym (there c image)) (torn_now ranges t.now so.synced so.written t.now.reads reads);

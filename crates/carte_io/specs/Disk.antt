@@ -83,6 +83,8 @@ EachMoment Q (m ∷ ms) = Q m × EachMoment Q ms
 pub record Throughout (old new : Story) (Q : Moment → Type 0) : Type 0 where
   pub later : List Moment
   pub goes_on : moments new ≡ later ++ moments old
+  -- and the disk lets as many writing calls pass in all as before
+  pub bound : new.most ≡ old.most
   pub first : Q old.now
   pub each : EachMoment Q later
 

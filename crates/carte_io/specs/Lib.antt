@@ -1,6 +1,7 @@
 pub mod Causes
 pub mod Crashes
 pub mod Disk
+pub mod Files
 pub mod Stations
 pub mod Streams
 pub mod MemDisks

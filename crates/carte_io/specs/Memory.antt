@@ -3,10 +3,11 @@ use Rattle.std.specs.Prelude.{◌==◌, ℕ, List, Bool, ◌++◌, drop, length}
 use Rattle.std.specs.List.{list_any}
 use Rattle.carte_io.specs.Causes.{counted}
 
--- the bytes left, the numbers of the calls that fail, and how many calls and failures there were
+-- the bytes left, the numbers of the calls that fail, how many bytes the last call moved that passed, and how many calls and failures there were
 pub record MemoryOfSource : Type 0 where
   pub left : List ℕ
   pub failing : List ℕ
+  pub last : ℕ
   pub calls : ℕ
   pub faults : ℕ
 
@@ -25,7 +26,7 @@ is_failing failing calls = list_any (λ n. n == counted calls) failing
 
 -- a call gave the first n bytes left
 abbrev pub gave : ℕ → MemoryOfSource → MemoryOfSource
-gave n s = record s { left = drop n s.left; calls = counted s.calls }
+gave n s = record s { left = drop n s.left; last = n; calls = counted s.calls }
 
 -- a call failed, which changes the two counts alone
 abbrev pub source_failed : MemoryOfSource → MemoryOfSource

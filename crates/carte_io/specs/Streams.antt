@@ -1,10 +1,17 @@
 -- What calls of a source and of a sink do to the bytes that are left and to those that were taken.
-use Rattle.std.specs.Prelude.{◌≡◌, ℕ, ◌<◌, ◌≤◌, List, ◌++◌, length, take, drop}
+use Rattle.std.specs.Prelude.{◌≡◌, ℕ, ◌<◌, ◌≤◌, List, [], ◌++◌, length, take, drop}
 
--- a source as its clauses see it: the bytes left, where it tells them, and how often it failed
+-- a source as its clauses see it: the bytes left, where it tells them, how often it failed, how many bytes the last read moved that passed, and how
+-- often it was read, as far as a count of 64 bits goes
 pub record SourceState : Type 0 where
   pub left : List ℕ
   pub faults : ℕ
+  pub last : ℕ
+  pub reads : ℕ
+
+-- a source that tells no bytes, before any read
+abbrev pub unread : SourceState
+unread = record { left = []; faults = 0; last = 0; reads = 0 }
 
 -- a sink: the bytes taken and how many of them, from the first on, were handed on, where it tells them, and how often it failed
 pub record SinkState : Type 0 where

@@ -30,7 +30,7 @@ impl Absent {
 impl Source for Absent {
     ghost tells = { ⊥ };
 
-    ghost state = { λ a. record { left = []; faults = a } };
+    ghost state = { λ a. record { left = []; faults = a; last = 0; reads = a } };
 
     fn read(&mut self, into: &mut [u8]) -> Result<usize, Failed>
         ensures cause { HasCause self.old self.new result }

@@ -1,10 +1,15 @@
 // Counts of calls and of failures.
-ghost use Rattle.std.specs.Prelude.{◌≡◌, MatchResult, Err, is_ok, if◌then◌else◌};
+ghost use Rattle.std.specs.Prelude.{◌≡◌, ◌≢◌, MatchResult, Err, is_ok, if◌then◌else◌};
+ghost use Rattle.std.specs.IoError.{error_kind};
 ghost use Rattle.carte_io.specs.Causes.{counted, HasCause};
 ghost use Rattle.carte_io.specs.Memory.{is_failing};
 
 use crate::Failed;
 use std::io;
+use std::io::ErrorKind;
+
+// How often a call is repeated that a signal interrupts: each loop needs an end, and no run uses these up.
+pub(crate) const TRIES: u64 = u64::MAX;
 
 /// One more, at most the last value of a count.
 pub(crate) fn one_more(count: u64) -> u64
@@ -35,4 +40,11 @@ pub(crate) fn counted_answer<T>(answer: io::Result<T>, faults: &mut u64) -> Resu
             Err(Failed)
         }
     }
+}
+
+/// The error of a call that was interrupted each time.
+pub(crate) fn gave_up() -> io::Error
+    ensures { error_kind result ≢ ErrorKind.Interrupted }
+{
+    io::Error::from(ErrorKind::TimedOut)
 }

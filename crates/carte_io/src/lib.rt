@@ -18,7 +18,7 @@
 //!
 //! The types in memory tell everything, and fail where a list of call numbers says so. Thus a test can
 //! make each call of a run fail in turn. The adapters over std's readers, writers and files tell
-//! nothing.
+//! nothing of bytes; each says that its answer is that of a call of what it is over.
 #![tactic(auto)]
 
 mod absent;
@@ -26,6 +26,7 @@ mod counts;
 mod crashes;
 mod disk;
 mod failed;
+mod file_calls;
 mod file_disk;
 mod mem_disk;
 mod mem_sink;
@@ -42,6 +43,7 @@ pub use carte_value::NoMemory;
 pub use crashes::Pick;
 pub use disk::Disk;
 pub use failed::Failed;
+pub use file_calls::FileCalls;
 pub use file_disk::FileDisk;
 pub use mem_disk::MemDisk;
 pub use mem_sink::MemSink;

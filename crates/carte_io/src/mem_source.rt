@@ -1,5 +1,5 @@
-ghost use Rattle.std.specs.Prelude.{◌≡◌, ◌<◌, ◌≤◌, ◌↔◌, ◌++◌, [], length, take, drop, min, is_err, IfOk, OnErr};
-ghost use Rattle.carte_io.specs.Causes.{HasCause};
+ghost use Rattle.std.specs.Prelude.{◌≡◌, ◌<◌, ◌≤◌, ◌↔◌, ◌++◌, [], length, take, drop, min, is_err, IfOk, OnErr, MatchResult};
+ghost use Rattle.carte_io.specs.Causes.{HasCause, counted};
 ghost use Rattle.carte_io.specs.Memory.{gave, is_failing, source_failed};
 ghost use Rattle.carte_io.specs.Streams.{Moves};
 
@@ -15,6 +15,7 @@ pub struct MemSource {
     bytes: Vec<u8>,
     place: usize,
     failing: Vec<u64>,
+    last: usize,
     calls: u64,
     faults: u64,
 }
@@ -28,6 +29,7 @@ impl Model for MemSource {
     ghost view = { λ s. record {
       left = drop s.place s.bytes.items;
       failing = s.failing.items;
+      last = s.last;
       calls = s.calls;
       faults = s.faults;
     } };
@@ -38,12 +40,13 @@ impl Model for MemSource {
 impl MemSource {
     /// A source of these bytes, no call of which was made.
     pub fn of(alloc: Global, bytes: &[u8], failing: &[u64]) -> Result<MemSource, NoMemory>
-        ensures { IfOk result (λ s. s ≡ record { left = bytes.now; failing = failing.now; calls = 0; faults = 0 }) }
+        ensures { IfOk result (λ s. s ≡ record { left = bytes.now; failing = failing.now; last = 0; calls = 0; faults = 0 }) }
     {
         Ok(MemSource {
             bytes: bytes.to_vec(alloc)?,
             place: 0,
             failing: failing.to_vec(alloc)?,
+            last: 0,
             calls: 0,
             faults: 0,
         })
@@ -53,13 +56,15 @@ impl MemSource {
 impl Source for MemSource {
     ghost tells = { Unit {0} };
 
-    ghost state = { λ s. record { left = s.left; faults = s.faults } };
+    ghost state = { λ s. record { left = s.left; faults = s.faults; last = s.last; reads = s.calls } };
 
     fn read(&mut self, into: &mut [u8]) -> Result<usize, Failed>
         ensures bound { IfOk result (λ n. n ≤ length into.old) }
         ensures bytes { IfOk result (λ n. Moves n self.old.left self.new.left into.old into.new) }
         ensures end { 0 < length into.old → IfOk result (λ n. (n ≡ 0) ↔ (self.old.left ≡ [])) }
         ensures failed { OnErr result (self.new.left ≡ self.old.left) }
+        ensures last { MatchResult result (λ n. self.new.last ≡ n) (λ _. self.new.last ≡ self.old.last) }
+        ensures reads { self.new.calls ≡ counted self.old.calls }
         ensures cause { HasCause self.old.faults self.new.faults result }
 
         // It fails where the list says so, and only there.
@@ -75,6 +80,7 @@ impl Source for MemSource {
         }
         let count = copy_front(&self.bytes[self.place..], into);
         self.place += count;
+        self.last = count;
         Ok(count)
     }
 }
