@@ -7,13 +7,7 @@ pub mod Turning
 pub mod Refusing
 pub mod Reaching
 pub mod Ordered
-pub mod Trails
-pub mod Places
-pub mod Searching
-pub mod First
-pub mod Linked
-pub mod Loops
-pub mod Picking
+pub mod Dynamic
 pub mod Finishing
 pub mod Treating
 pub mod Treated

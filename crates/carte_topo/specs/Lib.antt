@@ -1,5 +1,5 @@
 pub mod Orders
 pub mod Walk
 pub mod Between
-pub mod Search
+pub mod Dynamic
 pub mod Building

@@ -11,6 +11,7 @@ use Rattle.carte_book.specs.declared.reason.Reason.{Reason}
 use Rattle.carte_book.specs.declared.reason.Reason.TheVariants.{Cycle, Missing, Dynamic}
 use Rattle.carte_book.specs.Book.{Item, input, rule, Book, content, clean}
 use Rattle.carte_book.specs.Dynamic.{IsDynamicRule}
+pub use Rattle.carte_search.specs.Search.{unwound}
 use Rattle.carte_topo.specs.declared.walk.Frame.{Frame}
 use Rattle.carte_topo.specs.declared.walk.Stage.{Stage}
 use Rattle.carte_topo.specs.declared.walk.Stage.TheVariants.{OnPath, Passed}
@@ -59,11 +60,6 @@ pub record OpensAt (b : Book) (done : Done) (ks : List (List ℕ)) (at : ℕ) : 
 
 abbrev pub names : Path → List (List ℕ)
 names p = map (λ f. f.name) p
-
--- the names from the oldest on, and then these
-abbrev pub unwound : List (List ℕ) → List (List ℕ) → List (List ℕ)
-unwound [] ks = ks
-unwound (j ∷ js) ks = unwound js (j ∷ ks)
 
 -- this rule has come to this stage
 abbrev pub Marks : Seen → Seen → List ℕ → Stage → Type 0

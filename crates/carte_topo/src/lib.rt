@@ -8,10 +8,8 @@
 //! unmet, then on the path of rules that wait, then done. One hash map has this of the rules that were met, so a build pays for
 //! what it reaches and not for the book. The path stands in memory, since it may be as long as the book. A frame keeps the
 //! references of its rule and the place of the one that it waits for, so each is looked at once or twice.
-//! Only where the walk ends early the shortest path to a dynamic rule is looked for, breadth first in the order of the paths
-//! themselves: the targets in byte order, then, rule by rule in the order of meeting, those of its references that weren't met
-//! yet, in byte order too. So the paths by which rules are met rise strictly, and the first dynamic rule that is met has the
-//! first of all paths. The walk takes n steps for n references, and this search n log n; neither recurs along references.
+//! Only where the walk ends early the first path to a dynamic rule is looked for (`carte_search`), over the written references of
+//! static rules. The walk takes n steps for n references, and this search n log n; neither recurs along references.
 //!
 //! The build works over any rebuilder: for each rule of the order a job is made, takes one turn on a bench, and what it made is
 //! finished. It looks into no job. Where what is kept may be relied on, each job has all of its needs when it takes its turn, by
@@ -19,16 +17,15 @@
 //!
 //! Turned down: counting for each rule the references that are still open and taking rules without any, which finds an order as
 //! fast but tells of a cycle only that some rules are left; a set of the rules that aren't met yet, which is as large as the book
-//! before the first step; a search for dynamic rules depth first, since a rule would be come to by every path, of which there may
-//! be exponentially many; a sorted set of whole paths, which holds n paths of n names; treating each rule within the walk, which
-//! would run some before a refusal; ready rules taken from a bench in any order, since one walk gives an order that needs no waiting.
+//! before the first step; a search for dynamic rules within the walk, which comes to them in another order than that of their paths;
+//! treating each rule within the walk, which would run some before a refusal; ready rules taken from a bench in any order, since one
+//! walk gives an order that needs no waiting.
 #![tactic(auto)]
 
 mod building;
 mod dynamic_paths;
 mod plan;
 mod references;
-mod search;
 mod walk;
 
 pub use building::build;
