@@ -17,7 +17,7 @@ use Rattle.carte_book.proofs.Clean.{clean_input}
 use Rattle.carte_bench.specs.declared.slot.Slot.{Slot}
 use Rattle.carte_bench.specs.declared.slot.Slot.TheVariants.{Ready, Stopped, Out, Done}
 use Rattle.carte_bench.specs.Spots.{Spots, PutAt, IsSame, job_in, name_of, slot_after, done_in, sight_at, seen_in}
-use Rattle.carte_bench.specs.Steps.{FitsOf, GivesOf, FitsBook, FitsSlot, IsCore, IsPartOf, State, step_of, Steps, demands, takes, puts_back, Comes, start, next}
+use Rattle.carte_bench.specs.Steps.{FitsOf, GivesOf, FitsBook, FitsSlot, IsCore, IsPartOf, State, step_of, Steps, demands, takes, puts_back, renews, Comes, start, next}
 use Rattle.carte_bench.proofs.Puts.{put_here, put_apart, put_keeps}
 
 pub sees_inputs : {J : Type 0} (b : Book) (s : Spots J) (i : List ℕ) (v : Value) → content b i ≡ Some (input v) → seen_in b s i ≡ Some v
@@ -113,6 +113,9 @@ module _ {J : Type 0} (fits : FitsOf J) (b : Book) where
           core = put_core s.spots new k (slot_after q o) sound.core (sound.core.rules k Out out) (after_fits s.spots k p q t further o sound.core (sound.taken k p took) part gave) put;
           taken = sound.taken;
         }
+    step_sound s d (renews k n j p new stood fit put) sound =
+        let old = sound.core.slots k (Stopped p n) stood in
+        record { core = put_core s.spots new k (Stopped j n) sound.core (sound.core.rules k (Stopped p n) stood) (fit, old.1, old.2) put; taken = sound.taken }
 
     comes_sound : (s : State J) → Comes name fits gives b s → IsSound s
     comes_sound s start = record { core = none_core (λ k. None) (λ q. refl); taken = λ k j is. cc }
@@ -126,3 +129,4 @@ pub done_stays : {J : Type 0} (name : J → List ℕ) (fits : FitsOf J) (gives :
 done_stays name fits gives b s d k m (demands j new is none fit put) done = put_keeps s.spots new (name j) (Ready j) k (Some (Done m)) put done (λ there. cc)
 done_stays name fits gives b s d k m (takes q j new (ready, has, put)) done = put_keeps s.spots new q Out k (Some (Done m)) put done (λ there. let none : job_in (Some (Done m)) ≡ Some j = rw there at has in cc)
 done_stays name fits gives b s d k m (puts_back q p r t further o new took out part gave put) done = put_keeps s.spots new q (slot_after r o) k (Some (Done m)) put done (λ there. cc)
+done_stays name fits gives b s d k m (renews q n j p new stood fit put) done = put_keeps s.spots new q (Stopped j n) k (Some (Done m)) put done (λ there. cc)

@@ -93,3 +93,11 @@ seen_in b s k = value_seen (sight_in b s k)
 -- each job stands at its name
 abbrev pub AreNamed : {J : Type 0} → (J → List ℕ) → Spots J → Type 0
 AreNamed {J = J} name s = (k : List ℕ) (j : J) → job_in (s k) ≡ Some j → name j ≡ k
+
+-- the key's job has stopped
+abbrev pub HasStopped : {J : Type 0} → Spots J → List ℕ → Type 0
+HasStopped {J = J} s k = (p : J) × (n : List ℕ) × (s k ≡ Some (Stopped p n))
+
+-- this job stands in the place of the key's job that has stopped, and waits for the same name
+abbrev pub Renews : {J : Type 0} → Spots J → Spots J → List ℕ → J → Type 0
+Renews {J = J} old new k j = (p : J) × (n : List ℕ) × (old k ≡ Some (Stopped p n)) × PutAt old new k (Stopped j n)

@@ -54,11 +54,12 @@ step_of (Err s) = stopped (name_of s)
 abbrev pub with_taken : {J : Type 0} → (List ℕ → Option J) → List ℕ → J → List ℕ → Option J
 with_taken taken k j q = if name_eq k q then Some j else taken q
 
--- a rule that isn't there is demanded; a job that is ready is taken; a job that is out was driven over a part of what is done, and is put back
+-- a rule that isn't there is demanded; a job that is ready is taken; a job that is out was driven over a part of what is done, and is put back; a job that has stopped is given up for a new one, which waits where it did
 pub data Steps {J : Type 0} (name : J → List ℕ) (fits : FitsOf J) (gives : GivesOf J) (b : Book) (s : State J) : State J → Type 0 where
   demands : (j : J) (new : Spots J) → IsRule b (name j) → s.spots (name j) ≡ None → FitsBook fits b (name j) j → PutAt s.spots new (name j) (Ready j) → Steps name fits gives b s (record { spots = new; taken = s.taken })
   takes : (k : List ℕ) (j : J) (new : Spots J) → Takes s.spots new k (Some j) → Steps name fits gives b s (record { spots = new; taken = with_taken s.taken k j })
   puts_back : (k : List ℕ) (p q : J) (t : Truth) (further : Answers) (o : Result Made Stuck) (new : Spots J) → s.taken k ≡ Some p → s.spots k ≡ Some Out → IsPartOf b s.spots t → gives p t further (step_of o) q → PutAt s.spots new k (slot_after q o) → Steps name fits gives b s (record { spots = new; taken = s.taken })
+  renews : (k n : List ℕ) (j p : J) (new : Spots J) → s.spots k ≡ Some (Stopped p n) → FitsBook fits b k j → PutAt s.spots new k (Stopped j n) → Steps name fits gives b s (record { spots = new; taken = s.taken })
 
 abbrev pub new_state : {J : Type 0} → State J
 new_state = record { spots = λ k. None; taken = λ k. None }

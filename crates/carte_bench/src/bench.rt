@@ -1,7 +1,7 @@
 ghost use Rattle.std.specs.Prelude.{◌≡◌, true, Some, None, IsSome, OnOk, OnErr, IfOk};
 ghost use Rattle.carte_book.specs.Book.{book_view};
 ghost use Rattle.carte_bench.specs.Held.{spots_of, book_of, IsAt};
-ghost use Rattle.carte_bench.specs.Spots.{PutAt, IsSame, Takes, TakenOut, job_in, is_ready, place_of, slot_after};
+ghost use Rattle.carte_bench.specs.Spots.{PutAt, IsSame, Takes, TakenOut, HasStopped, Renews, job_in, is_ready, place_of, slot_after};
 ghost use Rattle.carte_bench.specs.declared.slot.Slot.TheVariants as slot;
 
 use crate::{Place, Slot};
@@ -168,6 +168,18 @@ impl<'b, J: Job + Drop> Bench<'b, J> {
                 Err(Stuck::NotDone(name)) => Slot::Stopped(job, name),
                 Err(Stuck::Missing(name)) => Slot::Stopped(job, name),
             };
+        }
+    }
+    /// Gives a job that has stopped up for a new one of its key, which waits where that one does. It takes no memory.
+    pub fn renew(&mut self, job: J)
+        requires stopped { HasStopped (spots_of self.old) (J.name job) }
+        ensures renewed { Renews (spots_of self.old) (spots_of self.new) (J.name job) job }
+        ensures book { book_of self.new ≡ book_of self.old }
+    {
+        if let Some(slot) = self.slots.get_mut(job.key()) {
+            if let Slot::Stopped(stands, _) = slot {
+                *stands = job;
+            }
         }
     }
 }

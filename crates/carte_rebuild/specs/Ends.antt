@@ -1,15 +1,20 @@
 -- What a build has come to at its end.
-use Rattle.std.specs.Prelude.{ℕ, ◌≡◌, List, [], None}
+use Rattle.std.specs.Prelude.{ℕ, ◌≡◌, ◌≤◌, ◌+◌, Bool, true, false, List, [], ◌∷◌, length, filter, Option, Some, None, if◌then◌else◌}
 use Rattle.carte_value.specs.Truths.{Among, NoneTwice}
-use Rattle.carte_effect.specs.Ledger.{no_runs}
-use Rattle.carte_book.specs.Book.{Book}
+use Rattle.carte_effect.specs.Ledger.{Ledger, no_runs}
+use Rattle.carte_name.specs.Names.{name_eq}
+use Rattle.carte_book.specs.Book.{Item, input, rule, Book, content}
+use Rattle.carte_book.specs.Needs.{needs, IsReachedRule}
 use Rattle.carte_book.specs.Dynamic.{NoDynamicPath, IsOrderReason}
 use Rattle.carte_book.specs.Reason.{AllClean, IsReason}
 use Rattle.carte_record.specs.Kept.{SomeKept}
 use Rattle.carte_sound.specs.Base.{IsBase}
 use Rattle.carte_sound.specs.Finished.{IsFinishing}
 use Rattle.carte_sound.specs.Held.{How}
-use Rattle.carte_sound.specs.Treated.{IsDoneInOrder, IsDoneSuspending}
+use Rattle.carte_sound.specs.Chains.{IsRightChain}
+use Rattle.carte_sound.specs.LeadsTo.{chain_behind}
+use Rattle.carte_sound.specs.Left.{keys_of}
+use Rattle.carte_sound.specs.Treated.{IsDoneInOrder, IsDoneRestarting, IsDoneSuspending, IsTreatedRestarting}
 use Rattle.carte_note.specs.Right.{AreRight, finishes_of, ran_in}
 use Rattle.carte_rebuild.specs.declared.work.Work.{Work}
 use Rattle.carte_rebuild.specs.declared.work.WorkEnd.{WorkEnd}
@@ -48,3 +53,42 @@ EndsSuspending h K b targets (All w) = (w.chain ≡ None)
     × (IsGiven K b → AllClean b targets × IsWork h K b (IsDoneSuspending h K b targets) w × NothingGivenUp w)
 EndsSuspending h K b targets (Refused w reason) = (w.chain ≡ None)
     × (IsGiven K b → IsReason b targets reason × IsWork h K b (IsDoneSuspending h K b targets) w)
+
+-- how often the name stands in the list
+abbrev pub times : List ℕ → List (List ℕ) → ℕ
+times k [] = 0
+times k (j ∷ js) = (if name_eq k j then 1 else 0) + times k js
+
+-- of the starts of the key's task at most so many have no end
+abbrev pub GivenUpAtMost : Ledger → List ℕ → ℕ → Type 0
+GivenUpAtMost r k n = times k r.starts ≤ times k r.ends + n
+
+-- each start has its end
+abbrev pub AllEnded : Ledger → Type 0
+AllEnded r = (k : List ℕ) → times k r.starts ≡ times k r.ends
+
+abbrev pub is_rule : Option Item → Bool
+is_rule None = false
+is_rule (Some (input v)) = false
+is_rule (Some (rule e)) = true
+
+-- the rules among the needs of a key
+abbrev pub rules_needed : Book → List ℕ → List (List ℕ)
+rules_needed b k = filter (λ j. is_rule (content b j)) (needs b k)
+
+-- only what is treated was started; a key that is reached was given up at most once for each rule that it needs, and any other at most once for each name that it needs
+pub record GivesUp (b : Book) (targets : List (List ℕ)) (treated : List ℕ → Type 0) (r : Ledger) : Type 0 where
+  pub only : (k : List ℕ) → Among r.starts k → treated k
+  pub reached : (k : List ℕ) → IsReachedRule b targets k → GivenUpAtMost r k (length (rules_needed b k))
+  pub others : (k : List ℕ) → GivenUpAtMost r k (length (needs b k))
+
+-- the finished keys come before the old chain
+abbrev pub IsNewChain : SomeKept → Work → Type 0
+IsNewChain K w = w.chain ≡ Some (chain_behind (keys_of (finishes_of w.finished)) K.chain)
+
+-- where a rule is begun anew once what it needs is done: the same over what is treated then, with few starts in vain, and none where the kept chain is right
+abbrev pub EndsRestarting : How → SomeKept → Book → List (List ℕ) → WorkEnd → Type 0
+EndsRestarting h K b targets (All w) = IsNewChain K w
+    × (IsGiven K b → AllClean b targets × IsWork h K b (IsDoneRestarting h K b targets) w × GivesUp b targets (IsTreatedRestarting h K b targets) w.runs × (IsRightChain K b targets → AllEnded w.runs))
+EndsRestarting h K b targets (Refused w reason) = IsNewChain K w
+    × (IsGiven K b → IsReason b targets reason × IsWork h K b (IsDoneRestarting h K b targets) w)

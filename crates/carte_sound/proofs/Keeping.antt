@@ -16,12 +16,12 @@ use Rattle.carte_sound.specs.Held.{How, tracing}
 use Rattle.carte_sound.specs.Results.{IsKeptNow}
 use Rattle.carte_sound.specs.Left.{opened}
 use Rattle.carte_sound.specs.Treated as treated
-use Rattle.carte_sound.specs.Treated.{IsTreated, IsDoneInOrder, IsDoneSuspending}
-use Rattle.carte_sound.specs.LeadsTo.{Chaining, chain_stays, Brings, LeadsInOrder, LeadsSuspending}
+use Rattle.carte_sound.specs.Treated.{IsTreated, IsTreatedRestarting, IsDoneInOrder, IsDoneRestarting, IsDoneSuspending}
+use Rattle.carte_sound.specs.LeadsTo.{Chaining, chain_stays, chain_behind, Brings, LeadsInOrder, LeadsRestarting, LeadsSuspending}
 use Rattle.carte_sound.proofs.Reached.{needing_rule, reached_clean, reached_kept}
 use Rattle.carte_sound.proofs.LeftSound.{first_station, stations}
 use Rattle.carte_sound.proofs.Finishing.{among_finished}
-use Rattle.carte_sound.proofs.Leading.{brings_begun, brings_base, brings_kept}
+use Rattle.carte_sound.proofs.Leading.{behind_once, brings_begun, brings_base, brings_kept}
 
 -- but under deep traces what was done is fresh
 pub brings_fresh : (h : How) (done : SomeKept → List ℕ → Type 0) (chained : Chaining) (K : SomeKept) (H : List Book) (b : Book) (B : Batch) → IsSound K H → HasDistinctDigests (H ++ b ∷ []) → (r : Brings h done chained K b B) → ¬ (h ≡ tracing Deep) → (k : List ℕ) → done (begin K b r.marks) k → IsFresh (apply B K) k
@@ -57,3 +57,12 @@ suspended_keeps h K H b targets B shallow sound distinct (inl r) all k reached i
     k reached is_rule
 suspended_keeps h K H b targets B shallow sound distinct (inr r) all k reached is_rule =
     absurd (no_rule_reached b targets (λ j among is. r.none j (treated.IsTreated.target among is, target_clean b targets all j among)) k reached is_rule)
+
+pub restarted_keeps : (h : How) (K : SomeKept) (H : List Book) (b : Book) (targets : List (List ℕ)) (B : Batch) → ¬ (h ≡ tracing Deep) → IsSound K H → HasDistinctDigests (H ++ b ∷ []) → LeadsRestarting h K b targets B → AllClean b targets → (k : List ℕ) → Reaches b targets k → IsRule b k → IsKeptNow (apply B K) b k
+restarted_keeps h K H b targets B shallow sound distinct (inl r) all k reached is_rule =
+    reached_kept (apply B K) b (H ++ b ∷ []) targets
+    (brings_base h (λ M j. IsDoneRestarting h M b targets j) chain_behind K H b B sound distinct behind_once r)
+    (λ j among is. brings_fresh h (λ M i. IsDoneRestarting h M b targets i) chain_behind K H b B sound distinct r shallow j (treated.IsTreatedRestarting.target among is, target_clean b targets all j among))
+    k reached is_rule
+restarted_keeps h K H b targets B shallow sound distinct (inr r) all k reached is_rule =
+    absurd (no_rule_reached b targets (λ j among is. r.none j (treated.IsTreatedRestarting.target among is, target_clean b targets all j among)) k reached is_rule)

@@ -15,7 +15,7 @@ use Rattle.carte_sound.specs.True.{trace_of}
 use Rattle.carte_sound.specs.Held.{How}
 use Rattle.carte_sound.specs.Left.{is_way, Finishes, keys_of, left}
 use Rattle.carte_sound.specs.Finished.{IsFinishing}
-use Rattle.carte_sound.specs.Treated.{IsDoneInOrder, IsDoneSuspending}
+use Rattle.carte_sound.specs.Treated.{IsDoneInOrder, IsDoneSuspending, IsDoneRestarting}
 use Rattle.carte_sound.specs.Carries.{Carries}
 
 abbrev pub empty_batch : Batch
@@ -78,3 +78,10 @@ BringsSuspending h K b targets B = Brings h (λ M k. IsDoneSuspending h M b targ
 
 abbrev pub LeadsSuspending : How → SomeKept → Book → List (List ℕ) → Batch → Type 0
 LeadsSuspending h K b targets B = LeadsTo h (λ M k. IsDoneSuspending h M b targets k) chain_stays K b B
+
+-- where a rule is begun anew once what it needs is done: the finished keys come before the old chain
+abbrev pub BringsRestarting : How → SomeKept → Book → List (List ℕ) → Batch → Type 0
+BringsRestarting h K b targets B = Brings h (λ M k. IsDoneRestarting h M b targets k) chain_behind K b B
+
+abbrev pub LeadsRestarting : How → SomeKept → Book → List (List ℕ) → Batch → Type 0
+LeadsRestarting h K b targets B = LeadsTo h (λ M k. IsDoneRestarting h M b targets k) chain_behind K b B

@@ -10,5 +10,6 @@ pub mod Results
 pub mod Left
 pub mod Finished
 pub mod Treated
+pub mod Chains
 pub mod Carries
 pub mod LeadsTo

@@ -16,13 +16,13 @@ ghost use Rattle.carte_sound.specs.Begun.{AreMarks, begin, has_rules_of};
 ghost use Rattle.carte_sound.specs.Carries.{Carries};
 ghost use Rattle.carte_sound.specs.Finished.{AreFinished};
 ghost use Rattle.carte_sound.specs.Held.{How, IsHeld, tracing};
-ghost use Rattle.carte_sound.specs.LeadsTo.{BringsSuspending, LeadsInOrder, LeadsRefused, LeadsSuspending, marks_left};
+ghost use Rattle.carte_sound.specs.LeadsTo.{BringsRestarting, BringsSuspending, LeadsInOrder, LeadsRefused, LeadsRestarting, LeadsSuspending, marks_left};
 ghost use Rattle.carte_sound.specs.Left.{Finishes, keys_of, left};
 ghost use Rattle.carte_value.specs.Lists.{Has};
 ghost use Rattle.carte_sound.specs.Marks.{IsFresh};
 ghost use Rattle.carte_sound.specs.Results.{HasResult, IsKeptNow};
 ghost use Rattle.carte_sound.specs.Sound.{IsSound};
-ghost use Rattle.carte_sound.specs.Treated.{IsDoneSuspending};
+ghost use Rattle.carte_sound.specs.Treated.{IsDoneRestarting, IsDoneSuspending};
 
 /// Nothing kept is sound for every history.
 pub fn nothing_is_sound()
@@ -70,12 +70,16 @@ pub fn batch_is_sound()
     ensures in_order { (h : How) (K : SomeKept) (H : List Book) (b : Book) (targets : List (List ℕ)) (B : Batch) → IsSound K H → HasDistinctDigests (H ++ b ∷ []) → LeadsInOrder h K b targets B → IsSound (apply B K) (H ++ b ∷ []) }
     ensures refused { (h : How) (K : SomeKept) (H : List Book) (b : Book) (B : Batch) → IsSound K H → HasDistinctDigests (H ++ b ∷ []) → LeadsRefused h K b B → IsSound (apply B K) (H ++ b ∷ []) }
     ensures suspending { (h : How) (K : SomeKept) (H : List Book) (b : Book) (targets : List (List ℕ)) (B : Batch) → IsSound K H → HasDistinctDigests (H ++ b ∷ []) → LeadsSuspending h K b targets B → IsSound (apply B K) (H ++ b ∷ []) }
+    ensures restarting { (h : How) (K : SomeKept) (H : List Book) (b : Book) (targets : List (List ℕ)) (B : Batch) → IsSound K H → HasDistinctDigests (H ++ b ∷ []) → LeadsRestarting h K b targets B → IsSound (apply B K) (H ++ b ∷ []) }
 {}
 
 /// Behind the batch of a build whose targets all have clean values, each rule that they reach is kept with its clean
-/// value; where the build waits for what it needs this is so but under deep traces, where each rule that was done is.
+/// value; where the build waits for what it needs, or begins anew once that is done, this is so but under deep traces, where
+/// each rule that was done is.
 pub fn batch_keeps_reached()
     ensures in_order { (h : How) (K : SomeKept) (H : List Book) (b : Book) (targets : List (List ℕ)) (B : Batch) → IsSound K H → HasDistinctDigests (H ++ b ∷ []) → LeadsInOrder h K b targets B → AllClean b targets → (k : List ℕ) → Reaches b targets k → IsRule b k → IsKeptNow (apply B K) b k }
     ensures suspending { (h : How) (K : SomeKept) (H : List Book) (b : Book) (targets : List (List ℕ)) (B : Batch) → ¬ (h ≡ tracing Deep) → IsSound K H → HasDistinctDigests (H ++ b ∷ []) → LeadsSuspending h K b targets B → AllClean b targets → (k : List ℕ) → Reaches b targets k → IsRule b k → IsKeptNow (apply B K) b k }
+    ensures restarting { (h : How) (K : SomeKept) (H : List Book) (b : Book) (targets : List (List ℕ)) (B : Batch) → ¬ (h ≡ tracing Deep) → IsSound K H → HasDistinctDigests (H ++ b ∷ []) → LeadsRestarting h K b targets B → AllClean b targets → (k : List ℕ) → Reaches b targets k → IsRule b k → IsKeptNow (apply B K) b k }
     ensures deep { (h : How) (K : SomeKept) (H : List Book) (b : Book) (targets : List (List ℕ)) (B : Batch) → IsSound K H → HasDistinctDigests (H ++ b ∷ []) → (brings : BringsSuspending h K b targets B) → (k : List ℕ) → IsDoneSuspending h (begin K b brings.marks) b targets k → IsKeptNow (apply B K) b k }
+    ensures deep_restarting { (h : How) (K : SomeKept) (H : List Book) (b : Book) (targets : List (List ℕ)) (B : Batch) → IsSound K H → HasDistinctDigests (H ++ b ∷ []) → (brings : BringsRestarting h K b targets B) → (k : List ℕ) → IsDoneRestarting h (begin K b brings.marks) b targets k → IsKeptNow (apply B K) b k }
 {}
