@@ -60,7 +60,7 @@ class House:
         shutil.copytree(TOP / "share", self.top / "share")
         self.put("docs/COMMANDS.md", (TOP / "docs/COMMANDS.md").read_text())
         self.put("CHANGELOG.md", "# Changes\n\nWords.\n\n## 3.2.1\n\n## 3.2.0\n")
-        self.put("README.md", "# carte\n\nVersion 3.2.1.\n")
+        self.put("README.md", "# carte\n\nVersion 3.2.1 (CHANGELOG.md).\n")
         self.put(self.top / "crates.txt", "# NAME: what it stands on\ncarte: carte_value clap\ncarte_other: carte_value\ncarte_value: sha2\n")
         for name, text in ((SOURCE, "one"), (LOWER, "right"), ("crates/carte/specs/Ends.antt", "ends"), ("crates/carte/proofs/Lib.antt", "lib")):
             self.put(self.top / name, text)
@@ -398,6 +398,9 @@ def checks(house):
         got = house.run(".ci/checks/released", env=env)
         house.same(f"the check, {said}", (got[0], got[1].splitlines()[-1:]), (status, [f"released: {said}"]))
     check(0, "there is no release/")
+    house.put("README.md", "# carte\n\nVersion 3.2.0 (CHANGELOG.md).\n")
+    check(1, "README.md has another version than CHANGELOG.md, 3.2.1")
+    house.put("README.md", "# carte\n\nVersion 3.2.1 (CHANGELOG.md).\n")
     house.says("built", True, "one")
     house.run(".ci/release")
     check(0, "the bytes are those that this toolchain builds")
