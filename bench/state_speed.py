@@ -15,12 +15,15 @@ It ends with 1 where a commit takes more than 1.3 times as long as the bare call
 load more than 2 times as long as the read; or a load more memory than 1.2 times its bodies and 16 MB.
 """
 import os
+import pathlib
 import shutil
 import subprocess
 import sys
 import tempfile
 import time
 
+TOP = pathlib.Path(__file__).resolve().parents[1]
+CRATES = ("carte_name", "carte_value", "carte_io", "carte_journal")
 ROUNDS = 9
 FRAMES = 10_000
 SIZE = 256 * 1024 * 1024
@@ -133,18 +136,19 @@ fn read(alloc: Global, disk: &mut FileDisk) -> Option<usize> {
 
 
 def build(work):
-    top = os.path.join(os.path.dirname(os.path.abspath(__file__)), "..")
-    crate = os.path.join(work, "crates", "speed_state")
-    os.makedirs(os.path.join(crate, "src"))
-    for name in ("carte_io", "carte_journal"):
-        shutil.copytree(os.path.join(top, "crates", name), os.path.join(work, "crates", name))
-    with open(os.path.join(work, "crates.txt"), "w") as crates:
-        crates.write("carte_io: thiserror\ncarte_journal: carte_io thiserror\nspeed_state: carte_io carte_journal\n")
-    with open(os.path.join(crate, "src", "main.rt"), "w") as main:
-        main.write(MAIN.lstrip())
+    crate = work / "crates" / "speed_state"
+    (crate / "src").mkdir(parents=True)
+    for name in CRATES:
+        shutil.copytree(TOP / "crates" / name, work / "crates" / name, ignore=shutil.ignore_patterns("out", "*.log"))
+    lines = [it for it in (TOP / "crates.txt").read_text().splitlines() if it.partition(":")[0] in CRATES]
+    (work / "crates.txt").write_text("\n".join([*lines, "speed_state: carte_io carte_journal", ""]))
+    shutil.copy(TOP / "HANDLES", work)
+    (crate / "src" / "main.rt").write_text(MAIN.lstrip())
     # without words the program does nothing, and `rt run` leaves it proved and built
-    subprocess.run(["rt", "run", "--jobs", "1"], cwd=crate, check=True, stdout=subprocess.DEVNULL, stderr=subprocess.DEVNULL)
-    return os.path.join(crate, "out", "speed_state")
+    done = subprocess.run(["rt", "run", "--jobs", "1"], cwd=crate, stdin=subprocess.DEVNULL, stdout=subprocess.PIPE, stderr=subprocess.STDOUT, text=True)
+    if done.returncode:
+        sys.exit(done.stdout[-2_000:] + "state_speed: the program can't be built")
+    return crate / "out" / "speed_state"
 
 
 def run(program, mode, path):
@@ -199,4 +203,4 @@ def measure(program, folder):
 
 if __name__ == "__main__":
     with tempfile.TemporaryDirectory() as work:
-        sys.exit(0 if measure(build(work), sys.argv[1] if sys.argv[1:] else work) else 1)
+        sys.exit(0 if measure(build(pathlib.Path(work)), sys.argv[1] if sys.argv[1:] else work) else 1)

@@ -1,5 +1,5 @@
 #!/usr/bin/env python3
-"""Calls ./carte, .ci/build, .ci/release and the check of release/ as users do, with a stand-in for the build.
+"""Calls ./carte, ./install, .ci/build, .ci/release and the check of release/ as users do, with a stand-in for the build.
 
 Each part makes a small repository of its own, with the scripts of this one, two crates, and an `rt` on the path that
 writes a program which says of which source it was built. So what is seen is which program runs, when one is built, and
@@ -55,7 +55,12 @@ class House:
         for check in (self.top / ".ci/checks").iterdir():
             if check.name != "released":
                 self.put(check, f'#!/bin/sh\necho "{check.name} ${{1##*/}}"\nexit "${{ANSWERS:-0}}"\n', 0o755)
-        shutil.copy(TOP / "carte", self.top / "carte")
+        for script in ("carte", "install"):
+            shutil.copy(TOP / script, self.top / script)
+        shutil.copytree(TOP / "share", self.top / "share")
+        self.put("docs/COMMANDS.md", (TOP / "docs/COMMANDS.md").read_text())
+        self.put("CHANGELOG.md", "# Changes\n\nWords.\n\n## 3.2.1\n\n## 3.2.0\n")
+        self.put("README.md", "# carte\n\nVersion 3.2.1 (CHANGELOG.md).\n")
         self.put(self.top / "crates.txt", "# NAME: what it stands on\ncarte: carte_value clap\ncarte_other: carte_value\ncarte_value: sha2\n")
         for name, text in ((SOURCE, "one"), (LOWER, "right"), ("crates/carte/specs/Ends.antt", "ends"), ("crates/carte/proofs/Lib.antt", "lib")):
             self.put(self.top / name, text)
@@ -73,7 +78,7 @@ class House:
         bins = f"{self.folder / 'bin'}:/usr/bin:/bin" if rt else "/usr/bin:/bin"
         env = {"PATH": bins, "CALLS": str(self.calls), "CDPATH": "/:crates", **how.pop("env", {})}
         top = top or self.top
-        if words[0] == "carte" or str(words[0]).startswith(".ci/"):
+        if words[0] in ("carte", "install") or str(words[0]).startswith(".ci/"):
             words = [top / words[0], *words[1:]]
         how = how if "input" in how else {"stdin": subprocess.DEVNULL, **how}
         done = subprocess.run(words, cwd=cwd or self.folder, env=env, capture_output=True, timeout=60, **how)
@@ -248,7 +253,8 @@ def releases(house):
     house.put(SOURCE, "two")
     house.same("none of these sources", house.run(".ci/release")[0], 1)
     house.put(SOURCE, "one")
-    house.same("made", house.run(".ci/release")[:2], (0, "release: made, by stand-in 1\n"))
+    house.same("made", house.run(".ci/release")[:2], (0, "release: version 3.2.1, made by stand-in 1\n"))
+    house.same("its version", (house.top / "release/carte.sources").read_text().split("\n")[4], "3.2.1")
     shutil.rmtree(program.parent)
     house.same("the first call", (state(), house.built()), ((0, "built of one: a word\n", said), False))
     house.same("the second call", (state(), house.built()), ((0, "built of one: a word\n", ""), False))
@@ -256,18 +262,134 @@ def releases(house):
     copy = house.folder / "copy"
     subprocess.run(["cp", "-r", house.top, copy], check=True)
     house.same("a copy says it again", house.run("carte", "a word", top=copy), (0, "built of one: a word\n", said))
+    def builds_since(why, what, text="one"):
+        err = house.says(what, True, text)
+        house.same(f"{what}, told", err.splitlines()[:1], [f"carte: release/carte isn't run: {why}"])
+        shutil.rmtree(program.parent)
     house.put(SOURCE, "two")
-    house.says("other sources", True, "two")
+    builds_since(f"{SOURCE} is another than it was made from", "other sources", "two")
     house.put(SOURCE, "one")
-    house.says("a built program goes before", True, "one")
-    shutil.rmtree(program.parent)
-    lines = (house.top / "release/carte.sources").read_text()
+    house.put("crates/carte_value/src/stray.rt", "stray")
+    builds_since("crates/carte_value/src/stray.rt is none of its sources", "a stray file")
+    (house.top / "crates/carte_value/src/stray.rt").unlink()
+    (house.top / "crates/carte/specs/Ends.antt").rename(house.folder / "Ends.antt")
+    builds_since("crates/carte/specs/Ends.antt, of which it was made, is not here", "a file less")
+    shutil.move(house.folder / "Ends.antt", house.top / "crates/carte/specs/Ends.antt")
+    lines, bytes_of = (house.top / "release/carte.sources").read_text(), (house.top / "release/carte").read_text()
     house.put("release/carte.sources", lines.replace("Linux", "Plan9"))
-    house.says("of another machine", True, "one")
-    shutil.rmtree(program.parent)
+    builds_since("it is for Plan9 " + os.uname().machine, "of another machine")
     house.put("release/carte.sources", lines)
-    house.put("release/carte", (house.top / "release/carte").read_text().replace("one", "won"), 0o755)
-    house.says("not the program that was made", True, "one")
+    house.put("release/carte", bytes_of.replace("one", "won"), 0o755)
+    builds_since("its bytes aren't those that release/carte.sources tells of", "not the program that was made")
+    house.put("release/carte", bytes_of)
+    builds_since("it isn't executable", "not executable")
+    old = "/lib/libc.so.6: version `GLIBC_2.38' not found (required by release/carte)"
+    for text, status, why in (
+        (f"#!/bin/sh\necho \"release/carte: {old.replace('`', chr(92) + '`')}\" >&2\nexit 1\n", 1, f"release/carte: {old}"),
+        ("#!/no/such/loader\n", "12", "release/carte: "),
+        ("#!/bin/sh\nkill -SEGV $$\n", 139, None),
+    ):
+        house.put("release/carte", text, 0o755)
+        own = subprocess.run(["sha256sum", house.top / "release/carte"], capture_output=True, text=True).stdout.split()[0]
+        house.put("release/carte.sources", "\n".join([lines.split("\n")[0], own, *lines.split("\n")[2:]]))
+        for _ in range(2):
+            err = house.says(f"one that ends with {status}", True, "one").splitlines()[0]
+            house.same("it is told", (f"it can't run on this machine (status {status}" in err, (why or "") in err), (True, True))
+            shutil.rmtree(program.parent)
+        status_of, out, err = house.run("carte", "a word", rt=False)
+        house.same("without rt", (status_of, out, "rt, which builds it, is not on the path" in err), (70, "", True))
+    house.put("release/carte", bytes_of, 0o755)
+    house.put("release/carte.sources", lines)
+    house.same("as it was", (state(), house.built()), ((0, "built of one: a word\n", said), False))
+    house.put("crates/carte/specs/Ends.antt", "ends, made anew")
+    house.put("crates/carte/specs/Ends.antt", "ends")
+    house.put(house.folder / "poor" / "stat", "#!/bin/sh\nexit 1\n", 0o755)
+    status, out, err = house.run("carte", "a word", env={"PATH": f"{house.folder}/poor:/usr/bin:/bin"})
+    house.same("without GNU's stat", (status, out, "of GNU" in err), (70, "", True))
+
+
+def unwritable(house):
+    """A checkout that can't be written to: the released program runs, without a line, and its sources are looked at once."""
+    how = {"user": NOBODY, "group": NOBODY} if os.geteuid() == 0 else {}
+    program = house.top / "crates/carte/out"
+    house.says("built", True, "one")
+    house.run(".ci/release")
+    shutil.rmtree(program)
+    house.folder.chmod(0o755)
+    sums = house.folder / "sums"
+    sums.touch(mode=0o666)
+    sums.chmod(0o666)
+    house.put(house.folder / "bin/sha256sum", f'#!/bin/sh\necho x >>"{sums}"\nexec /usr/bin/sha256sum "$@"\n', 0o755)
+    for path in [house.top, *house.top.rglob("*")]:
+        if path.is_dir():
+            path.chmod(0o555)
+    home = house.folder / "home"
+    home.mkdir()
+    home.chmod(0o777)
+    for place in ({"HOME": str(home)}, {"HOME": "/no/such/home", "XDG_CACHE_HOME": str(home / "cache")}):
+        house.says("the first call", False, "one", env=place, **how)
+        counted = sums.stat().st_size
+        house.same("its sums are taken", counted > 0, True)
+        house.says("the second call", False, "one", env=place, **how)
+        house.same("and not again", sums.stat().st_size, counted)
+    for _ in range(2):
+        house.says("with no home", False, "one", env={"TMPDIR": str(home)}, **how)
+    if how:
+        house.same("nothing is kept here", [it.name for it in (house.top / "release").iterdir() if it.name.endswith(".log")], [])
+    for path in [house.top, *house.top.rglob("*")]:
+        if path.is_dir():
+            path.chmod(0o755)
+
+
+def installs(house):
+    """./install puts four files below a folder, and takes them away."""
+    prefix = house.folder / "a prefix"
+    files = ["bin/carte", "share/bash-completion/completions/carte", "share/man/man1/carte.1", "share/zsh/site-functions/_carte"]
+    there = lambda: sorted(str(it.relative_to(prefix)) for it in prefix.rglob("*") if it.is_file())
+    status, out, _ = house.run("install", prefix)
+    house.same("installed", (status, there(), out.splitlines()[0]), (0, files, f"install: carte 3.2.1 is {prefix}/bin/carte; 'man carte' tells of it, and ./install --remove {prefix} takes it away"))
+    house.same("it isn't on the path", out.splitlines()[1:], [f"install: {prefix}/bin is not on the path"])
+    house.says("it runs alone", False, "one", prefix / "bin/carte", "a word")
+    house.same("once more", (house.run("install", prefix)[0], there()), (0, files))
+    house.put(prefix / "bin/other", "another's")
+    house.same("removed", (house.run("install", "--remove", prefix)[0], there()), (0, ["bin/other"]))
+    house.same("its folders too", sorted(it.name for it in prefix.iterdir()), ["bin"])
+    house.same("once more", house.run("install", "--remove", prefix)[0], 0)
+    house.same("from where nothing is", house.run("install", "--remove", house.folder / "nowhere")[0], 1)
+    home = house.folder / "home"
+    home.mkdir()
+    house.same("in the home", (house.run("install", env={"HOME": str(home)})[0], (home / ".local/bin/carte").exists()), (0, True))
+    for words in (("-h",), ("--remove", "a", "b"), ("a", "b"), ("",), ("--remove", "--remove")):
+        house.same(f"words {words}", house.run("install", *words, env={"HOME": ""})[:2] == (2, "") or words == ("",), True)
+    if os.geteuid() == 0:
+        house.folder.chmod(0o755)
+        closed = house.folder / "closed"
+        closed.mkdir(mode=0o755)
+        status, out, err = house.run("install", closed, user=NOBODY, group=NOBODY)
+        house.same("where one may not write", (status, out, err), (1, "", f"install: {closed}/bin can't be written to\n"))
+    house.put(SOURCE, "two")
+    house.same("nothing to install", house.run("install", prefix, rt=False)[:2], (70, ""))
+
+
+def manual(house):
+    """The manual page has what COMMANDS says, and troff finds no fault in it; the completion gives the words."""
+    house.says("built", True, "one")
+    house.run("install", house.folder / "to")
+    page = house.folder / "to/share/man/man1/carte.1"
+    house.same("its head", page.read_text().splitlines()[0], '.TH CARTE 1 "" "carte 3.2.1" "User Commands"')
+    if shutil.which("groff"):
+        done = subprocess.run(["groff", "-man", "-Tascii", "-P-cbou", "-ww", page], capture_output=True, text=True)
+        house.same("troff finds no fault", (done.returncode, done.stderr), (0, ""))
+        for text in ("--rebuilder", "the state's device failed", "explain first.toml", "STATUSES", "targets not taken"):
+            house.same(f"it has {text}", text in done.stdout, True)
+    else:
+        print("left out: groff, which isn't here")
+    for words, wanted in (("b", ["build"]), ("build --reb", ["--rebuilder"]), ("build --rebuilder v", ["verifying"]),
+                          ("build --kind = sh", ["sheet"]), ("build crates.t", ["crates.txt"]), ("build a b --l", ["--list"])):
+        words = ["carte", *words.split()]
+        script = f'. share/carte.bash; COMP_WORDS=("$@"); COMP_CWORD={len(words) - 1}; _carte 2>/dev/null; printf "%s\\n" "${{COMPREPLY[@]}}"'
+        done = subprocess.run(["bash", "-c", script, "-", *words], cwd=house.top, capture_output=True, text=True)
+        house.same(f"completes {words}", done.stdout.split(), wanted)
 
 
 def checks(house):
@@ -276,6 +398,9 @@ def checks(house):
         got = house.run(".ci/checks/released", env=env)
         house.same(f"the check, {said}", (got[0], got[1].splitlines()[-1:]), (status, [f"released: {said}"]))
     check(0, "there is no release/")
+    house.put("README.md", "# carte\n\nVersion 3.2.0 (CHANGELOG.md).\n")
+    check(1, "README.md has another version than CHANGELOG.md, 3.2.1")
+    house.put("README.md", "# carte\n\nVersion 3.2.1 (CHANGELOG.md).\n")
     house.says("built", True, "one")
     house.run(".ci/release")
     check(0, "the bytes are those that this toolchain builds")
@@ -305,7 +430,7 @@ def checks(house):
 
 def main():
     failed = 0
-    for part in (calls, edits, builds, copies, rights, releases, checks):
+    for part in (calls, edits, builds, copies, rights, releases, unwritable, installs, manual, checks):
         with tempfile.TemporaryDirectory() as folder:
             house = House(folder)
             part(house)

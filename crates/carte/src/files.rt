@@ -8,12 +8,19 @@ ghost use Rattle.carte_words.specs.declared.fault.WordsFault.{WordsFault};
 use crate::descriptors;
 use carte_top::{Command, Word, Words, WordsFault, read_words};
 use carte_value::NoMemory;
-use std::fs::{self, File, Metadata, OpenOptions};
+use std::fs::{self, File, Metadata, OpenOptions, TryLockError};
 use std::io::{self, ErrorKind};
 use std::os::unix::fs::MetadataExt;
+use std::thread;
+use std::time::Duration;
 
 /// A state file of at most so many bytes is a new one, whatever it holds, and is written over.
 const NEW_STATE: u64 = 9;
+
+/// How often a state that another run has is asked for again, and the milliseconds before each time: 2 seconds in all.
+const LOCK_TRIES: u32 = 200;
+
+const LOCK_PAUSE: u64 = 10;
 
 /// What is there of the files that the words name.
 #[derive(Drop)]
@@ -75,14 +82,14 @@ fn there<T: Drop>(opened: io::Result<T>) -> Result<Option<T>, NoMemory>
 /// The state's file, made empty where it isn't there. Nobody else has it, and it is settled on its device: a new one with
 /// its folder, since a run that made it may have been cut off before it was found there.
 ///
-/// It fails where another run has the file, where it is no regular one, and where it is the book's own and so short that
-/// it would be written over.
+/// It fails where another run has the file and doesn't give it back soon, where it is no regular one, and where it is the
+/// book's own and so short that it would be written over.
 fn open_state(rt: &HostRuntime, path: &str, book: &str) -> io::Result<File> {
     let file = open_or_make(rt, path)?;
     if !file.metadata()?.is_file() {
         return Err(ErrorKind::InvalidInput.into());
     }
-    file.try_lock()?;
+    lock(rt, &file)?;
     file.sync_all()?;
     // Its length is looked at once nobody else writes it.
     let state = file.metadata()?;
@@ -90,6 +97,18 @@ fn open_state(rt: &HostRuntime, path: &str, book: &str) -> io::Result<File> {
         settle_new(rt, &state, path, book)?;
     }
     Ok(file)
+}
+
+// A build takes some milliseconds, so of several at once each has its turn. A wait without end would let a session, which
+// has the file as long as its lines come, hold up all others.
+fn lock(rt: &HostRuntime, file: &File) -> io::Result<()> {
+    for _ in 0..LOCK_TRIES {
+        match file.try_lock() {
+            Err(TryLockError::WouldBlock) => thread::sleep(rt, Duration::from_millis(LOCK_PAUSE)),
+            answered => return Ok(answered?),
+        }
+    }
+    Ok(file.try_lock()?)
 }
 
 fn open_or_make(rt: &HostRuntime, path: &str) -> io::Result<File> {
