@@ -1,107 +1,30 @@
--- What is known of a bench where a slot is put at a key that wasn't done.
-use Rattle.std.proofs.Common.{◌≡◌, ℕ, Bool, true, false, List, [], Option, Some, None, refl, sym, ◌∙◌, subst, inl, inr}
-use Rattle.carte_value.specs.Once.{Answers}
-use Rattle.carte_value.specs.Truths.{Truth, Extends}
-use Rattle.carte_value.proofs.Members.{same_or_not}
-use Rattle.carte_effect.specs.Jobs.{Step}
+-- What is known of a bench, and of the ledger, after each step of a build.
+use Rattle.std.proofs.Common.{◌≡◌, ℕ, Bool, List, [], Option, Some, None, Result, Ok, Err, refl, sym, subst, inl, inr}
+use Rattle.carte_value.specs.Truths.{Truth, Among}
+use Rattle.carte_effect.specs.declared.look.Stuck.{Stuck}
 use Rattle.carte_effect.specs.declared.outcome.Made.{Made}
-use Rattle.carte_bench.specs.Turns.{Turned}
-use Rattle.carte_book.specs.Book.{Book, clean}
-use Rattle.carte_book.specs.Needs.{IsRule, needs}
+use Rattle.carte_effect.specs.Ledger.{Ledger}
+use Rattle.carte_book.specs.Book.{Book}
+use Rattle.carte_book.specs.Needs.{IsRule}
 use Rattle.carte_record.specs.Kept.{SomeKept}
-use Rattle.carte_sound.specs.Held.{How, IsFollowed}
+use Rattle.carte_sound.specs.Held.{How}
 use Rattle.carte_sound.specs.Treated.{IsTreated}
 use Rattle.carte_note.specs.declared.finished.Finished.{Finished}
 use Rattle.carte_note.specs.Right.{ran_in}
-use Rattle.carte_effect.specs.Ledger.{Ledger}
-use Rattle.carte_rebuild.specs.Goes.{IsPart, may_ask, AreThere, AreThereBefore, GoesOver}
-use Rattle.carte_bench.specs.declared.slot.Slot.{Slot}
-use Rattle.carte_bench.specs.declared.slot.Slot.TheVariants.{Ready, Stopped}
-use Rattle.carte_bench.specs.Spots.{Spots, PutAt, IsSame, job_in, is_done, seen_in}
-use Rattle.carte_bench.specs.Steps.{FitsOf, GivesOf, FitsSlot, IsCore}
-use Rattle.carte_bench.proofs.Cores.{put_core, none_core, same_core}
-use Rattle.carte_bench.proofs.Puts.{put_here, put_apart}
-use Rattle.carte_bench.proofs.Turning.{jobs_put}
-use Rattle.carte_suspend.specs.Going.{IsBegun, IsKnown, AreListed, IsGoing}
-use Rattle.carte_suspend.specs.Opening.{Demands, Opens}
-use Rattle.carte_suspend.proofs.Puts.{stood_before, undone_none}
-use Rattle.carte_suspend.proofs.Seeing.{there_more, before_more, seen_put}
-use Rattle.carte_suspend.proofs.Ledgers.{counted_demand}
-
--- what a scheduler knows of jobs
-pub record Laws {J : Type 0} (name : J → List ℕ) (started : J → Bool) (fits : FitsOf J) (gives : GivesOf J) (begun : Truth → List ℕ → J → Type 0) (h : How) (K : SomeKept) (b : Book) : Type 0 where
-  pub keeps : (old new : Spots J) (r t : Ledger) (k : List ℕ) (m : Option Made) → Turned name started gives b old new r t k m → IsCore fits b old → IsCore fits b new
-  pub goes_on : (t : Truth) (k : List ℕ) (p : J) (part : Truth) (further : Answers) (step : Step) (q : J) → begun t k p → Extends t part → IsPart b part → gives p part further step q → GoesOver h K b k part (λ u j. begun u k j) step q
-
-module _ {J : Type 0} (fits : FitsOf J) (begun : Truth → List ℕ → J → Type 0) (h : How) (K : SomeKept) (b : Book) (targets : List (List ℕ)) where
-  -- what is to be known of a slot that is put
-  pub record IsKnownAt (d : Spots J) (k : List ℕ) (x : Slot J) : Type 0 where
-    pub is_rule : IsRule b k
-    pub fit : FitsSlot fits b k x
-    pub jobs : (j : J) → job_in (Some x) ≡ Some j → IsBegun begun b d k j
-    pub treated : IsTreated h K b targets k
-    pub stops : (n : List ℕ) (p : J) → Some x ≡ Some (Stopped p n) → IsFollowed h K b k × AreThereBefore b (seen_in b d) k n
-    pub done : is_done (Some x) ≡ true → IsFollowed h K b k → AreThere b (seen_in b d) k
-
-  module _ (s d : Spots J) (k : List ℕ) (x : Slot J) (put : PutAt s d k x) (undone : is_done (s k) ≡ false) where
-    grows : Extends (seen_in b s) (seen_in b d)
-    grows = seen_put b s d k x put (undone_none (s k) undone)
-
-    -- the slot that stands at the key
-    stands_here : (q : List ℕ) (y : Option (Slot J)) → k ≡ q → d q ≡ y → Some x ≡ y
-    stands_here q y same is = sym (put_here s d k x put) ∙ (subst (λ i. d i ≡ y) (sym same) is)
-
-    pub known_at : IsKnown fits begun h K b targets s → IsKnownAt d k x → IsKnown fits begun h K b targets d
-    known_at known here = record {
-      core = put_core fits b s d k x known.core here.is_rule here.fit put;
-      jobs = jobs_put (λ q j. IsBegun begun b d q j) s d k x put (λ q j is. (let old = known.jobs q j is in (old.0, (λ i v has. grows i v (old.1 i v has)), old.2))) here.jobs;
-      treated = λ q y is. elim (same_or_not k q) [
-        | inl same ↦ subst (IsTreated h K b targets) same here.treated
-        | inr other ↦ known.treated q y (stood_before s d k x q (Some y) put other is)
-      ];
-      stops = λ q n p is. elim (same_or_not k q) [
-        | inl same ↦ subst (λ i. IsFollowed h K b i × AreThereBefore b (seen_in b d) i n) same (here.stops n p (stands_here q (Some (Stopped p n)) same is))
-        | inr other ↦ (let old = known.stops q n p (stood_before s d k x q (Some (Stopped p n)) put other is) in (old.0, before_more b (seen_in b s) (seen_in b d) q n grows old.1))
-      ];
-      done = λ q is. elim (same_or_not k q) [
-        | inl same ↦ subst (λ i. IsFollowed h K b i → AreThere b (seen_in b d) i) same (here.done (subst (λ o. is_done o ≡ true) (sym (stands_here q (d q) same refl)) is))
-        | inr other ↦ (λ followed. there_more b (seen_in b s) (seen_in b d) q grows (known.done q (rw (put_apart s d k x q other put) at is) followed))
-      ];
-    }
-
-    -- where nothing was finished
-    pub listed_same : (fs : List Finished) → AreListed h K b s fs → is_done (Some x) ≡ false → AreListed h K b d fs
-    listed_same fs listed open_here = record {
-      right = listed.right;
-      order = listed.order;
-      once = listed.once;
-      listed = λ q is. elim (same_or_not k q) [
-        | inl same ↦ (let both : true ≡ false = sym (subst (λ o. is_done o ≡ true) (sym (stands_here q (d q) same refl)) is) ∙ open_here in cc)
-        | inr other ↦ listed.listed q (rw (put_apart s d k x q other put) at is)
-      ];
-      only = λ q here. elim (same_or_not k q) [
-        | inl same ↦ (let both : true ≡ false = sym (listed.only q here) ∙ rw (← same) undone in cc)
-        | inr other ↦ rw (put_apart s d k x q other put) (listed.only q here)
-      ];
-    }
+use Rattle.carte_bench.specs.Spots.{Spots, IsSame, seen_in}
+use Rattle.carte_bench.specs.Steps.{FitsOf, GivesOf}
+use Rattle.carte_bench.specs.Turns.{TurnedTo}
+use Rattle.carte_progress.specs.Opening.{Opens, EndsKey}
+use Rattle.carte_progress.proofs.Alongs.{Laws, FitAll, along_none, along_opens}
+use Rattle.carte_progress.proofs.Driving.{turn_driven, along_stopped, along_ended, ran_ended, not_run}
+use Rattle.carte_progress.proofs.Turned.{turn_put}
+use Rattle.carte_suspend.specs.Going.{IsCounted, IsGoing}
+use Rattle.carte_suspend.proofs.Ledgers.{counted_same, counted_demand, counted_stop, counted_end}
 
 -- nothing is known of an empty bench but that
 pub going_none : {J : Type 0} (started : J → Bool) (fits : FitsOf J) (begun : Truth → List ℕ → J → Type 0) (h : How) (K : SomeKept) (b : Book) (targets : List (List ℕ)) (s : Spots J) → IsSame (λ q. None) s → IsGoing started fits begun h K b targets s [] (record { starts = []; ends = [] })
 going_none started fits begun h K b targets s none = record {
-  known = record {
-    core = none_core fits b s none;
-    jobs = λ k j is. (let both : None ≡ Some j = rw (none k) at is in cc);
-    treated = λ k x is. (let both : None ≡ Some x = sym (none k) ∙ is in cc);
-    stops = λ k n p is. (let both : None ≡ Some (Stopped p n) = sym (none k) ∙ is in cc);
-    done = λ k is. (let both : false ≡ true = rw (none k) at is in cc);
-  };
-  finished = record {
-    right = tt;
-    order = tt;
-    once = tt;
-    listed = λ k is. (let both : false ≡ true = rw (none k) at is in cc);
-    only = λ k here. absurd here;
-  };
+  along = along_none fits begun h K b targets s none;
   counted = record {
     ends = refl;
     once = tt;
@@ -113,58 +36,34 @@ going_none started fits begun h K b targets s none = record {
   };
 }
 
-module _ {J : Type 0} (name : J → List ℕ) (started : J → Bool) (fits : FitsOf J) (begun : Truth → List ℕ → J → Type 0) (h : How) (K : SomeKept) (b : Book) (targets : List (List ℕ)) (fit : (t : Truth) (k : List ℕ) (j : J) → begun t k j → fits j (clean b) k (clean b k) (needs b k) (may_ask h b k)) (s d : Spots J) (n : List ℕ) (fs : List Finished) (r : Ledger) (going : IsGoing started fits begun h K b targets s fs r) where
-  -- nothing changed
-  going_same : IsSame s d → IsGoing started fits begun h K b targets d fs r
-  going_same same = record {
-    known = record {
-      core = same_core fits b s d same going.known.core;
-      jobs = λ k j is. (let old = going.known.jobs k j (rw (same k) at is) in (old.0, (λ i v has. sees i v (old.1 i v has)), old.2));
-      treated = λ k x is. going.known.treated k x (sym (same k) ∙ is);
-      stops = λ k m p is. (let old = going.known.stops k m p (sym (same k) ∙ is) in (old.0, before_more b (seen_in b s) (seen_in b d) k m sees old.1));
-      done = λ k is followed. there_more b (seen_in b s) (seen_in b d) k sees (going.known.done k (rw (same k) at is) followed);
-    };
-    finished = record {
-      right = going.finished.right;
-      order = going.finished.order;
-      once = going.finished.once;
-      listed = λ k is. going.finished.listed k (rw (same k) at is);
-      only = λ k here. rw (same k) (going.finished.only k here);
-    };
-    counted = record {
-      ends = going.counted.ends;
-      once = going.counted.once;
-      only = λ k here. elim (going.counted.only k here) [
-        | inl there ↦ inl there
-        | inr running ↦ inr (running.0, rw (same k) running.1, running.2)
-      ];
-      each = λ k here. going.counted.each k (elim here [
-        | inl there ↦ inl there
-        | inr running ↦ inr (running.0, rw (same k) at running.1, running.2)
-      ]);
-    };
-  }
-    where
-      sees : Extends (seen_in b s) (seen_in b d)
-      sees i v has = rw (same i) has
-
-  going_demand : (path path' : List (List ℕ)) → IsTreated h K b targets n → Demands name started (λ k j. begun (λ q. None) k j) b s d path path' n → IsGoing started fits begun h K b targets d fs r
-  going_demand path path' treated demands = record {
-    known = known_at fits begun h K b targets s d n (Ready demands.job) demands.put undone going.known (record {
-      is_rule = demands.fresh.0;
-      fit = (may_ask h b n, fit (λ q. None) n demands.job demands.begun);
-      jobs = λ j is. (let same : demands.job ≡ j = cc in ((λ q. None), (λ i v has. cc), subst (begun (λ q. None) n) same demands.begun));
-      treated = treated;
-      stops = λ m p is. cc;
-      done = λ is. cc;
-    });
-    finished = listed_same fits begun h K b targets s d n (Ready demands.job) demands.put undone fs going.finished refl;
-    counted = counted_demand started s d n demands.job (ran_in fs) r going.counted demands.put demands.fresh.1 demands.idle;
-  }
-    where
-      undone : is_done (s n) ≡ false
-      undone = rw demands.fresh.1 refl
+module _ {J : Type 0} (name : J → List ℕ) (started : J → Bool) (fits : FitsOf J) (begun : Truth → List ℕ → J → Type 0) (h : How) (K : SomeKept) (b : Book) (targets : List (List ℕ)) (fit : FitAll fits begun h b) (s d : Spots J) (n : List ℕ) (fs : List Finished) (r : Ledger) (going : IsGoing started fits begun h K b targets s fs r) where
+  counted_opens : (path path' : List (List ℕ)) → Opens name started (λ k j. begun (λ q. None) k j) b s d path path' n → IsCounted started d (ran_in fs) r
+  counted_opens path path' (inl demands) = counted_demand started s d n demands.job (ran_in fs) r going.counted demands.put demands.fresh.1 demands.idle
+  counted_opens path path' (inr leaves) = counted_same started s d (ran_in fs) r leaves.1 going.counted
 
   pub going_opens : (path path' : List (List ℕ)) → (IsRule b n → IsTreated h K b targets n) → Opens name started (λ k j. begun (λ q. None) k j) b s d path path' n → IsGoing started fits begun h K b targets d fs r
-  going_opens path path' treated (inl demands) = going_demand path path' (treated demands.fresh.0) demands
-  going_opens path path' treated (inr leaves) = going_same leaves.1
+  going_opens path path' treated opens = record {
+    along = along_opens name started fits begun h K b targets fit s d n fs going.along path path' treated opens;
+    counted = counted_opens path path' opens;
+  }
+
+module _ {J : Type 0} (name : J → List ℕ) (started : J → Bool) (fits : FitsOf J) (gives : GivesOf J) (begun : Truth → List ℕ → J → Type 0) (h : How) (K : SomeKept) (b : Book) (targets : List (List ℕ)) (laws : Laws name started fits gives begun h K b) (old new : Spots J) (k : List ℕ) (fs : List Finished) (r r' : Ledger) (going : IsGoing started fits begun h K b targets old fs r) where
+  new_run : (o : Result Made Stuck) → TurnedTo name started gives b old new r r' k o → ¬ (Among (ran_in fs) k)
+  new_run o turned = not_run fits begun h K b targets old fs k going.along turned.before turned.stood
+
+  -- it stopped
+  pub going_stopped : (x : Stuck) → TurnedTo name started gives b old new r r' k (Err x) → IsGoing started fits begun h K b targets new fs r'
+  going_stopped x turned =
+      let core = laws.keeps old new r r' k None (x, turned) going.along.known.core in record {
+        along = along_stopped name started fits gives begun h K b targets laws.goes_on (seen_in b turned.mid) old new k fs r r' going.along core x (turn_driven name started fits gives begun h K b targets old new k r r' going.along.known (Err x) turned);
+        counted = counted_stop started old new k turned.before turned.after x (ran_in fs) r r' going.counted turned.stood (new_run (Err x) turned) (turn_put name started gives b old new r r' k (Err x) turned) turned.counted;
+      }
+
+  -- it ended
+  pub going_ended : (m : Made) (fs' : List Finished) → TurnedTo name started gives b old new r r' k (Ok m) → EndsKey h b fs fs' m → IsGoing started fits begun h K b targets new fs' r'
+  going_ended m fs' turned ends =
+      let core = laws.keeps old new r r' k (Some m) turned going.along.known.core in
+      let driven = turn_driven name started fits gives begun h K b targets old new k r r' going.along.known (Ok m) turned in record {
+        along = along_ended name started fits gives begun h K b targets laws.goes_on (seen_in b turned.mid) old new k fs r r' going.along core m fs' driven ends;
+        counted = subst (λ ran. IsCounted started new ran r') (sym (ran_ended name started fits gives begun h K b targets laws.goes_on (seen_in b turned.mid) old new k fs r r' going.along core m fs' driven ends)) (counted_end started old new k turned.before turned.after m (ran_in fs) r r' going.counted turned.stood (new_run (Ok m) turned) (turn_put name started gives b old new r r' k (Ok m) turned) turned.counted);
+      }

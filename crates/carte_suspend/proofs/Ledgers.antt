@@ -10,12 +10,12 @@ use Rattle.carte_effect.specs.Jobs.{Counted}
 use Rattle.carte_effect.specs.Ledger.{Ledger}
 use Rattle.carte_bench.specs.declared.slot.Slot.{Slot}
 use Rattle.carte_bench.specs.declared.slot.Slot.TheVariants.{Ready, Stopped, Done}
-use Rattle.carte_bench.specs.Spots.{Spots, PutAt, job_in, name_of}
+use Rattle.carte_bench.specs.Spots.{Spots, PutAt, IsSame, job_in, name_of}
 use Rattle.carte_bench.specs.Turns.{halted}
 use Rattle.carte_bench.proofs.Puts.{put_here, put_apart}
 use Rattle.carte_suspend.specs.Going.{IsRunning, IsCounted}
 use Rattle.carte_note.specs.Right.{has_run}
-use Rattle.carte_suspend.proofs.Listing.{once_end, among_end}
+use Rattle.carte_progress.proofs.Listing.{once_end, among_end}
 
 module _ {J : Type 0} (started : J → Bool) (s d : Spots J) (k : List ℕ) (x : Slot J) (put : PutAt s d k x) where
   running_on : (q : List ℕ) → ¬ (k ≡ q) → IsRunning started s q → IsRunning started d q
@@ -23,6 +23,21 @@ module _ {J : Type 0} (started : J → Bool) (s d : Spots J) (k : List ℕ) (x :
 
   running_before : (q : List ℕ) → ¬ (k ≡ q) → IsRunning started d q → IsRunning started s q
   running_before q other (j, is, on) = (j, rw (put_apart s d k x q other put) at is, on)
+
+-- nothing changed
+pub counted_same : {J : Type 0} (started : J → Bool) (s d : Spots J) (ran : List (List ℕ)) (r : Ledger) → IsSame s d → IsCounted started s ran r → IsCounted started d ran r
+counted_same started s d ran r same counted = record {
+  ends = counted.ends;
+  once = counted.once;
+  only = λ k here. elim (counted.only k here) [
+    | inl there ↦ inl there
+    | inr running ↦ inr (running.0, rw (same k) running.1, running.2)
+  ];
+  each = λ k here. counted.each k (elim here [
+    | inl there ↦ inl there
+    | inr running ↦ inr (running.0, rw (same k) at running.1, running.2)
+  ]);
+}
 
 -- a job that wasn't started is put where there was none
 pub counted_demand : {J : Type 0} (started : J → Bool) (s d : Spots J) (k : List ℕ) (j : J) (ran : List (List ℕ)) (r : Ledger) → IsCounted started s ran r → PutAt s d k (Ready j) → s k ≡ None → started j ≡ false → IsCounted started d ran r

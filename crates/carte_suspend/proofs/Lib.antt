@@ -1,12 +1,3 @@
-pub mod Puts
-pub mod Standings
-pub mod Opened
-pub mod Turned
-pub mod Measures
-pub mod Seeing
-pub mod Listing
 pub mod Ledgers
 pub mod Goings
-pub mod Turning
-pub mod Whys
 pub mod Ending

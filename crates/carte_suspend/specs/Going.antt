@@ -1,41 +1,17 @@
 -- What is known between the turns of a build, over what it may rely on.
-use Rattle.std.specs.Prelude.{ℕ, ◌≡◌, ◌⊎◌, Bool, true, List, [], Some}
-use Rattle.carte_value.specs.Truths.{Truth, Extends, Among, NoneTwice}
+use Rattle.std.specs.Prelude.{ℕ, ◌≡◌, ◌⊎◌, Bool, true, List, Some}
+use Rattle.carte_value.specs.Truths.{Truth, Among, NoneTwice}
 use Rattle.carte_effect.specs.Ledger.{Ledger}
 use Rattle.carte_book.specs.Book.{Book}
 use Rattle.carte_record.specs.Kept.{SomeKept}
 use Rattle.carte_sound.specs.Base.{IsBase}
-use Rattle.carte_sound.specs.Finished.{AreFinished}
-use Rattle.carte_sound.specs.Held.{How, IsFollowed}
-use Rattle.carte_sound.specs.Treated.{IsTreated}
+use Rattle.carte_sound.specs.Held.{How}
 use Rattle.carte_note.specs.declared.finished.Finished.{Finished}
-use Rattle.carte_note.specs.Right.{AreRight, finishes_of, keys_in, ran_in}
+use Rattle.carte_note.specs.Right.{ran_in}
 use Rattle.carte_rebuild.specs.declared.work.Work.{Work}
-use Rattle.carte_rebuild.specs.Goes.{AreThere, AreThereBefore}
-use Rattle.carte_bench.specs.declared.slot.Slot.{Slot}
-use Rattle.carte_bench.specs.declared.slot.Slot.TheVariants.{Stopped}
-use Rattle.carte_bench.specs.Spots.{Spots, is_done, job_in, seen_in}
-use Rattle.carte_bench.specs.Steps.{FitsOf, IsCore}
-
--- the job was driven over parts of what is done
-abbrev pub IsBegun : {J : Type 0} → (Truth → List ℕ → J → Type 0) → Book → Spots J → List ℕ → J → Type 0
-IsBegun begun b s k j = (t : Truth) × Extends t (seen_in b s) × begun t k j
-
--- what was demanded is treated; the needs of what is done are there, and those of what waits but for the one that it waits for
-pub record IsKnown {J : Type 0} (fits : FitsOf J) (begun : Truth → List ℕ → J → Type 0) (h : How) (K : SomeKept) (b : Book) (targets : List (List ℕ)) (s : Spots J) : Type 0 where
-  pub core : IsCore fits b s
-  pub jobs : (k : List ℕ) (j : J) → job_in (s k) ≡ Some j → IsBegun begun b s k j
-  pub treated : (k : List ℕ) (x : Slot J) → s k ≡ Some x → IsTreated h K b targets k
-  pub stops : (k n : List ℕ) (p : J) → s k ≡ Some (Stopped p n) → IsFollowed h K b k × AreThereBefore b (seen_in b s) k n
-  pub done : (k : List ℕ) → is_done (s k) ≡ true → IsFollowed h K b k → AreThere b (seen_in b s) k
-
--- exactly what is done is finished, rightly, once, and in order
-pub record AreListed {J : Type 0} (h : How) (K : SomeKept) (b : Book) (s : Spots J) (fs : List Finished) : Type 0 where
-  pub right : AreRight h K b fs
-  pub order : AreFinished h b K [] (finishes_of fs)
-  pub once : NoneTwice (keys_in fs)
-  pub listed : (k : List ℕ) → is_done (s k) ≡ true → Among (keys_in fs) k
-  pub only : (k : List ℕ) → Among (keys_in fs) k → is_done (s k) ≡ true
+use Rattle.carte_progress.specs.Progress.{IsAlong}
+use Rattle.carte_bench.specs.Spots.{Spots, job_in}
+use Rattle.carte_bench.specs.Steps.{FitsOf}
 
 -- its task was started, and hasn't ended
 abbrev pub IsRunning : {J : Type 0} → (J → Bool) → Spots J → List ℕ → Type 0
@@ -49,8 +25,7 @@ pub record IsCounted {J : Type 0} (started : J → Bool) (s : Spots J) (ran : Li
   pub each : (k : List ℕ) → Among ran k ⊎ IsRunning started s k → Among r.starts k
 
 pub record IsGoing {J : Type 0} (started : J → Bool) (fits : FitsOf J) (begun : Truth → List ℕ → J → Type 0) (h : How) (K : SomeKept) (b : Book) (targets : List (List ℕ)) (s : Spots J) (fs : List Finished) (r : Ledger) : Type 0 where
-  pub known : IsKnown fits begun h K b targets s
-  pub finished : AreListed h K b s fs
+  pub along : IsAlong fits begun h K b targets s fs
   pub counted : IsCounted started s (ran_in fs) r
 
 -- the same is known after it as before it

@@ -1,4 +1,1 @@
-pub mod Standing
-pub mod Opening
 pub mod Going
-pub mod Reasons

@@ -6,13 +6,12 @@ ghost use Rattle.carte_record.specs.Kept.{kept_view};
 ghost use Rattle.carte_rebuild.specs.Ends.{EndsSuspending};
 ghost use Rattle.carte_bench.specs.Held.{spots_of, book_of};
 ghost use Rattle.carte_suspend.specs.Going.{GoesOn};
-ghost use Rattle.carte_suspend.specs.Standing.{IsStanding, IsDemanded, StaysKnown};
+ghost use Rattle.carte_progress.specs.Standing.{IsStanding, IsDemanded, StaysKnown};
 
-use crate::opening::open;
-use crate::reasons::first_reason;
 use crate::turns::turn;
 use carte_bench::Bench;
 use carte_book::Book;
+use carte_progress::{first_reason, open};
 use carte_rebuild::{Rebuilder, Work, WorkEnd};
 use carte_record::Kept;
 use carte_value::{Name, Names, NoMemory};

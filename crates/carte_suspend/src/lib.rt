@@ -10,17 +10,16 @@
 //! demanded is never demanded again, so a build has at most two turns for each rule that it demands and one for each
 //! target, and each is a few look-ups beside what its drive does.
 //!
-//! Two layers are proved. What stands on the bench (each open rule is on the path, or waits for a name that will never
-//! come) holds over any kept information and of any jobs, and gives that a build ends. What is known of values holds over
-//! kept information that is sound, and gives the rest.
+//! Two layers are proved, both of `carte_progress`. What stands on the bench (each open rule is on the path, or waits for a
+//! name that will never come) holds over any kept information and of any jobs, and gives that a build ends. What is known
+//! of values holds over kept information that is sound, and gives the rest. Here the ledger joins them: each key is started
+//! once, and exactly those that ran have ended.
 //!
 //! Turned down: a set of stuck keys, since a key that was put aside is one that stands on the bench and isn't on the path;
 //! a recursion by needs, which would be as deep as the book; and a reason that the loop builds as it goes.
 #![tactic(auto)]
 
 mod building;
-mod opening;
-mod reasons;
 mod turns;
 
 pub use building::build;

@@ -3,14 +3,13 @@ ghost use Rattle.carte_book.specs.Book.{book_view};
 ghost use Rattle.carte_record.specs.Kept.{kept_view};
 ghost use Rattle.carte_bench.specs.Held.{spots_of, book_of};
 ghost use Rattle.carte_suspend.specs.Going.{GoesOn};
-ghost use Rattle.carte_suspend.specs.Opening.{EndsKey};
-ghost use Rattle.carte_suspend.specs.Standing.{IsStanding, StaysKnown, turns_left};
+ghost use Rattle.carte_progress.specs.Standing.{IsStanding, StaysKnown, turns_left};
 
-use crate::opening::{open_stop, push};
 use carte_bench::{Bench, turn_keeps};
 use carte_book::Book;
-use carte_effect::{Job, Made};
-use carte_rebuild::{Rebuilder, Work, finish};
+use carte_effect::Job;
+use carte_progress::{finish_made, open_stop, push};
+use carte_rebuild::{Rebuilder, Work};
 use carte_record::Kept;
 use carte_value::{Name, NoMemory};
 use std::alloc::Global;
@@ -40,26 +39,10 @@ pub(crate) fn turn<R: Rebuilder>(
     turn_keeps::<R::Job>();
     let came = bench.turn_to(alloc, &name, &mut work.runs)?;
     match came {
-        Ok(made) => end(alloc, rebuilder, book, work, made),
+        Ok(made) => finish_made(alloc, rebuilder, book, work, made),
         Err(stuck) => {
             push(path, name)?;
             open_stop(alloc, rebuilder, kept, book, bench, path, stuck)
         }
     }
-}
-
-/// Finishes a key that was made.
-fn end<R: Rebuilder>(
-    alloc: Global,
-    rebuilder: &R,
-    book: &Book,
-    work: &mut Work,
-    made: Made,
-) -> Result<(), NoMemory>
-    ensures ends { OnOk result (EndsKey (R.how rebuilder.now) (book_view book.now) work.old.finished work.new.finished made) }
-    ensures runs { work.new.runs ≡ work.old.runs }
-    ensures chain { work.new.chain ≡ work.old.chain }
-{
-    let finished = finish(alloc, rebuilder, book, &work.finished, made)?;
-    work.finished.push(finished)
 }

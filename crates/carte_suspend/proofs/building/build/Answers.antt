@@ -7,10 +7,11 @@ use Rattle.carte_sound.specs.Base.{IsBase}
 use Rattle.carte_bench.specs.Held.{spots_of, book_of}
 use Rattle.carte_bench.specs.Waits.{onward}
 use Rattle.carte_suspend.specs.Going.{IsGoing}
-use Rattle.carte_suspend.specs.Reasons.{FirstReason}
-use Rattle.carte_suspend.specs.Standing.{IsDemanded}
+use Rattle.carte_progress.specs.Reasons.{FirstReason}
+use Rattle.carte_progress.specs.Standing.{IsDemanded}
 use Rattle.carte_suspend.proofs.Goings.{going_none}
-use Rattle.carte_suspend.proofs.Ending.{is_work, nothing_given_up, targets_clean, targets_reason, each_clean}
+use Rattle.carte_progress.proofs.Ending.{is_work, targets_clean, targets_reason, each_clean}
+use Rattle.carte_suspend.proofs.Ending.{nothing_given_up}
 use Rattle.carte_suspend.proofs.building.build.Goals as goal
 
 pub returns-in-None : goal.returns-in-None
@@ -34,9 +35,9 @@ returns-in-None g c =
       ok.chain ∙ (c.in_ok-work.ensures {u = tt}).chain,
       λ given.
           let now = going given.0 given.1 in
-          let clean = targets_clean name b s ok.standing started fits begun h K ts w.finished w.runs now demanded c.treat_all.new.bench.slots.entries (λ q. refl) first in (
+          let clean = targets_clean name b s ok.standing fits begun h K ts w.finished now.along demanded ts (λ t here. here) c.treat_all.new.bench.slots.entries (λ q. refl) first in (
             clean,
-            is_work name b s ok.standing started fits begun h K ts w.finished w.runs now demanded w refl refl,
+            is_work name b s ok.standing fits begun h K ts w.finished now.along demanded w refl now.counted.ends,
             nothing_given_up name b s ok.standing started fits begun h K ts w.finished w.runs now demanded w refl (each_clean b ts clean),
           ),
     )
@@ -62,7 +63,7 @@ returns g c =
       ok.chain ∙ (c.in_ok-work.ensures {u = tt}).chain,
       λ given.
           let now = going given.0 given.1 in (
-            targets_reason name b s ok.standing started fits begun h K ts w.finished w.runs now demanded c.treat_all.new.bench.slots.entries (λ q. refl) c.in-Some.reason first,
-            is_work name b s ok.standing started fits begun h K ts w.finished w.runs now demanded w refl refl,
+            targets_reason name b s ok.standing fits begun h K ts w.finished now.along demanded ts (λ t here. here) c.treat_all.new.bench.slots.entries (λ q. refl) c.in-Some.reason first,
+            is_work name b s ok.standing fits begun h K ts w.finished now.along demanded w refl now.counted.ends,
           ),
     )

@@ -3,9 +3,9 @@ use Rattle.carte_book.specs.Book.{book_view}
 use Rattle.carte_record.specs.Kept.{kept_view}
 use Rattle.carte_sound.specs.Treated.{IsTreated}
 use Rattle.carte_bench.specs.Held.{spots_of}
-use Rattle.carte_suspend.specs.Opening.{Opens}
-use Rattle.carte_suspend.specs.Standing.{IsStanding}
-use Rattle.carte_suspend.proofs.Opened.{halted_target, stands_opens, known_opens}
+use Rattle.carte_progress.specs.Opening.{Opens}
+use Rattle.carte_progress.specs.Standing.{IsStanding}
+use Rattle.carte_progress.proofs.Opened.{halted_target, stands_opens, known_opens}
 use Rattle.carte_suspend.proofs.Goings.{going_opens}
 use Rattle.carte_suspend.proofs.building.treat.Goals as goal
 

@@ -3,9 +3,9 @@ use Rattle.carte_value.specs.Truths.{Among}
 use Rattle.carte_book.specs.Book.{book_view}
 use Rattle.carte_book.specs.Needs.{IsRule}
 use Rattle.carte_bench.specs.Held.{spots_of}
-use Rattle.carte_suspend.specs.Standing.{IsDemanded}
-use Rattle.carte_suspend.proofs.Listing.{among_end}
-use Rattle.carte_suspend.proofs.Whys.{one_more, item_among}
+use Rattle.carte_progress.specs.Standing.{IsDemanded}
+use Rattle.carte_progress.proofs.Listing.{among_end}
+use Rattle.carte_progress.proofs.Whys.{one_more, item_among}
 use Rattle.carte_suspend.proofs.building.treat_all.Goals as goal
 
 pub loop-at-preserved : goal.loop-at-preserved

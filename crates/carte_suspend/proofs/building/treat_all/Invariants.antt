@@ -5,7 +5,7 @@ use Rattle.carte_book.specs.Needs.{IsRule}
 use Rattle.carte_bench.specs.Held.{spots_of, book_of}
 use Rattle.carte_record.specs.Kept.{kept_view}
 use Rattle.carte_suspend.specs.Going.{GoesOn}
-use Rattle.carte_suspend.specs.Standing.{IsStanding, IsDemanded}
+use Rattle.carte_progress.specs.Standing.{IsStanding, IsDemanded}
 use Rattle.carte_suspend.proofs.building.treat_all.Given as goal
 
 abbrev pub invariant-loop-at : goal.invariant-loop-at

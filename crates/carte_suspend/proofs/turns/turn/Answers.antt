@@ -7,23 +7,17 @@ use Rattle.carte_record.specs.Kept.{kept_view}
 use Rattle.carte_bench.specs.Held.{spots_of}
 use Rattle.carte_bench.specs.Spots.{name_of}
 use Rattle.carte_bench.specs.Turns.{TurnedTo}
-use Rattle.carte_suspend.specs.Opening.{Opens}
+use Rattle.carte_progress.specs.Opening.{Opens}
 use Rattle.carte_suspend.specs.Going.{IsGoing}
-use Rattle.carte_suspend.proofs.Standings.{known_put}
-use Rattle.carte_suspend.proofs.Opened.{stands_opens, known_opens}
-use Rattle.carte_suspend.proofs.Turned.{stands_ended, turn_put, stop_in, stop_waits, turn_halts}
-use Rattle.carte_suspend.proofs.Measures.{ended_fewer, opened_fewer}
-use Rattle.carte_suspend.proofs.Goings.{Laws, going_opens}
-use Rattle.carte_suspend.proofs.Turning.{going_ended, going_stopped, stop_treated}
+use Rattle.carte_progress.proofs.Standings.{known_put}
+use Rattle.carte_progress.proofs.Opened.{stands_opens, known_opens}
+use Rattle.carte_progress.proofs.Turned.{stands_ended, turn_put, stop_in, stop_waits, turn_halts}
+use Rattle.carte_progress.proofs.Measures.{ended_fewer, opened_fewer}
+use Rattle.carte_progress.proofs.Answered.{on_ok, on_ok_by}
+use Rattle.carte_progress.proofs.Driving.{stop_treated}
+use Rattle.carte_progress.proofs.Alongs.{Laws}
+use Rattle.carte_suspend.proofs.Goings.{going_opens, going_ended, going_stopped}
 use Rattle.carte_suspend.proofs.turns.turn.Goals as goal
-
-on_ok : {A E : Type 0} {P : Type 0} (r : Result A E) → P → OnOk r P
-on_ok (Ok x) p = p
-on_ok (Err e) p = tt
-
-on_ok_by : {A E : Type 0} {P Q : Type 0} (r : Result A E) → (P → Q) → OnOk r P → OnOk r Q
-on_ok_by (Ok x) f p = f p
-on_ok_by (Err e) f p = tt
 
 pub open_stop-requires-after_bounds : goal.open_stop-requires-after_bounds
 open_stop-requires-after_bounds g c κs within =
@@ -56,7 +50,7 @@ returns-in-Ok-clause-standing g c =
     let m = c.in-Ok.made in
     let turned = subst (λ (bk : Book). TurnedTo name started gives bk old mid r s k (Ok m)) c.requires.book (rw c.in-Ok.is at (c.in_ok-came.ensures {u = tt}).turned) in
     let put = turn_put name started gives b old mid r s k (Ok m) turned in
-    on_ok c.end.result (stands_ended name b old mid k ks c.requires.standing m put)
+    on_ok c.finish_made.result (stands_ended name b old mid k ks c.requires.standing m put)
 
 pub returns-in-Ok-clause-fewer : goal.returns-in-Ok-clause-fewer
 returns-in-Ok-clause-fewer g c =
@@ -75,7 +69,7 @@ returns-in-Ok-clause-fewer g c =
     let m = c.in-Ok.made in
     let turned = subst (λ (bk : Book). TurnedTo name started gives bk old mid r s k (Ok m)) c.requires.book (rw c.in-Ok.is at (c.in_ok-came.ensures {u = tt}).turned) in
     let put = turn_put name started gives b old mid r s k (Ok m) turned in
-    on_ok c.end.result (ended_fewer b old mid k ks (known_put old mid k (Done m) put))
+    on_ok c.finish_made.result (ended_fewer b old mid k ks (known_put old mid k (Done m) put))
 
 pub returns-in-Ok-clause-known : goal.returns-in-Ok-clause-known
 returns-in-Ok-clause-known g c =
@@ -94,7 +88,7 @@ returns-in-Ok-clause-known g c =
     let m = c.in-Ok.made in
     let turned = subst (λ (bk : Book). TurnedTo name started gives bk old mid r s k (Ok m)) c.requires.book (rw c.in-Ok.is at (c.in_ok-came.ensures {u = tt}).turned) in
     let put = turn_put name started gives b old mid r s k (Ok m) turned in
-    on_ok c.end.result (known_put old mid k (Done m) put)
+    on_ok c.finish_made.result (known_put old mid k (Done m) put)
 
 pub returns-in-Ok-clause-goes : goal.returns-in-Ok-clause-goes
 returns-in-Ok-clause-goes g c =
@@ -115,10 +109,10 @@ returns-in-Ok-clause-goes g c =
     let put = turn_put name started gives b old mid r s k (Ok m) turned in
     let fits = g.R.Job.Job.fits in
     let begun = g.R.Rebuilder.begun c.args.rebuilder.now K b in
-    on_ok_by c.end.result
-    (λ ends ts H base going. subst (λ (l : Ledger). IsGoing started fits begun h K b ts mid c.end.new.work.finished l) (sym c.end.ensures.runs)
-    (going_ended name started fits gives begun h K b ts (record { keeps = λ s d l m i o turned core. c.turn_keeps.ensures.core b s d l m i o turned core; goes_on = λ t i p part further step q begun_so more is_part gave. g.met.R.Rebuilder.goes_on c.args.rebuilder.now K b H t i p part further step q base begun_so more is_part gave }) old mid k c.args.work.now.finished r s going m c.end.new.work.finished turned ends))
-    c.end.ensures.ends
+    on_ok_by c.finish_made.result
+    (λ ends ts H base going. subst (λ (l : Ledger). IsGoing started fits begun h K b ts mid c.finish_made.new.work.finished l) (sym c.finish_made.ensures.runs)
+    (going_ended name started fits gives begun h K b ts (record { keeps = λ s d l m i o turned core. c.turn_keeps.ensures.core b s d l m i o turned core; goes_on = λ t i p part further step q begun_so more is_part gave. g.met.R.Rebuilder.goes_on c.args.rebuilder.now K b H t i p part further step q base begun_so more is_part gave }) old mid k c.args.work.now.finished r s going m c.finish_made.new.work.finished turned ends))
+    c.finish_made.ensures.ends
 
 pub returns-in_ok-push-in-Err-clause-standing : goal.returns-in_ok-push-in-Err-clause-standing
 returns-in_ok-push-in-Err-clause-standing g c =
@@ -230,5 +224,5 @@ returns-in_ok-push-in-Err-clause-goes g c =
     (λ o ts H base going.
     let laws : Laws name started fits gives begun h K b = (record { keeps = λ s d l m i o turned core. c.turn_keeps.ensures.core b s d l m i o turned core; goes_on = λ t i p part further step q begun_so more is_part gave. g.met.R.Rebuilder.goes_on c.args.rebuilder.now K b H t i p part further step q base begun_so more is_part gave }) in
     let stopped = going_stopped name started fits gives begun h K b ts laws old mid k c.args.work.now.finished r s going stuck turned in
-    going_opens name started fits begun h K b ts (λ t i j begun_so. g.met.R.Rebuilder.fits c.args.rebuilder.now K b H t i j base begun_so) mid new at c.args.work.now.finished s stopped (k ∷ ks) path (stop_treated fits begun h K b ts mid k at waits.0.0 stopped.known waits.0.1) o)
+    going_opens name started fits begun h K b ts (λ t i j begun_so. g.met.R.Rebuilder.fits c.args.rebuilder.now K b H t i j base begun_so) mid new at c.args.work.now.finished s stopped (k ∷ ks) path (stop_treated fits begun h K b ts mid k at waits.0.0 stopped.along.known waits.0.1) o)
     opens

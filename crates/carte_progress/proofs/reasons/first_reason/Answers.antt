@@ -1,9 +1,9 @@
 use Rattle.std.proofs.Common.{◌<◌, length, take, Some, sym, subst, arith}
 use Rattle.carte_bench.specs.Held.{spots_of, book_of}
 use Rattle.carte_bench.specs.Waits.{onward}
-use Rattle.carte_suspend.specs.Reasons.{HaveNone, FirstReason}
-use Rattle.carte_suspend.proofs.Whys.{parted, one_more, none_end, first_in}
-use Rattle.carte_suspend.proofs.reasons.first_reason.Goals as goal
+use Rattle.carte_progress.specs.Reasons.{HaveNone, FirstReason}
+use Rattle.carte_progress.proofs.Whys.{parted, one_more, none_end, first_in}
+use Rattle.carte_progress.proofs.reasons.first_reason.Goals as goal
 
 pub returns-in-Some : goal.returns-in-Some
 returns-in-Some g c =

@@ -8,7 +8,7 @@ use Rattle.carte_book.specs.Reason.{IsClean, AllClean, Begins, IsReason}
 use Rattle.carte_book.specs.declared.reason.Reason.{Reason}
 use Rattle.carte_book.specs.declared.reason.Reason.TheVariants.{Cycle, Missing, Dynamic}
 use Rattle.carte_bench.specs.Waits.{Onward, WaitsAs}
-use Rattle.carte_suspend.specs.Reasons.{HaveNone, FirstReason}
+use Rattle.carte_progress.specs.Reasons.{HaveNone, FirstReason}
 
 -- the item at an index
 pub parted : (ts : List (List ℕ)) (at : ℕ) (t : List ℕ) → at < length ts → t ≡ get_or ts at t → (after : List (List ℕ)) × (ts ≡ take at ts ++ t ∷ after)

@@ -21,10 +21,10 @@ use Rattle.carte_bench.specs.Turns.{TurnedTo}
 use Rattle.carte_bench.proofs.Puts.{put_here, put_apart}
 use Rattle.carte_bench.proofs.Turning.{jobs_put}
 use Rattle.carte_bench.proofs.Cores.{sees_inputs}
-use Rattle.carte_suspend.specs.Standing.{Behind, IsChain, IsLeft, IsAside, IsStanding, IsHalted}
-use Rattle.carte_suspend.specs.Opening.{IsStopIn, WaitsAt}
-use Rattle.carte_suspend.proofs.Puts.{put_twice, job_there, ready_there, not_both}
-use Rattle.carte_suspend.proofs.Standings.{rules_put, behind_put, left_moves, open_before}
+use Rattle.carte_progress.specs.Standing.{Behind, IsChain, IsLeft, IsAside, IsStanding, IsHalted}
+use Rattle.carte_progress.specs.Opening.{IsStopIn, WaitsAt}
+use Rattle.carte_progress.proofs.Puts.{put_twice, job_there, ready_there, not_both}
+use Rattle.carte_progress.proofs.Standings.{rules_put, behind_put, left_moves, open_before}
 
 module _ {J : Type 0} (name : J → List ℕ) (b : Book) (old new : Spots J) (k : List ℕ) (ks : List (List ℕ)) (standing : IsStanding name b old (k ∷ ks)) where
   first_rule : IsRule b k

@@ -10,7 +10,7 @@ use Rattle.carte_note.specs.declared.finished.Finished.{Finished}
 use Rattle.carte_rebuild.specs.Finishes.{FinishesRight}
 use Rattle.carte_bench.specs.declared.slot.Slot.TheVariants.{Ready, Stopped}
 use Rattle.carte_bench.specs.Spots.{Spots, PutAt, IsSame, is_done}
-use Rattle.carte_suspend.specs.Standing.{IsDemanded}
+use Rattle.carte_progress.specs.Standing.{IsDemanded}
 
 -- a rule that wasn't demanded
 abbrev pub IsFreshRule : {J : Type 0} → Book → Spots J → List ℕ → Bool → Type 0

@@ -3,7 +3,7 @@ ghost use Rattle.carte_book.specs.Book.{book_view};
 ghost use Rattle.carte_record.specs.Kept.{kept_view};
 ghost use Rattle.carte_bench.specs.Held.{spots_of, book_of};
 ghost use Rattle.carte_bench.specs.Spots.{name_of};
-ghost use Rattle.carte_suspend.specs.Opening.{IsFreshRule, IsStopIn, Opens};
+ghost use Rattle.carte_progress.specs.Opening.{IsFreshRule, IsStopIn, Opens};
 
 use carte_bench::{Bench, Place};
 use carte_book::{Book, Looked};
@@ -16,7 +16,7 @@ use std::collections::VecDeque;
 
 /// Demands a rule that the bench doesn't know and puts it before the path. A path that waits for any other name is dropped:
 /// that one has nothing, or no turn helps it.
-pub(crate) fn open<R: Rebuilder>(
+pub fn open<R: Rebuilder>(
     alloc: Global,
     rebuilder: &R,
     kept: &Kept,
@@ -33,7 +33,7 @@ pub(crate) fn open<R: Rebuilder>(
 }
 
 /// The same for the name at which a job stopped, of which the stop tells whether it is a rule.
-pub(crate) fn open_stop<R: Rebuilder>(
+pub fn open_stop<R: Rebuilder>(
     alloc: Global,
     rebuilder: &R,
     kept: &Kept,
@@ -105,7 +105,7 @@ fn is_unknown<J: Job + Drop>(
 }
 
 /// Puts a name before a path.
-pub(crate) fn push(path: &mut VecDeque<Name>, name: Name) -> Result<(), NoMemory>
+pub fn push(path: &mut VecDeque<Name>, name: Name) -> Result<(), NoMemory>
     ensures { OnOk result (path.new.items ≡ name ∷ path.old.items) }
 {
     match path.push_front(name) {

@@ -1,7 +1,7 @@
 ghost use Rattle.std.specs.Prelude.{IfOk};
 ghost use Rattle.carte_bench.specs.Held.{spots_of, book_of};
 ghost use Rattle.carte_bench.specs.Waits.{onward};
-ghost use Rattle.carte_suspend.specs.Reasons.{FirstReason};
+ghost use Rattle.carte_progress.specs.Reasons.{FirstReason};
 
 use carte_bench::Bench;
 use carte_book::Reason;
@@ -10,7 +10,7 @@ use carte_value::{Name, NoMemory};
 use std::alloc::Global;
 
 /// The path of waits of the first target that has one.
-pub(crate) fn first_reason<J: Job + Drop>(
+pub fn first_reason<J: Job + Drop>(
     alloc: Global,
     bench: &Bench<'_, J>,
     targets: &[Name],

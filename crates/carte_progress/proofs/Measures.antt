@@ -10,9 +10,9 @@ use Rattle.carte_bench.specs.declared.slot.Slot.{Slot}
 use Rattle.carte_bench.specs.declared.slot.Slot.TheVariants.{Ready}
 use Rattle.carte_bench.specs.Spots.{Spots}
 use Rattle.carte_bench.proofs.Puts.{put_here}
-use Rattle.carte_suspend.specs.Standing.{StaysKnown, unknown_in, turns_left}
-use Rattle.carte_suspend.specs.Opening.{Opens}
-use Rattle.carte_suspend.proofs.Opened.{known_opens}
+use Rattle.carte_progress.specs.Standing.{StaysKnown, unknown_in, turns_left}
+use Rattle.carte_progress.specs.Opening.{Opens}
+use Rattle.carte_progress.proofs.Opened.{known_opens}
 
 module _ {J : Type 0} (old new : Spots J) (known : StaysKnown old new) where
   one_fewer : (k : List ℕ) → cond {A = ℕ} (is_none (new k)) 1 0 ≤ cond (is_none (old k)) 1 0

@@ -13,9 +13,9 @@ use Rattle.carte_bench.specs.Spots.{Spots, IsSame}
 use Rattle.carte_bench.specs.Ended.{IsOpen}
 use Rattle.carte_bench.proofs.Puts.{put_here, put_apart}
 use Rattle.carte_bench.proofs.Turning.{jobs_put}
-use Rattle.carte_suspend.specs.Standing.{IsLeft, IsAside, IsStanding, IsHalted, StaysKnown}
-use Rattle.carte_suspend.specs.Opening.{IsFreshRule, IsStopIn, Demands, Leaves, Opens}
-use Rattle.carte_suspend.proofs.Standings.{rules_put, known_put, behind_put, behind_of, left_moves, open_before}
+use Rattle.carte_progress.specs.Standing.{IsLeft, IsAside, IsStanding, IsHalted, StaysKnown}
+use Rattle.carte_progress.specs.Opening.{IsFreshRule, IsStopIn, Demands, Leaves, Opens}
+use Rattle.carte_progress.proofs.Standings.{rules_put, known_put, behind_put, behind_of, left_moves, open_before}
 
 module _ {J : Type 0} (name : J → List ℕ) (b : Book) where
   -- nothing was demanded

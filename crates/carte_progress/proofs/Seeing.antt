@@ -13,7 +13,7 @@ use Rattle.carte_bench.specs.declared.slot.Slot.{Slot}
 use Rattle.carte_bench.specs.declared.slot.Slot.TheVariants.{Ready, Stopped, Out, Done}
 use Rattle.carte_bench.specs.Spots.{Spots, PutAt, is_done, done_in, sight_at, sight_of_rule, seen_in}
 use Rattle.carte_bench.specs.Steps.{FitsOf, IsCore}
-use Rattle.carte_bench.proofs.Puts.{put_apart}
+use Rattle.carte_bench.proofs.Puts.{put_here, put_apart}
 
 seen_at : (o : Option Item) (x y : Option Value) → ((v : Value) → x ≡ Some v → y ≡ Some v) → (v : Value) → value_seen (sight_at o x) ≡ Some v → value_seen (sight_at o y) ≡ Some v
 seen_at None x y more v is = is
@@ -39,6 +39,16 @@ module _ {J : Type 0} (b : Book) where
       more w has = elim (same_or_not k q) [
         | inl same ↦ (let both : None ≡ Some w = sym none ∙ subst (λ i. done_in (s i) ≡ Some w) (sym same) has in cc)
         | inr other ↦ rw (put_apart s d k x q other put) has
+      ]
+
+  -- where nothing is done at the name by now
+  pub seen_back : (s d : Spots J) (k : List ℕ) (x : Slot J) → PutAt s d k x → done_in (Some x) ≡ None → Extends (seen_in b d) (seen_in b s)
+  seen_back s d k x put none q v is = seen_at (content b q) (done_in (d q)) (done_in (s q)) more v is
+    where
+      more : (w : Value) → done_in (d q) ≡ Some w → done_in (s q) ≡ Some w
+      more w has = elim (same_or_not k q) [
+        | inl same ↦ (let both : None ≡ Some w = sym none ∙ rw (put_here s d k x put) at (subst (λ i. done_in (d i) ≡ Some w) (sym same) has) in cc)
+        | inr other ↦ rw (put_apart s d k x q other put) at has
       ]
 
   -- a rule that has a value is done

@@ -9,8 +9,8 @@ use Rattle.carte_bench.specs.declared.slot.Slot.TheVariants.{Stopped}
 use Rattle.carte_bench.specs.Spots.{Spots, PutAt}
 use Rattle.carte_bench.specs.Ended.{IsOpen}
 use Rattle.carte_bench.proofs.Puts.{put_here, put_apart}
-use Rattle.carte_suspend.specs.Standing.{Behind, IsLeft, StaysKnown}
-use Rattle.carte_suspend.proofs.Puts.{stood_before}
+use Rattle.carte_progress.specs.Standing.{Behind, IsLeft, StaysKnown}
+use Rattle.carte_progress.proofs.Puts.{stood_before}
 
 -- a member of what stands behind another name is apart from it
 pub apart_from : (ks : List (List ℕ)) (k j : List ℕ) → ¬ (Among ks k) → Among ks j → ¬ (k ≡ j)

@@ -1,0 +1,12 @@
+pub mod Puts
+pub mod Standings
+pub mod Opened
+pub mod Turned
+pub mod Measures
+pub mod Seeing
+pub mod Listing
+pub mod Alongs
+pub mod Driving
+pub mod Whys
+pub mod Ending
+pub mod Answered

@@ -1,0 +1,5 @@
+pub mod Standing
+pub mod Opening
+pub mod Progress
+pub mod Driven
+pub mod Reasons
