@@ -12,3 +12,4 @@ pub mod Finished
 pub mod Treated
 pub mod Carries
 pub mod LeadsTo
+pub mod Standing
