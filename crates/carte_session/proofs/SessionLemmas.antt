@@ -160,11 +160,11 @@ module _ {M : Type 0} (Answers : M → ℕ → List ℕ → List ℕ → M → T
     -- the last line is carried out
     pub finished_by : {T : Type 0} (r : Result T SessionEnd) (m mid m' : M) (tells : Type 0) (k k1 k2 : SinkState) (read rest line : List ℕ) (count : ℕ) → rest ≢ [] → line ≡ rest
         → Carried Answers Ends mid m' (over tells k1 k2) (count + 1) line r → Progress Answers m mid (over tells k k1) read count rest
-        → MatchResult r (λ _. Finished Answers m m' (over tells k k2) read) (λ end. Stopped Answers Ends m m' (over tells k k2) read 1 (Unit {0}) end)
+        → MatchResult r (λ _. Finished Answers m m' (over tells k k2) read) (λ end. Stopped Answers Ends m m' (over tells k k2) read 0 (Unit {0}) end)
     finished_by (Ok done) m mid m' tells k k1 k2 read rest line count some same one p =
         finished_last m mid m' tells k k1 k2 read rest one.0 count some p (subst (λ (xs : List ℕ). Answers mid (count + 1) xs one.0 m') same one.1) one.2
     finished_by {T = T} (Err end) m mid m' tells k k1 k2 read rest line count some same one p =
-        stopped_by T m mid m' tells k k1 k2 read rest p.said p.lines 1 (count + 1) (Unit {0}) end
+        stopped_by T m mid m' tells k k1 k2 read rest p.said p.lines 0 (count + 1) (Unit {0}) end
         (p.cut.lined, p.cut.open_rest, inr (p.cut.whole, some, tt)) p.goes (omega (arith, p.counted)) p.takes
         (subst (λ (xs : List ℕ). Carried {T = T} Answers Ends mid m' (over tells k1 k2) (count + 1) xs (Err end)) same one)
 
@@ -211,19 +211,19 @@ module _ {M : Type 0} (Answers : M → ℕ → List ℕ → List ℕ → M → T
     stopped_weaker m m' k read most most' AtEnd AtEnd' ReadFault fits at_end w = absurd w
     stopped_weaker m m' k read most most' AtEnd AtEnd' TooLong fits at_end w = absurd w
 
-    ended_stop : (m m' : M) (s : OverSource) (k : OverSink) (limit most : ℕ) (read : List ℕ) (AtEnd : Type 0) (end : SessionEnd) → most ≤ 8192
+    ended_stop : (m m' : M) (s : OverSource) (k : OverSink) (limit most : ℕ) (read : List ℕ) (AtEnd : Type 0) (end : SessionEnd) → most ≤ s.new.last
         → (AtEnd → s.tells → s.new.left ≡ []) → (s.tells → s.old.left ≡ read ++ s.new.left) → Stopped Answers Ends m m' k read most AtEnd end
         → Ended {T = Unit {0}} Answers Ends m m' s k limit read (Err end) × (end ≢ ReadFault)
     ended_stop m m' s k limit most read AtEnd WriteFault fits at_end left w =
-        ((stopped_weaker m m' k read most 8192 AtEnd (s.tells → s.new.left ≡ []) WriteFault fits at_end w, left), λ e. absurd (cc))
+        ((stopped_weaker m m' k read most s.new.last AtEnd (s.tells → s.new.left ≡ []) WriteFault fits at_end w, left), λ e. absurd (cc))
     ended_stop m m' s k limit most read AtEnd (Machine end) fits at_end left w =
-        ((stopped_weaker m m' k read most 8192 AtEnd (s.tells → s.new.left ≡ []) (Machine end) fits at_end w, left), λ e. absurd (cc))
+        ((stopped_weaker m m' k read most s.new.last AtEnd (s.tells → s.new.left ≡ []) (Machine end) fits at_end w, left), λ e. absurd (cc))
     ended_stop m m' s k limit most read AtEnd NoMemory fits at_end left w =
-        ((stopped_weaker m m' k read most 8192 AtEnd (s.tells → s.new.left ≡ []) NoMemory fits at_end w, left), λ e. absurd (cc))
+        ((stopped_weaker m m' k read most s.new.last AtEnd (s.tells → s.new.left ≡ []) NoMemory fits at_end w, left), λ e. absurd (cc))
     ended_stop m m' s k limit most read AtEnd ReadFault fits at_end left w = absurd w
     ended_stop m m' s k limit most read AtEnd TooLong fits at_end left w = absurd w
 
-    pub session_stop : (m m' : M) (s : OverSource) (k : OverSink) (limit most : ℕ) (read : List ℕ) (AtEnd : Type 0) (end : SessionEnd) → most ≤ 8192
+    pub session_stop : (m m' : M) (s : OverSource) (k : OverSink) (limit most : ℕ) (read : List ℕ) (AtEnd : Type 0) (end : SessionEnd) → most ≤ s.new.last
         → (AtEnd → s.tells → s.new.left ≡ []) → (s.tells → s.old.left ≡ read ++ s.new.left) → Stopped Answers Ends m m' k read most AtEnd end
         → length read ≤ limit → s.new.faults ≡ s.old.faults → HasCauseOf {T = Unit {0}} WriteFault k.old.faults k.new.faults (Err end)
         → IsSession {T = Unit {0}} Answers Ends m m' s k limit (Err end)
@@ -243,7 +243,7 @@ module _ {M : Type 0} (Answers : M → ℕ → List ℕ → List ℕ → M → T
 
     pub session_finish : (r : Result (Unit {0}) SessionEnd) (m m' : M) (s : OverSource) (k : OverSink) (limit : ℕ) (read : List ℕ)
         → (s.tells → s.new.left ≡ []) → (s.tells → s.old.left ≡ read ++ s.new.left)
-        → MatchResult r (λ _. Finished Answers m m' k read) (λ end. Stopped Answers Ends m m' k read 1 (Unit {0}) end)
+        → MatchResult r (λ _. Finished Answers m m' k read) (λ end. Stopped Answers Ends m m' k read 0 (Unit {0}) end)
         → length read ≤ limit → s.new.faults ≡ s.old.faults → HasCauseOf WriteFault k.old.faults k.new.faults r → IsSession Answers Ends m m' s k limit r
     session_finish (Ok done) m m' s k limit read at_end left f within same cause = record {
       read = read;
@@ -253,7 +253,7 @@ module _ {M : Type 0} (Answers : M → ℕ → List ℕ → List ℕ → M → T
       sink_cause = cause;
     }
     session_finish (Err end) m m' s k limit read at_end left w within same cause =
-        session_stop m m' s k limit 1 read (Unit {0}) end (omega arith) (λ _. at_end) left w within same cause
+        session_stop m m' s k limit 0 read (Unit {0}) end (omega arith) (λ _. at_end) left w within same cause
 
 -- a read: the first bytes of the piece stand behind what was read before
 pub read_on : (n : ℕ) (first left left' read into into' back piece : List ℕ) → first ≡ read ++ left → Moves n left left' into into' → piece ≡ into' ++ back

@@ -16,7 +16,7 @@ Goes {M = M} Answers n m (line ∷ lines) said m' = (mid : M) × (reply : List �
 
 -- `Ends m n line end m'`: line number n takes the machine from m to m', and isn't answered.
 -- An end in the middle: the reply of the next line wasn't written; or the machine ended at that line; or there was no memory for more of it.
--- Fewer than `most` bytes were read behind it, so no line waited while more was read; and it stands last only where the script has ended
+-- Fewer than `most` bytes were read behind it; and it stands last only where the script has ended
 abbrev pub Stopped : {M : Type 0} → (M → ℕ → List ℕ → List ℕ → M → Type 0) → (M → ℕ → List ℕ → StepEnd → M → Type 0)
     → M → M → OverSink → List ℕ → ℕ → Type 0 → SessionEnd → Type 0
 Stopped {M = M} Answers Ends m m' k read most AtEnd WriteFault = (lines : List (List ℕ)) × (said : List ℕ) × (mid : M) × (line : List ℕ) × (reply : List ℕ)
@@ -38,12 +38,13 @@ Ended Answers Ends m m' s k limit read (Err TooLong) = (lines : List (List ℕ))
     × IsCut read lines rest × Goes Answers 1 m lines said m' × Takes k said
     × (length read ≡ limit) × (s.tells → (x : ℕ) × (s.old.left ≡ read ++ x ∷ s.new.left))
 Ended Answers Ends m m' s k limit read (Err end) =
-    Stopped Answers Ends m m' k read 8192 (s.tells → s.new.left ≡ []) end × (s.tells → s.old.left ≡ read ++ s.new.left)
+    Stopped Answers Ends m m' k read s.new.last (s.tells → s.new.left ≡ []) end × (s.tells → s.old.left ≡ read ++ s.new.left)
 
 -- Some bytes were read, within the limit, and the machine went through their lines as the end says. They stand outside of what the source tells: also
 -- over a source that tells nothing, one text was cut, carried out and answered.
 -- The clause is over every source, sink and disk, and no body can foresee which of their calls fails, so it fixes the order too: an end of the machine
--- says that just the lines before were answered, a failed write that the machine is right behind its line, and `most` that no line waited for a read.
+-- says that just the lines before were answered, a failed write that the machine is right behind its line. And behind a line lie fewer bytes than the last
+-- read moved: its line feed was among those, so no line waited for another read.
 pub record IsSession {M T : Type 0} (Answers : M → ℕ → List ℕ → List ℕ → M → Type 0) (Ends : M → ℕ → List ℕ → StepEnd → M → Type 0)
     (m m' : M) (s : OverSource) (k : OverSink) (limit : ℕ) (result : Result T SessionEnd) : Type 0 where
   pub read : List ℕ

@@ -8,8 +8,8 @@
 //! The clause is over every source, sink and disk, and no body can foresee which of their calls fails. So it fixes the
 //! order of effects too: an end of the machine says that just the lines before were answered, a failed write that the
 //! machine stands right behind its line. What was read stands outside of what the source tells, so that also over
-//! standard input one text was cut, carried out and answered. No whole line waits for a read: behind its line feed lie
-//! fewer bytes than one piece has.
+//! standard input one text was cut, carried out and answered. No whole line waits for another read: behind its line feed
+//! lie fewer bytes than the last read moved.
 //!
 //! A reply without bytes makes no call of the sink. Turned down: an end that hands on in any case, since a sink whose
 //! first call fails must leave what the first line did. Turned down too: a search for the line feed in each piece. Each

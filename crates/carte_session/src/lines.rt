@@ -103,7 +103,7 @@ impl Lines {
             → MatchResult result
             (λ _. Finished M.answers m (machine.new, disk.new) (record { tells = O.tells; old = k; new = O.state out.new }) read)
             (λ end. Stopped M.answers M.ends m (machine.new, disk.new) (record { tells = O.tells; old = k; new = O.state out.new })
-            read 1 (Unit {0}) end) }
+            read 0 (Unit {0}) end) }
         ensures cause { HasCauseOf SessionEnd.WriteFault (O.state out.old).faults (O.state out.new).faults result }
     {
         let line = self.rest.as_slice();

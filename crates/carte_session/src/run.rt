@@ -8,7 +8,7 @@ use crate::{Machine, SessionEnd};
 use carte_io::{Sink, Source};
 use std::alloc::Global;
 
-// The most bytes of one read. No line waits for more than these.
+// The most bytes of one read.
 const PIECE: usize = 8192;
 
 /// Reads the script to its end, or to one byte past the limit; carries out each line as soon as its line feed was read,
@@ -51,6 +51,7 @@ fn read<S: Source>(script: &mut S, into: &mut [u8]) -> Result<usize, SessionEnd>
     ensures bytes { S.tells → IfOk result (λ n. Moves n (S.state script.old).left (S.state script.new).left into.old into.new) }
     ensures end { S.tells → 0 < length into.old → IfOk result (λ n. (n ≡ 0) ↔ ((S.state script.old).left ≡ [])) }
     ensures failed { S.tells → OnErr result ((S.state script.new).left ≡ (S.state script.old).left) }
+    ensures last { IfOk result (λ n. (S.state script.new).last ≡ n) }
     ensures fault { IfErr result (λ end. end ≡ SessionEnd.ReadFault) }
     ensures cause { HasCauseOf SessionEnd.ReadFault (S.state script.old).faults (S.state script.new).faults result }
 {

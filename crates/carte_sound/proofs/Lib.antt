@@ -26,3 +26,4 @@ pub mod Unstale
 pub mod Applied
 pub mod Keeping
 pub mod Assembled
+pub mod Standing

@@ -13,3 +13,4 @@ pub mod Treated
 pub mod Chains
 pub mod Carries
 pub mod LeadsTo
+pub mod Standing

@@ -23,8 +23,10 @@
 #![tactic(auto)]
 
 mod laws;
+mod premises;
 
 pub use laws::{
     batch_is_sound, batch_keeps_reached, difference_is_left, finished_is_held, held_is_clean,
     left_is_sound, marking_is_sound, nothing_is_sound, reached_is_kept, sound_as_history_grows,
 };
+pub use premises::some_book_stands;

@@ -189,13 +189,13 @@ first_sound tells c k m m' limit read (Err ReadFault) is =
 first_sound tells c k m m' limit read (Err TooLong) is =
     all_answered tells c m m' is.0 is.1 (λ told. begin_front c read is.0 is.2 ((is.7 told).0 ∷ c.new.left) is.3.lined is.3.whole (is.7 told).1) is.4
 first_sound tells c k m m' limit read (Err WriteFault) is =
-    all_answered tells c m m' (is.0.0 ++ is.0.3 ∷ []) (is.0.1 ++ is.0.4) (λ told. begin_next c read is.0.0 is.0.3 8192 is.0.5 told (is.1 told))
+    all_answered tells c m m' (is.0.0 ++ is.0.3 ∷ []) (is.0.1 ++ is.0.4) (λ told. begin_next c read is.0.0 is.0.3 c.new.last is.0.5 told (is.1 told))
     (goes_more (Answers tells) is.0.0 1 (length is.0.0 + 1) m is.0.2 m' is.0.1 is.0.3 is.0.4 is.0.6 refl is.0.7)
 first_sound tells c k m m' limit read (Err NoMemory) is =
     all_answered tells c m m' is.0.0 is.0.1 (λ told. begin_front c read is.0.0 (is.0.2 ++ is.0.3) c.new.left is.0.5 is.0.4 (is.1 told)) is.0.8
 first_sound tells c k m m' limit read (Err (Machine end)) is =
-    last_not tells c m m' is.0.2 is.0.0 is.0.1 is.0.3 (length is.0.0 + 1) end (λ told. begin_next c read is.0.0 is.0.3 8192 is.0.4 told (is.1 told))
-    (λ told. begin_before c read is.0.0 is.0.3 8192 is.0.4 told (is.1 told)) is.0.5 is.0.6
+    last_not tells c m m' is.0.2 is.0.0 is.0.1 is.0.3 (length is.0.0 + 1) end (λ told. begin_next c read is.0.0 is.0.3 c.new.last is.0.4 told (is.1 told))
+    (λ told. begin_before c read is.0.0 is.0.3 c.new.last is.0.4 told (is.1 told)) is.0.5 is.0.6
 
 -- what is left of the disk that the state was loaded from
 pub stays_sound : (limit : ℕ) (w : Asked) (b : Book) (K : SomeKept) (d : OverDisk) (m m' : Scene) (J : List Book) → Begins limit w d b K m → m'.story ≡ d.new → (d.tells → Keeps limit K d.old.now.reads) → LeavesSound d.tells m m' J → StaysSound limit J d

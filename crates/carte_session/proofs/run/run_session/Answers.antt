@@ -33,8 +33,8 @@ read_length n taken limit read piece is fits = omega (arith, length-append read 
 read_whole_length : (n taken : ℕ) (read piece : List ℕ) → length read ≡ taken → n ≤ length piece → length (read ++ take n piece) ≡ taken + n
 read_whole_length n taken read piece is fits = omega (arith, length-append read (take n piece), length-take n piece)
 
-front_length : (n : ℕ) (piece : List ℕ) → n ≤ 8192 → length (take n piece) ≤ 8192
-front_length n piece fits = omega (arith, length-take n piece)
+front_length : (n last : ℕ) (piece : List ℕ) → last ≡ n → length (take n piece) ≤ last
+front_length n last piece is = omega (arith, length-take n piece)
 
 pub returns-in_err-feed : goal.returns-in_err-feed
 returns-in_err-feed g c =
@@ -42,12 +42,11 @@ returns-in_err-feed g c =
     let so = c.loop-taken.invariant.so in
     let piece = c.read.new.into ++ drop c.min-room.result c.loop-taken.piece in
     let count = c.in_ok-count.count in
-    let few : count ≤ 8192 = first_of (search rules, grind (arith, common_steps)) in
     let fits : count + c.loop-taken.taken ≤ c.args.limit = first_of (search rules, grind (arith, common_steps)) in
     rw (e.1, e.2) (session_stop g.M.Machine.answers g.M.Machine.ends (c.args.machine.now, c.args.disk.now) _
     (record { tells = g.S.Source.tells; old = g.S.Source.state c.args.script.now; new = g.S.Source.state c.read.new.script })
     (over g.O.Sink.tells (g.O.Sink.state c.args.out.now) (g.O.Sink.state c.feed.new.out)) c.args.limit (length (take count piece)) (so.0 ++ take count piece) ⊥
-    _ (front_length count piece few) (λ no. absurd no)
+    _ (front_length count _ piece c.in_ok-count.ensures.last) (λ no. absurd no)
     (λ told. read_on count _ _ _ so.0 _ c.read.new.into (drop c.min-room.result c.loop-taken.piece) piece (so.2 told) (c.in_ok-count.ensures.bytes told) refl)
     (c.in_err-feed.ensures.fed (c.args.machine.now, c.args.disk.now) (g.O.Sink.state c.args.out.now) so.0 so.3)
     (read_length count c.loop-taken.taken c.args.limit so.0 piece so.1 fits)
