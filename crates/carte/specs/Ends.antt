@@ -1,13 +1,14 @@
--- How a run over real files and streams ends. They tell nothing, so what is known of each is how often it failed.
+-- How a run over real files and streams ends. They tell no bytes, so what is known of each is how often it failed, and how a script was read.
 use Rattle.std.specs.Prelude.{ℕ, ◌≡◌, ◌⊎◌, List, []}
 use Rattle.carte_io.specs.Disk.{untold}
+use Rattle.carte_io.specs.Streams.{SourceState, unread}
 use Rattle.carte_report.specs.declared.status.Status.{Status}
 use Rattle.carte_report.specs.declared.status.Status.TheVariants.{NoMemory}
 use Rattle.carte_top.specs.Around.{OverSource, OverDisk, OverSink}
 use Rattle.carte_top.specs.Whole.{IsOutcome}
 
-abbrev pub untold_source : ℕ → OverSource
-untold_source n = record { tells = ⊥; old = record { left = []; faults = 0 }; new = record { left = []; faults = n } }
+abbrev pub untold_source : SourceState → OverSource
+untold_source now = record { tells = ⊥; old = unread; new = now }
 
 abbrev pub untold_disk : ℕ → OverDisk
 untold_disk n = record { tells = ⊥; old = untold; new = untold; failed_before = 0; failed = n; same = n ≡ 0 }
@@ -17,7 +18,7 @@ untold_sink n = record { tells = ⊥; old = record { taken = []; handed = 0; fau
 
 -- the outcome of the top call, over this book and this state
 pub record OverBoth (words : List (List ℕ)) (book : OverSource) (state : OverDisk) (status : Status) : Type 0 where
-  pub script : ℕ
+  pub script : SourceState
   pub out : ℕ
   pub err : ℕ
   pub outcome : IsOutcome 268435456 (record { words = words; book = book; script = untold_source script; state = state; out = untold_sink out; err = untold_sink err }) status
@@ -27,7 +28,7 @@ pub record OverBook (words : List (List ℕ)) (book : OverSource) (status : Stat
   pub over : OverBoth words book (untold_disk state) status
 
 pub record OverFiles (words : List (List ℕ)) (status : Status) : Type 0 where
-  pub book : ℕ
+  pub book : SourceState
   pub over : OverBook words (untold_source book) status
 
 -- the top call ended so, or there was no memory to make it

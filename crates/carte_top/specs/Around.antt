@@ -33,8 +33,9 @@ pub record Around : Type 1 where
   pub out : OverSink
   pub err : OverSink
 
+-- no read of it was made: it is as it was, with the counts of its reads and of its failures
 abbrev pub IsUnread : OverSource → Type 0
-IsUnread s = (s.new.left ≡ s.old.left) × (s.new.faults ≡ s.old.faults)
+IsUnread s = (s.new ≡ s.old) × (s.new.faults ≡ s.old.faults)
 
 -- no call of it was made
 pub record IsUnvisited (d : OverDisk) : Type 0 where
