@@ -145,7 +145,8 @@ def build(work):
     shutil.copy(TOP / "HANDLES", work)
     (crate / "src" / "main.rt").write_text(MAIN.lstrip())
     # without words the program does nothing, and `rt run` leaves it proved and built
-    done = subprocess.run(["rt", "run", "--jobs", "1"], cwd=crate, stdin=subprocess.DEVNULL, stdout=subprocess.PIPE, stderr=subprocess.STDOUT, text=True)
+    done = subprocess.run(["rt", "run", "--jobs", "1"], cwd=crate, stdin=subprocess.DEVNULL, stdout=subprocess.PIPE,
+                          stderr=subprocess.STDOUT, text=True, start_new_session=True)
     if done.returncode:
         sys.exit(done.stdout[-2_000:] + "state_speed: the program can't be built")
     return crate / "out" / "speed_state"
