@@ -1,5 +1,6 @@
 pub mod Walks
 pub mod Files
+pub mod Banks
 pub mod Readings
 pub mod Commits
 pub mod ManyCommits

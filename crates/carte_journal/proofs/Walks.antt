@@ -5,7 +5,10 @@ use Rattle.std.proofs.lemmas.Bool.Decides.{nat_tests}
 use Rattle.std.proofs.lemmas.Nat.{from_be_bytes-to_be_bytes_4}
 use Rattle.std.proofs.lemmas.List.{drop-drop, drop_more, places, same_lists, take-append-drop, take_at}
 use Rattle.std.specs.Int.{from_be_bytes, to_be_bytes, w32}
-use Rattle.carte_journal.specs.Frames.{Bad, BodyAt, Ends, Reading, add, end_of, frames_from, lies, piece_of, stated, walk}
+use Rattle.carte_bank.specs.Moves.{frame_at, lies, stated}
+use Rattle.carte_bank.specs.declared.frames.FrameAt.TheVariants.{Closed, Cut, Whole}
+use Rattle.carte_bank.proofs.MoveLaws.{closed_frame, cut_frame, whole_frame}
+use Rattle.carte_journal.specs.Frames.{Bad, BodyAt, Ends, Reading, add, end_of, frames_from, piece_of, walk}
 
 -- the frames in front of others
 abbrev pub adds : List BodyAt → Reading → Reading
@@ -41,7 +44,7 @@ fits_lies : (limit at : ℕ) (bytes : List ℕ) → stated bytes + 5 ≤ length 
 fits_lies limit at bytes in_file in_limit = grind (arith, nat_tests)
 
 -- what the first byte of a walk that ends was
-data Step (limit at g : ℕ) (bytes : List ℕ) (gate : ℕ) (bodies : List BodyAt) : Type 0 where
+pub data Step (limit at g : ℕ) (bytes : List ℕ) (gate : ℕ) (bodies : List BodyAt) : Type 0 where
   closes : g ≢ 1 → gate ≡ at → bodies ≡ [] → Step limit at g bytes gate bodies
   opens : g ≡ 1 → lies limit at bytes ≡ true → (rest : List BodyAt) → bodies ≡ (at, take (stated bytes) (drop 4 bytes)) ∷ rest
       → walk limit (suc at) (4 + stated bytes) bytes ≡ Ends gate rest → Step limit at g bytes gate bodies
@@ -51,7 +54,7 @@ open_step : (limit at g : ℕ) (bytes : List ℕ) (gate : ℕ) (bodies : List Bo
     → Step limit at g bytes gate bodies
 open_step limit at g bytes gate bodies is fits added = opens is fits added.rest added.first added.ends
 
-step : (limit at g : ℕ) (bytes : List ℕ) (gate : ℕ) (bodies : List BodyAt) → walk limit at 0 (g ∷ bytes) ≡ Ends gate bodies
+pub step : (limit at g : ℕ) (bytes : List ℕ) (gate : ℕ) (bodies : List BodyAt) → walk limit at 0 (g ∷ bytes) ≡ Ends gate bodies
     → Step limit at g bytes gate bodies
 step limit at g bytes gate bodies ends =
     elim (cases_eq g 1) [
@@ -202,7 +205,7 @@ one_byte limit at (g ∷ bytes) gate bodies short ends =
     ]
 
 -- a frame that lies in the file, and the frames behind it
-pub next_frame : (limit gate size : ℕ) (file body : List ℕ) → get_or file gate 0 ≡ 1 → size ≡ stated (drop (gate + 1) file)
+next_frame : (limit gate size : ℕ) (file body : List ℕ) → get_or file gate 0 ≡ 1 → size ≡ stated (drop (gate + 1) file)
     → gate + 6 + size ≤ length file → gate + 6 + size ≤ limit → body ≡ take size (drop (gate + 5) file)
     → frames_from limit gate file ≡ add (gate, body) (frames_from limit (end_of gate body) file)
 next_frame limit gate size file body is_open size_is in_file in_limit is =
@@ -222,3 +225,23 @@ next_frame limit gate size file body is_open size_is in_file in_limit is =
     ∙ ap (λ n. add (gate, body) (walk limit n 0 (drop (4 + size) bytes))) (let e : suc gate + length (take (4 + size) bytes) ≡ end_of gate body = omega (arith, front, whole_size) in e)
     ∙ ap (λ xs. add (gate, body) (walk limit (end_of gate body) 0 xs)) (drop-drop (4 + size) (gate + 1) file)
     ∙ ap (λ n. add (gate, body) (walk limit (end_of gate body) 0 (drop n file))) (let e : gate + 1 + (4 + size) ≡ end_of gate body = omega (arith, whole_size) in e)
+
+-- what a walk finds at a gate byte
+module _ (limit gate : ℕ) (file : List ℕ) (inside : gate < length file) where
+  begins : drop gate file ≡ get_or file gate 0 ∷ drop (gate + 1) file
+  begins = drop_more file gate 0 inside
+
+  pub closed_here : frame_at limit gate file ≡ Closed → frames_from limit gate file ≡ Ends gate []
+  closed_here is = ap (walk limit gate 0) begins ∙ walk_closed limit gate (get_or file gate 0) (drop (gate + 1) file) (closed_frame limit gate file is)
+
+  pub cut_here : frame_at limit gate file ≡ Cut → frames_from limit gate file ≡ Bad gate
+  cut_here is =
+      let h = cut_frame limit gate file is in
+      ap (walk limit gate 0) begins ∙ walk_bad limit gate (get_or file gate 0) (drop (gate + 1) file) h.0 h.1
+
+pub whole_here : (limit gate size : ℕ) (file body : List ℕ) → frame_at limit gate file ≡ Whole size → gate + 6 + size ≤ length file
+    → gate + 6 + size ≤ limit → body ≡ take size (drop (gate + 5) file)
+    → frames_from limit gate file ≡ add (gate, body) (frames_from limit (end_of gate body) file)
+whole_here limit gate size file body is in_file in_limit body_is =
+    let w = whole_frame limit gate size file is in
+    next_frame limit gate size file body w.is_open (sym w.size_is) in_file in_limit body_is

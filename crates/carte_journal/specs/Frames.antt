@@ -1,7 +1,9 @@
 -- Which bodies the bytes of a journal hold.
-use Rattle.std.specs.Prelude.{ℕ, ◌+◌, ◌-◌, ◌==◌, ◌&&◌, nat_le, if◌then◌else◌, Bool, suc, zero, List, [], ◌∷◌, ◌++◌, length, take, drop}
-use Rattle.std.specs.Int.{from_be_bytes, to_be_bytes, w32}
+use Rattle.std.specs.Prelude.{ℕ, ◌+◌, ◌-◌, ◌==◌, nat_le, if◌then◌else◌, suc, zero, List, [], ◌∷◌, ◌++◌, length, take, drop, None}
+use Rattle.std.specs.Int.{to_be_bytes, w32}
 use Rattle.std.specs.Str.{bytes_eq}
+use Rattle.carte_bank.specs.Moves.{lies, stated}
+use Rattle.carte_bank.specs.Roots.{Astray, Bank, Known, bank_at, start_of}
 
 -- `CARTE01` and a line feed
 abbrev pub header : List ℕ
@@ -14,20 +16,12 @@ BodyAt = ℕ × List ℕ
 pub data Reading : Type 0 where
   -- the closed gate byte behind the frames, and their bodies
   Ends : ℕ → List BodyAt → Reading
-  -- the first open frame that doesn't lie in the file, or 0 for a header that isn't one
+  -- the first open frame that doesn't lie in the file, a move that has a fault, or 0 for a header that isn't one
   Bad : ℕ → Reading
 
 abbrev pub add : BodyAt → Reading → Reading
 add body (Ends gate bodies) = Ends gate (body ∷ bodies)
 add body (Bad gate) = Bad gate
-
--- the length of the body that the bytes behind a gate byte begin with, in 4 bytes with the highest first
-unfoldable pub stated : List ℕ → ℕ
-stated bytes = from_be_bytes w32 (take 4 bytes)
-
--- of the bytes behind an open gate byte: the body and the gate byte after it lie in them, and within the limit
-abbrev pub lies : ℕ → ℕ → List ℕ → Bool
-lies limit gate bytes = nat_le (stated bytes + 5) (length bytes) && nat_le (gate + 6 + stated bytes) limit
 
 -- the frames of the bytes from an offset on, behind so many bytes that are passed over
 abbrev pub walk : ℕ → ℕ → ℕ → List ℕ → Reading
@@ -42,10 +36,19 @@ walk limit at zero (gate ∷ bytes) =
 abbrev pub frames_from : ℕ → ℕ → List ℕ → Reading
 frames_from limit start file = walk limit start 0 (drop start file)
 
--- the bodies of a file up to the first closed gate byte; a file of at most 9 bytes is a new one, whatever it holds
+-- the frames of a bank, or the fault of the move to it
+abbrev pub reading_in : ℕ → List ℕ → Bank → Reading
+reading_in limit file (Known bank) = frames_from limit (start_of bank) file
+reading_in limit file (Astray gate) = Bad gate
+
+-- the bodies of a file up to the first closed gate byte of its bank; a file of at most 9 bytes is a new one, whatever it holds
 abbrev pub reading : ℕ → List ℕ → Reading
 reading limit file =
-    if nat_le (length file) 9 then Ends 8 [] else (if bytes_eq (take 8 file) header then frames_from limit 8 file else Bad 0)
+    if nat_le (length file) 9 then Ends 8 [] else (if bytes_eq (take 8 file) header then reading_in limit file (bank_at limit file) else Bad 0)
+
+-- the bank of a file
+abbrev pub bank_in : ℕ → List ℕ → Bank
+bank_in limit file = if nat_le (length file) 9 then Known None else bank_at limit file
 
 -- a body as it is written behind its gate byte: its length, the body, and the next gate byte, closed
 abbrev pub piece_of : List ℕ → List ℕ

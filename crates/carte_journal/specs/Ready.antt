@@ -1,7 +1,9 @@
 -- A file to which a frame can be put: steps on the way to a commit.
-use Rattle.std.specs.Prelude.{◌≡◌, ℕ, ◌+◌, ◌≤◌, List, [], ◌∷◌, ◌++◌, length, take}
+use Rattle.std.specs.Prelude.{◌≡◌, ℕ, ◌+◌, ◌≤◌, List, [], ◌∷◌, ◌++◌, length, take, Option}
 use Rattle.carte_io.specs.Disk.{IsSettled, Leaves, Moment, Story, Throughout, put_at, range_of}
 use Rattle.carte_io.specs.Stations.{IsMidway, Turns}
+use Rattle.carte_bank.specs.Roots.{Known, bank_at, start_of}
+use Rattle.carte_bank.specs.declared.roots.Roots.{Roots}
 use Rattle.carte_journal.specs.Frames.{BodyAt, Ends, end_of, frames_from, header, reading}
 
 -- the frames from a place on have these bodies, and behind them is a closed gate byte
@@ -9,14 +11,15 @@ pub record HasFrames (limit start gate : ℕ) (bodies : List BodyAt) (file : Lis
   pub inside : start ≤ length file
   pub ends : frames_from limit start file ≡ Ends gate bodies
 
--- behind a header
-pub record IsReady (limit gate : ℕ) (bodies : List BodyAt) (file : List ℕ) : Type 0 where
+-- in a bank, behind a header
+pub record IsReady (limit : ℕ) (bank : Option Roots) (gate : ℕ) (bodies : List BodyAt) (file : List ℕ) : Type 0 where
   pub begins : take 8 file ≡ header
-  pub frames : HasFrames limit 8 gate bodies file
+  pub bank_is : bank_at limit file ≡ Known bank
+  pub frames : HasFrames limit (start_of bank) gate bodies file
 
 -- and all of it is on the disk
-pub record IsReadyAt (limit gate : ℕ) (bodies : List BodyAt) (story : Story) : Type 0 where
-  pub file : IsReady limit gate bodies story.now.reads
+pub record IsReadyAt (limit : ℕ) (bank : Option Roots) (gate : ℕ) (bodies : List BodyAt) (story : Story) : Type 0 where
+  pub file : IsReady limit bank gate bodies story.now.reads
   pub settled : IsSettled story.now
 
 -- at a moment of which at most so many calls had passed, each image holds these bodies

@@ -10,8 +10,8 @@ pub enum LoadFault {
     /// A call of the disk failed, and the disk counted it.
     #[error("the disk failed")]
     DiskFault,
-    /// The open frame at this offset doesn't lie in the file and within the limit; 0 where the file is longer than
-    /// 9 bytes and doesn't begin with the header.
+    /// The open frame at this offset doesn't lie in the file and within the limit, or the move there doesn't lead
+    /// to a bank; 0 where the file is longer than 9 bytes and doesn't begin with the header.
     #[error("bad state at offset {0}")]
     BadState(u64),
     /// There was no memory for the bodies.

@@ -1,4 +1,4 @@
-ghost use Rattle.std.specs.Prelude.{◌≡◌, ◌+◌, ◌<◌, ◌≤◌, ◌^◌, ◌++◌, ◌∷◌, ◌↔◌, [], true, false, IsTrue, IsOkUnless, OnOk, OnErr, Err, List};
+ghost use Rattle.std.specs.Prelude.{◌≡◌, ◌+◌, ◌<◌, ◌≤◌, ◌^◌, ◌++◌, ◌∷◌, ◌↔◌, [], true, false, None, IsTrue, IsOkUnless, OnOk, OnErr, Err, List};
 ghost use Rattle.carte_io.specs.Causes.{HasCauseOf};
 ghost use Rattle.carte_io.specs.Stations.{StepsThrough};
 ghost use Rattle.carte_journal.specs.Frames.{BodyAt, Ends};
@@ -6,6 +6,7 @@ ghost use Rattle.carte_journal.specs.Journals.{IsAtRest, IsReadAs, broke, calls_
 
 use crate::writes::append;
 use crate::{CommitFault, Frame};
+use carte_bank::Roots;
 use carte_io::Disk;
 use std::marker::Model;
 
@@ -17,30 +18,51 @@ pub struct Journal {
     limit: u64,
     fresh: bool,
     broken: bool,
+    bank: Option<Roots>,
+    frames: u64,
 }
 
 impl Model for Journal {
-    ghost use Rattle.std.specs.Prelude.{◌<◌, ◌^◌};
+    ghost use Rattle.std.specs.Prelude.{◌<◌, ◌≤◌, ◌^◌};
     ghost use Rattle.carte_journal.specs.Journals.{Standing};
 
     ghost Value = { Standing };
 
-    ghost view = { λ j. record { gate = j.gate; limit = j.limit; fresh = j.fresh; broken = j.broken } };
+    ghost view = { λ j. record { gate = j.gate; limit = j.limit; fresh = j.fresh; broken = j.broken; bank = j.bank; frames = j.frames } };
 
-    ghost invariant = { λ j. (j.gate < 2 ^ 32) × (j.limit < 2 ^ 32) };
+    ghost invariant = { λ j. (j.gate < 2 ^ 32) × (j.limit < 2 ^ 32) × (j.frames ≤ j.gate) };
 }
 
 impl Journal {
-    pub(crate) fn at(gate: u64, limit: u64, fresh: bool) -> Journal
+    // That of a new file.
+    pub(crate) fn new(limit: u64) -> Journal
+        requires { limit < 2 ^ 32 }
+        ensures { result ≡ record { gate = 8; limit = limit; fresh = true; broken = false; bank = None; frames = 0 } }
+    {
+        Journal {
+            gate: 8,
+            limit,
+            fresh: true,
+            broken: false,
+            bank: None,
+            frames: 0,
+        }
+    }
+
+    // That of a file whose bank has so many frames and ends at a gate byte.
+    pub(crate) fn at(limit: u64, bank: Option<Roots>, gate: u64, frames: usize) -> Journal
         requires gate { gate < 2 ^ 32 }
         requires limit { limit < 2 ^ 32 }
-        ensures { result ≡ record { gate = gate; limit = limit; fresh = fresh; broken = false } }
+        requires frames { frames ≤ gate }
+        ensures { result ≡ record { gate = gate; limit = limit; fresh = false; broken = false; bank = bank; frames = frames } }
     {
         Journal {
             gate,
             limit,
-            fresh,
+            fresh: false,
             broken: false,
+            bank,
+            frames: frames as u64,
         }
     }
 
@@ -104,6 +126,7 @@ impl Journal {
             Ok(()) => {
                 self.gate = needed - 1;
                 self.fresh = false;
+                self.frames += 1;
                 Ok(())
             }
             Err(_) => {

@@ -10,7 +10,8 @@
 //! then a body that was torn could pass for a whole one, by chance, and no theorem could rule it out.
 //!
 //! What a file holds is a function of its bytes, `reading` in `specs/Frames.antt`, which shares nothing with the
-//! code: it walks over the bytes, where the code seeks by offsets. The contract of `commit` says what an image
+//! code: it walks over the bytes, where the code seeks by offsets. A move among the frames leads to a bank, whose
+//! frames count in their place: see `carte_bank`. The contract of `commit` says what an image
 //! reads as, at each moment. For calls one after another that becomes a chain: see `commit_all`.
 //!
 //! A journal doesn't hold its disk. It would be simpler to use, but a program would have to take it apart for

@@ -1,7 +1,7 @@
 // Single reads of a disk. Where it tells what it reads, a caller shows that the range lies in the file.
-ghost use Rattle.std.specs.Prelude.{◌≡◌, ◌+◌, ◌<◌, ◌≤◌, ◌^◌, length, take, drop, slice_index, IfOk, Err, ℕ};
+ghost use Rattle.std.specs.Prelude.{◌≡◌, ◌+◌, ◌<◌, ◌≤◌, length, take, drop, IfOk, Err, ℕ};
 ghost use Rattle.carte_io.specs.Causes.{HasCause, HasCauseOf};
-ghost use Rattle.carte_journal.specs.Frames.{header, stated};
+ghost use Rattle.carte_journal.specs.Frames.{header};
 ghost use Rattle.std.specs.Str.{bytes_eq};
 
 use crate::LoadFault;
@@ -21,31 +21,6 @@ pub(crate) fn has_header<D: Disk>(disk: &mut D) -> Result<bool, Failed>
     let mut bytes = [0; 8];
     disk.read_at(0, &mut bytes)?;
     Ok(bytes.as_slice() == HEADER.as_slice())
-}
-
-/// The byte at an offset.
-pub(crate) fn read_byte<D: Disk>(disk: &mut D, at: u64) -> Result<u8, Failed>
-    requires { D.tells → at < length (D.story disk.old).now.reads }
-    ensures byte { D.tells → IfOk result (λ byte. byte ≡ slice_index (D.story disk.old).now.reads at) }
-    ensures same { D.tells → D.story disk.new ≡ D.story disk.old }
-    ensures cause { HasCause (D.faults disk.old) (D.faults disk.new) result }
-{
-    let mut bytes = [0; 1];
-    disk.read_at(at, &mut bytes)?;
-    Ok(bytes[0])
-}
-
-/// The length that 4 bytes at an offset state.
-#[tactic(auto, unfolding(crate::specs::Frames::stated))]
-pub(crate) fn read_size<D: Disk>(disk: &mut D, at: u64) -> Result<u32, Failed>
-    requires { D.tells → at + 4 ≤ length (D.story disk.old).now.reads }
-    ensures size { D.tells → IfOk result (λ size. size ≡ stated (drop at (D.story disk.old).now.reads)) }
-    ensures same { D.tells → D.story disk.new ≡ D.story disk.old }
-    ensures cause { HasCause (D.faults disk.old) (D.faults disk.new) result }
-{
-    let mut bytes = [0; 4];
-    disk.read_at(at, &mut bytes)?;
-    Ok(u32::from_be_bytes(bytes))
 }
 
 /// So many bytes from an offset on.

@@ -1,5 +1,7 @@
 // Writes that are on the disk before the next one begins.
-ghost use Rattle.std.specs.Prelude.{◌≡◌, ◌+◌, ◌<◌, ◌≤◌, ◌^◌, ◌++◌, ◌∷◌, [], true, false, length, cond, List, ℕ, OnOk, OnErr};
+ghost use Rattle.std.specs.Prelude.{◌≡◌, ◌+◌, ◌<◌, ◌≤◌, ◌^◌, ◌++◌, ◌∷◌, [], true, false, length, cond, List, Option, ℕ, OnOk, OnErr};
+ghost use Rattle.carte_bank.specs.Moves.{is_move};
+ghost use Rattle.carte_bank.specs.declared.roots.Roots.{Roots};
 ghost use Rattle.carte_io.specs.Causes.{HasCause};
 ghost use Rattle.carte_journal.specs.Frames.{BodyAt, end_of, piece_of};
 ghost use Rattle.carte_journal.specs.Journals.{IsAtRest, Standing};
@@ -42,6 +44,7 @@ fn write_piece<D: Disk>(disk: &mut D, gate: u64, frame: &Frame) -> Result<(), Fa
     ensures fewer { D.tells → OnErr result (((D.story disk.old).now.passed ≤ (D.story disk.new).now.passed) × ((D.story disk.new).now.passed ≤ (D.story disk.old).now.passed + 1)) }
     ensures cause { HasCause (D.faults disk.old) (D.faults disk.new) result }
     ensures short { length frame.now < 2 ^ 32 }
+    ensures other { is_move frame.now ≡ false }
 {
     write_through(disk, gate + 1, frame.piece())
 }
@@ -59,7 +62,7 @@ fn open_gate<D: Disk>(disk: &mut D, gate: u64) -> Result<(), Failed>
 /// Writes the header of a new file.
 pub(crate) fn begin<D: Disk>(disk: &mut D, fresh: bool) -> Result<(), Failed>
     ensures ok { D.tells → (j : Standing) (bodies : List BodyAt) → IsAtRest j bodies (D.story disk.old) → j.fresh ≡ fresh
-        → OnOk result (IsReadyAt j.limit j.gate bodies (D.story disk.new)) }
+        → OnOk result (IsReadyAt j.limit j.bank j.gate bodies (D.story disk.new)) }
     ensures any_moment { D.tells → (j : Standing) (bodies : List BodyAt) → IsAtRest j bodies (D.story disk.old) → j.fresh ≡ fresh
         → Throughout (D.story disk.old) (D.story disk.new) (StaysReady j.limit j.gate bodies ((D.story disk.old).now.passed + cond fresh 2 0)) }
     ensures calls { D.tells → OnOk result ((D.story disk.new).now.passed ≡ (D.story disk.old).now.passed + cond fresh 2 0) }
@@ -76,9 +79,11 @@ pub(crate) fn begin<D: Disk>(disk: &mut D, fresh: bool) -> Result<(), Failed>
 /// Puts a frame behind a closed gate byte, and then opens it.
 pub(crate) fn put_frame<D: Disk>(disk: &mut D, gate: u64, frame: &Frame) -> Result<(), Failed>
     requires { gate < 2 ^ 32 }
-    ensures ok { D.tells → (limit : ℕ) (bodies : List BodyAt) → IsReadyAt limit gate bodies (D.story disk.old) → end_of gate frame.now + 1 ≤ limit
-        → OnOk result (IsReadyAt limit (end_of gate frame.now) (bodies ++ (gate, frame.now) ∷ []) (D.story disk.new)) }
-    ensures any_moment { D.tells → (limit : ℕ) (bodies : List BodyAt) → IsReadyAt limit gate bodies (D.story disk.old) → end_of gate frame.now + 1 ≤ limit
+    ensures ok { D.tells → (limit : ℕ) (bank : Option Roots) (bodies : List BodyAt) → IsReadyAt limit bank gate bodies (D.story disk.old)
+        → end_of gate frame.now + 1 ≤ limit
+        → OnOk result (IsReadyAt limit bank (end_of gate frame.now) (bodies ++ (gate, frame.now) ∷ []) (D.story disk.new)) }
+    ensures any_moment { D.tells → (limit : ℕ) (bank : Option Roots) (bodies : List BodyAt) → IsReadyAt limit bank gate bodies (D.story disk.old)
+        → end_of gate frame.now + 1 ≤ limit
         → Throughout (D.story disk.old) (D.story disk.new) (AddsBody limit gate bodies frame.now ((D.story disk.old).now.passed + 4)) }
     ensures calls { D.tells → OnOk result ((D.story disk.new).now.passed ≡ (D.story disk.old).now.passed + 4) }
     ensures fewer { D.tells → OnErr result (((D.story disk.old).now.passed ≤ (D.story disk.new).now.passed) × ((D.story disk.new).now.passed < (D.story disk.old).now.passed + 4)) }
@@ -98,7 +103,7 @@ pub(crate) fn append<D: Disk>(
     requires { gate < 2 ^ 32 }
     ensures ok { D.tells → (j : Standing) (bodies : List BodyAt) → IsAtRest j bodies (D.story disk.old) → j.fresh ≡ fresh → j.gate ≡ gate
         → end_of gate frame.now + 1 ≤ j.limit
-        → OnOk result (IsReadyAt j.limit (end_of gate frame.now) (bodies ++ (gate, frame.now) ∷ []) (D.story disk.new)) }
+        → OnOk result (IsReadyAt j.limit j.bank (end_of gate frame.now) (bodies ++ (gate, frame.now) ∷ []) (D.story disk.new)) }
     ensures any_moment { D.tells → (j : Standing) (bodies : List BodyAt) → IsAtRest j bodies (D.story disk.old) → j.fresh ≡ fresh → j.gate ≡ gate
         → end_of gate frame.now + 1 ≤ j.limit
         → Throughout (D.story disk.old) (D.story disk.new) (AddsBody j.limit gate bodies frame.now ((D.story disk.old).now.passed + cond fresh 6 4)) }

@@ -1,5 +1,7 @@
 -- What applying a batch makes of a state, and what its images keep.
-use Rattle.std.proofs.Common.{◌≡◌, ℕ, ◌<◌, Bool, true, false, if◌then◌else◌, List, [], ◌∷◌, ◌++◌, refl, sym, ◌∙◌, ap, subst, arith, inl}
+use Rattle.std.proofs.Common.{◌≡◌, ℕ, ◌<◌, Bool, true, false, if◌then◌else◌, List, [], ◌∷◌, ◌++◌, refl, sym, ◌∙◌, ap, subst, arith, length, inl, inr}
+use Rattle.std.specs.Prelude.{◌==◌}
+use Rattle.std.proofs.lemmas.Bool.{cases_Bool}
 use Rattle.carte_io.specs.Disk.{Leaves, Story}
 use Rattle.carte_io.specs.Stations.{Step, StepsThrough}
 use Rattle.carte_io.proofs.Acknowledged.{step_as, steps_none, steps_one}
@@ -7,7 +9,8 @@ use Rattle.carte_io.proofs.Images.{settled_image, throughout_none}
 use Rattle.carte_journal.specs.Frames.{Ends, reading}
 use Rattle.carte_journal.specs.Journals.{IsAtRest, IsReadAs, calls_of, step_of}
 use Rattle.carte_journal.proofs.Commits.{some_calls}
-use Rattle.carte_record.specs.Bodies.{IsBody}
+use Rattle.carte_bank.specs.Moves.{is_move}
+use Rattle.carte_record.specs.Bodies.{IsBody, spelled_batch}
 use Rattle.carte_record.specs.Folds.{apply}
 use Rattle.carte_record.specs.Kept.{SomeKept, nothing_kept}
 use Rattle.carte_record.specs.declared.batch.Batch.{Batch}
@@ -71,3 +74,11 @@ module _ (s : Stand) (story : Story) (on : IsKeptOn s story) where
       folded = subst (IsFolded nothing_kept (on.bodies ++ (s.journal.gate, body) ∷ [])) (sym is)
           (folded_push nothing_kept on.bodies (s.journal.gate, body) B (kept_in s) on.folded batch);
     }
+
+-- the body of a batch is no move
+pub no_move : (B : Batch) (body : List ℕ) → body ≡ spelled_batch B → is_move body ≡ false
+no_move B body is =
+    ap is_move is ∙ elim (cases_Bool (length (spelled_batch B) == 9)) [
+      | inl on ↦ rw on refl
+      | inr off ↦ rw off refl
+    ]

@@ -166,6 +166,7 @@ impl State {
     }
 
     // The frame of a batch, where there is room for it.
+    #[tactic(auto, using(crate::proofs::Applies::no_move))]
     fn frame_of(&self, alloc: Global, batch: &Batch) -> Result<Frame, ApplyFault>
         requires { EachFits IsUnmarked batch.now.entries }
         ensures frame { IfOk result (λ frame. frame ≡ spelled_batch batch.now) }

@@ -34,6 +34,6 @@ frames-preserved g c =
       room = omega (arith, c.frames.invariant.room, ok.0, ap length ok.1, length-append c.frames.bodies ((c.frames.gate, c.in-Some.bytes.items) ∷ []));
       kept = e.cause.passed (λ never. absurd (cc)) ∙ c.frames.invariant.kept;
       read = λ told.
-          read_more c.args.limit c.frames.gate c.in_ok-gate-in-Some.gate c.in-Some.bytes.items c.frames.bodies c.add_body.new.bodies _ _
+          read_more c.args.limit c.args.start c.frames.gate c.in_ok-gate-in-Some.gate c.in-Some.bytes.items c.frames.bodies c.add_body.new.bodies _ _
           (c.frames.invariant.same told) (c.frames.invariant.read told) (e.read told) ok.0 ok.1;
     }

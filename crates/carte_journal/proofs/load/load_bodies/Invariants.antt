@@ -8,9 +8,9 @@ invariant-frames g l = record {
   inside : l.gate < l.len;
   small : l.gate < 2 ^ 32;
   same : g.D.Disk.tells → g.D.Disk.story l.disk ≡ g.D.Disk.story l.fn.disk;
-  room : length l.bodies + 8 ≤ l.gate;
+  room : length l.bodies ≤ l.gate;
   kept : g.D.Disk.faults l.disk ≡ g.D.Disk.faults l.fn.disk;
-  read : g.D.Disk.tells → frames_from l.limit 8 (g.D.Disk.story l.fn.disk).now.reads
+  read : g.D.Disk.tells → frames_from l.limit l.start (g.D.Disk.story l.fn.disk).now.reads
       ≡ adds l.bodies (frames_from l.limit l.gate (g.D.Disk.story l.fn.disk).now.reads);
 }
 

@@ -10,8 +10,8 @@ returns-in_err-begin-clause-any_moment g c told j bodies rest fresh gate fits =
 
 pub returns-clause-ok : goal.returns-clause-ok
 returns-clause-ok g c told j bodies rest fresh gate fits =
-    c.put_frame.ensures.ok told j.limit bodies
-    (subst (λ n. IsReadyAt j.limit n bodies (g.D.Disk.story c.begin.new.disk)) gate (c.in_ok-begin.ensures.ok told j bodies rest fresh)) fits
+    c.put_frame.ensures.ok told j.limit j.bank bodies
+    (subst (λ n. IsReadyAt j.limit j.bank n bodies (g.D.Disk.story c.begin.new.disk)) gate (c.in_ok-begin.ensures.ok told j bodies rest fresh)) fits
 
 pub returns-clause-any_moment : goal.returns-clause-any_moment
 returns-clause-any_moment g c told j bodies rest fresh gate fits =
@@ -22,5 +22,5 @@ returns-clause-any_moment g c told j bodies rest fresh gate fits =
     (c.begin.ensures.any_moment told j bodies rest fresh)
     (subst (λ n. Throughout mid new (AddsBody j.limit c.args.gate bodies c.args.frame.now n))
     (omega (arith, c.in_ok-begin.ensures.calls told, calls_sum c.args.fresh s.now.passed))
-    (c.put_frame.ensures.any_moment told j.limit bodies
-    (subst (λ n. IsReadyAt j.limit n bodies mid) gate (c.in_ok-begin.ensures.ok told j bodies rest fresh)) fits))
+    (c.put_frame.ensures.any_moment told j.limit j.bank bodies
+    (subst (λ n. IsReadyAt j.limit j.bank n bodies mid) gate (c.in_ok-begin.ensures.ok told j bodies rest fresh)) fits))

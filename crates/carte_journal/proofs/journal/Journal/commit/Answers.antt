@@ -14,6 +14,7 @@ returns-in-Ok-clause-ok g c told bodies rest =
     let fresh_is = ap (λ (j : Standing). j.fresh) c.self.view_is in
     committed_rest c.args.self.now bodies c.args.frame.now (g.D.Disk.story c.args.disk.now) rest _ c.self.inside.gate _
     gate_is limit_is (omega (arith, c.len.ensures.len, c.needed-needed.ensures)) refl
+    (ap (λ (j : Standing). j.bank) c.self.view_is) (ap (λ (j : Standing). j.frames + 1) c.self.view_is)
     (c.in-Ok.ensures.ok told c.args.self.now bodies rest (sym fresh_is) (sym gate_is) (omega (arith, limit_is)))
 
 pub returns-in-Ok-clause-any_moment : goal.returns-in-Ok-clause-any_moment
