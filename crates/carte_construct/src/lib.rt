@@ -22,9 +22,9 @@ ghost use Rattle.carte_record.specs.declared.way.Way.TheVariants.{Constructive};
 ghost use Rattle.carte_rebuild.specs.Traced.{AreTried};
 
 use carte_book::Book;
-use carte_note::{Finished, Method, note_finished};
+use carte_note::Method;
 use carte_rebuild::{Checks, Rebuilder, Tries, checks_of};
-use carte_record::{Batch, Kept, Way};
+use carte_record::{Kept, Way};
 use carte_value::{Name, NoMemory};
 pub use laws::{
     early_cutoff, held_is_unchanged, held_links_are_present, one_trace_holds, set_back_is_held,
@@ -66,30 +66,8 @@ impl Rebuilder for Construct {
         Tries::of(alloc, book, key, checks)
     }
 
-    fn note(
-        &self,
-        alloc: Global,
-        kept: &Kept,
-        book: &Book,
-        finished: &Finished,
-        batch: &mut Batch,
-    ) -> Result<(), NoMemory> {
-        note_finished(
-            alloc,
-            Method::Tracing(Way::Constructive),
-            kept,
-            book,
-            finished,
-            batch,
-        )
-    }
-
-    fn looks_beneath(&self) -> bool {
-        true
-    }
-
-    fn gathers_beneath(&self) -> bool {
-        false
+    fn method(&self) -> Method {
+        Method::Tracing(Way::Constructive)
     }
 
     ghost fits = { λ r K b H t k p base job. traced_fits Constructive of_constructive K b H base t k p job };

@@ -29,9 +29,9 @@ ghost use Rattle.std.specs.Prelude.{◌≡◌, IfOk};
 
 use crate::held::held;
 use carte_book::Book;
-use carte_note::{Finished, Method, note_finished};
+use carte_note::Method;
 use carte_rebuild::Rebuilder;
-use carte_record::{Batch, Kept, Way};
+use carte_record::{Kept, Way};
 use carte_value::{Name, NoMemory};
 pub use job::DeepJob;
 pub use laws::{held_links_are_present, set_back_is_held, stays_held, unchanged_is_held};
@@ -64,30 +64,8 @@ impl Rebuilder for Deep {
         DeepJob::of(alloc, book, key, earlier)
     }
 
-    fn note(
-        &self,
-        alloc: Global,
-        kept: &Kept,
-        book: &Book,
-        finished: &Finished,
-        batch: &mut Batch,
-    ) -> Result<(), NoMemory> {
-        note_finished(
-            alloc,
-            Method::Tracing(Way::Deep),
-            kept,
-            book,
-            finished,
-            batch,
-        )
-    }
-
-    fn looks_beneath(&self) -> bool {
-        false
-    }
-
-    fn gathers_beneath(&self) -> bool {
-        true
+    fn method(&self) -> Method {
+        Method::Tracing(Way::Deep)
     }
 
     ghost fits = { λ r K b H t k p base job. deep_fits K b H base t k p job };

@@ -20,9 +20,9 @@ ghost use Rattle.carte_dirty.specs.Fresh.{fresh_value as value_kept, fresh_check
 
 use carte_book::Book;
 use carte_effect::Hashed;
-use carte_note::{Finished, Method, note_finished};
+use carte_note::Method;
 use carte_rebuild::{Checks, Rebuilder, Tries};
-use carte_record::{Batch, Entry, Kept};
+use carte_record::{Entry, Kept};
 use carte_task::Check;
 use carte_value::{Links, Name, NoMemory, SharedLinks, Value};
 pub use laws::{changed_is_not_held, unchanged_is_held};
@@ -83,23 +83,8 @@ impl Rebuilder for Dirty {
         Tries::of(alloc, book, key, checks)
     }
 
-    fn note(
-        &self,
-        alloc: Global,
-        kept: &Kept,
-        book: &Book,
-        finished: &Finished,
-        batch: &mut Batch,
-    ) -> Result<(), NoMemory> {
-        note_finished(alloc, Method::Dirty, kept, book, finished, batch)
-    }
-
-    fn looks_beneath(&self) -> bool {
-        false
-    }
-
-    fn gathers_beneath(&self) -> bool {
-        false
+    fn method(&self) -> Method {
+        Method::Dirty
     }
 
     ghost fits = { λ r K b H t k p base job. dirty_fits K b H base t k p job };

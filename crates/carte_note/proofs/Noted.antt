@@ -29,7 +29,7 @@ use Rattle.carte_sound.specs.Left.{add, entry_left, is_kept, is_way, or_first, s
 use Rattle.carte_sound.specs.True.{digest_or, links_to, trace_of}
 use Rattle.carte_sound.proofs.Entries.{kept_is}
 use Rattle.carte_note.specs.declared.finished.Finished.{Finished}
-use Rattle.carte_note.specs.Methods.{is_deep, is_dirty}
+use Rattle.carte_note.specs.Methods.{is_dirty}
 use Rattle.carte_note.specs.Notes.{AreUnmarked, Noted, Notes, trace_made}
 use Rattle.carte_note.specs.Right.{IsRightFinished, key_of, has_run}
 use Rattle.carte_note.specs.Writes.{links_noted, names_in, trace_noted, entry_noted, values_noted, traces_noted, with_value, all_seen, stays_as, stays, seen_noted, entries_noted, with_run, with_entry}

@@ -16,13 +16,13 @@ use Rattle.carte_record.specs.declared.way.Way.TheVariants.{Verifying, Construct
 use Rattle.carte_record.specs.Kept.{SomeKept, is_fresh, kept_view}
 use Rattle.carte_sound.specs.Base.{AllNow}
 use Rattle.carte_sound.specs.Beneath.{beneath}
-use Rattle.carte_sound.specs.Held.{How, dirty, tracing}
+use Rattle.carte_sound.specs.Held.{How, dirty, tracing, gathers}
 use Rattle.carte_sound.specs.Left.{entry_left, entry_eq, fresh_or, is_kept, is_way}
 use Rattle.carte_sound.specs.Marks.{IsFresh}
 use Rattle.carte_sound.specs.True.{digest_or, links_to, linked, trace_of, full_entry, shallow_entry}
 use Rattle.carte_sound.proofs.Tests.{fresh_parts}
 use Rattle.carte_note.specs.declared.finished.Finished.{Finished}
-use Rattle.carte_note.specs.Methods.{is_deep, is_dirty}
+use Rattle.carte_note.specs.Methods.{is_dirty}
 use Rattle.carte_note.specs.Right.{IsRightFinished, IsRightMade, Came, key_of, has_run}
 use Rattle.carte_note.specs.Writes.{links_noted, names_in, digest_made, trace_noted, entry_noted, stays_as, stays}
 use Rattle.carte_note.proofs.Entered.{entry_self}
@@ -42,9 +42,9 @@ module _ (h : How) (K : SomeKept) (b : Book) (k : List ℕ) (f : Finished) (righ
   digest_right : digest_made f ≡ digest_or (clean b k)
   digest_right = sym (ap digest_or right.made.value)
 
-  entry_is : (ks : List (List ℕ)) → links_noted h f ≡ links_to (clean b) ks → entry_noted h f ≡ entry_by k (digest_or (clean b k)) ks (is_deep h)
+  entry_is : (ks : List (List ℕ)) → links_noted h f ≡ links_to (clean b) ks → entry_noted h f ≡ entry_by k (digest_or (clean b k)) ks (gathers h)
   unfolding entry_by
-  entry_is ks links i = record { key = right.made.key i; result = digest_right i; needs = (ap names_in links ∙ names_linked b ks) i; stale = false; shallow = is_deep h }
+  entry_is ks links i = record { key = right.made.key i; result = digest_right i; needs = (ap names_in links ∙ names_linked b ks) i; stale = false; shallow = gathers h }
 
   trace_is : (ks : List (List ℕ)) → links_noted h f ≡ links_to (clean b) ks → trace_noted h f ≡ trace_by k (links_to (clean b) ks) (digest_or (clean b k))
   unfolding trace_by
@@ -78,7 +78,7 @@ pub data Leaves (h : How) (K : SomeKept) (b : Book) (k : List ℕ) (f : Finished
   kept : stay ≡ true → o ≡ Some e → Leaves h K b k f o stay e
   written : stay ≡ is_kept o e → entry_noted h f ≡ e → e.key ≡ k → links_noted h f ≡ links_to (clean b) e.needs → Leaves h K b k f o stay e
 
-shallow_tests : (h : How) (o : Option Entry) (e : Entry) → is_deep h ≡ false → stays_as h o e ≡ is_kept o e
+shallow_tests : (h : How) (o : Option Entry) (e : Entry) → gathers h ≡ false → stays_as h o e ≡ is_kept o e
 shallow_tests h None e not_deep = refl
 shallow_tests h (Some x) e not_deep = ap (λ t. (t && is_fresh x) || entry_eq x e) not_deep
 
@@ -97,7 +97,7 @@ by_dirty K b k f o now at right (Ran r) is came =
     written (ap (λ t. not t || stays_as dirty o (entry_noted dirty f)) (ap has_run is) ∙ (shallow_tests dirty o (entry_noted dirty f) refl ∙ ap (is_kept o) equal)) equal refl links
 by_dirty K b k f o now at right (Reused r) is came = kept (ap (λ t. not t || stays_as dirty o (entry_noted dirty f)) (ap has_run is)) (sym at ∙ held_full K b k now came.0)
 
-by_needs : (w : Way) (K : SomeKept) (b : Book) (k : List ℕ) (f : Finished) (o : Option Entry) → is_deep (tracing w) ≡ false → linked w b k ≡ needs b k → IsRightFinished (tracing w) K b k f → Leaves (tracing w) K b k f o (stays_as (tracing w) o (entry_noted (tracing w) f)) (full_entry b k)
+by_needs : (w : Way) (K : SomeKept) (b : Book) (k : List ℕ) (f : Finished) (o : Option Entry) → gathers (tracing w) ≡ false → linked w b k ≡ needs b k → IsRightFinished (tracing w) K b k f → Leaves (tracing w) K b k f o (stays_as (tracing w) o (entry_noted (tracing w) f)) (full_entry b k)
 unfolding entry_by
 by_needs w K b k f o not_deep same right =
     let links : links_noted (tracing w) f ≡ links_to (clean b) (needs b k) = ap (λ t. cond t f.beneath (outcome_of f.made).links) not_deep ∙ made_links w K b k f.made same right.made.came in

@@ -1,6 +1,5 @@
 -- The rebuilders by what they do with a finished key.
 use Rattle.std.specs.Prelude.{Bool, true, false}
-use Rattle.carte_record.specs.declared.way.Way.TheVariants.{Verifying, Constructive, Deep}
 use Rattle.carte_sound.specs.Held.{How, dirty, tracing}
 use Rattle.carte_note.specs.declared.method.Method.{Method}
 use Rattle.carte_note.specs.declared.method.Method.TheVariants.{Dirty, Tracing}
@@ -8,13 +7,6 @@ use Rattle.carte_note.specs.declared.method.Method.TheVariants.{Dirty, Tracing}
 abbrev pub how_of : Method → How
 how_of Dirty = dirty
 how_of (Tracing w) = tracing w
-
--- whether entries name the inputs beneath a key
-abbrev pub is_deep : How → Bool
-is_deep dirty = false
-is_deep (tracing Verifying) = false
-is_deep (tracing Constructive) = false
-is_deep (tracing Deep) = true
 
 -- whether no trace is written, and what is held stays as it is
 abbrev pub is_dirty : How → Bool

@@ -16,16 +16,16 @@ use Rattle.carte_record.specs.Kept.{is_fresh}
 use Rattle.carte_table.specs.Lookups.{first_link, first_value}
 use Rattle.carte_record.specs.Lookups.{first_entry}
 use Rattle.carte_sound.specs.Begun.{is_digest}
-use Rattle.carte_sound.specs.Held.{How}
+use Rattle.carte_sound.specs.Held.{How, gathers}
 use Rattle.carte_sound.specs.Left.{entry_eq, is_way}
 use Rattle.carte_sound.specs.Marks.{present}
 use Rattle.carte_note.specs.declared.finished.Finished.{Finished}
-use Rattle.carte_note.specs.Methods.{is_deep, is_dirty}
+use Rattle.carte_note.specs.Methods.{is_dirty}
 use Rattle.carte_note.specs.Right.{key_of, has_run}
 
 -- the links of the key's trace and entry: those of the inputs beneath it, or those that it was made by
 abbrev pub links_noted : How → Finished → List Link
-links_noted h f = if is_deep h then f.beneath else (outcome_of f.made).links
+links_noted h f = if gathers h then f.beneath else (outcome_of f.made).links
 
 abbrev pub names_in : List Link → List (List ℕ)
 names_in ls = map (λ l. l.name) ls
@@ -37,7 +37,7 @@ abbrev pub trace_noted : How → Finished → Trace
 trace_noted h f = record { key = key_of f; links = links_noted h f; result = digest_made f }
 
 abbrev pub entry_noted : How → Finished → Entry
-entry_noted h f = record { key = key_of f; result = digest_made f; needs = names_in (links_noted h f); stale = false; shallow = is_deep h }
+entry_noted h f = record { key = key_of f; result = digest_made f; needs = names_in (links_noted h f); stale = false; shallow = gathers h }
 
 -- a value behind those of the batch, where neither these nor those that are kept have its digest
 abbrev pub with_value : List Value → Value → List Value → List Value
@@ -67,7 +67,7 @@ all_seen b kept (m ∷ ms) ls = all_seen b kept ms (with_seen b kept m ls)
 -- the kept entry stays: under deep traces a fresh one, and always one that is equal
 abbrev pub stays_as : How → Option Entry → Entry → Bool
 stays_as h None e = false
-stays_as h (Some old) e = (is_deep h && is_fresh old) || entry_eq old e
+stays_as h (Some old) e = (gathers h && is_fresh old) || entry_eq old e
 
 -- and under dirty bits that of a held key
 abbrev pub stays : How → Kept → Finished → Bool

@@ -19,7 +19,8 @@ pub(crate) fn stays(method: Method, kept: &Kept, finished: &Finished, digest: Di
         return true;
     }
     match kept.entries.find(finished.made.key()) {
-        Some(old) => (method.is_deep() && is_fresh(old)) || is_noted(old, method, finished, digest),
+        Some(old) => (method.gathers_beneath() && is_fresh(old))
+            || is_noted(old, method, finished, digest),
         None => false,
     }
 }
@@ -37,7 +38,7 @@ fn is_noted(old: &Entry, method: Method, finished: &Finished, digest: Digest) ->
 {
     (old.key == *finished.made.key() && old.result == digest)
         && (same_names(&old.needs, links_noted(method, finished))
-            && (!old.stale && old.shallow == method.is_deep()))
+            && (!old.stale && old.shallow == method.gathers_beneath()))
 }
 
 /// Whether these are the names of the links.
@@ -77,7 +78,7 @@ pub(crate) fn entry(
         result: digest,
         needs: names(alloc, links_noted(method, finished))?,
         stale: false,
-        shallow: method.is_deep(),
+        shallow: method.gathers_beneath(),
     })
 }
 

@@ -31,7 +31,7 @@ pub(crate) fn has_run(made: &Made) -> bool
 pub(crate) fn links_noted(method: Method, finished: &Finished) -> &Links
     ensures { result.now ≡ links_noted (how_of method) finished.now }
 {
-    if method.is_deep() {
+    if method.gathers_beneath() {
         &finished.beneath
     } else {
         finished.made.links()
@@ -46,7 +46,7 @@ pub(crate) fn links_shared(
 ) -> Result<SharedLinks, NoMemory>
     ensures { IfOk result (λ links. links ≡ links_noted (how_of method) finished.now) }
 {
-    if method.is_deep() {
+    if method.gathers_beneath() {
         let links = finished.beneath.copy(alloc)?;
         SharedLinks::of(alloc, links)
     } else {

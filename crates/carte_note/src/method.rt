@@ -1,5 +1,6 @@
 ghost use Rattle.std.specs.Prelude.{◌≡◌};
-ghost use Rattle.carte_note.specs.Methods.{how_of, is_deep, is_dirty};
+ghost use Rattle.carte_sound.specs.Held.{gathers, looks_into_held};
+ghost use Rattle.carte_note.specs.Methods.{how_of, is_dirty};
 
 use carte_record::Way;
 
@@ -11,15 +12,27 @@ pub enum Method {
 }
 
 impl Method {
-    /// Whether entries name the inputs beneath a key.
-    pub(crate) fn is_deep(self) -> bool
-        ensures { result ≡ is_deep (how_of self) }
+    /// Whether the inputs beneath a key are gathered as it is finished, so that its entry names these.
+    pub fn gathers_beneath(self) -> bool
+        ensures { result ≡ gathers (how_of self) }
     {
         match self {
             Method::Dirty => false,
             Method::Tracing(Way::Verifying) => false,
             Method::Tracing(Way::Constructive) => false,
             Method::Tracing(Way::Deep) => true,
+        }
+    }
+
+    /// Whether the needs of a held key are looked into.
+    pub fn looks_beneath(self) -> bool
+        ensures { result ≡ looks_into_held (how_of self) }
+    {
+        match self {
+            Method::Dirty => false,
+            Method::Tracing(Way::Verifying) => true,
+            Method::Tracing(Way::Constructive) => true,
+            Method::Tracing(Way::Deep) => false,
         }
     }
 

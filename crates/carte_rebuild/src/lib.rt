@@ -4,7 +4,8 @@
 //! key brings to the batch of the build. Schedulers are written over `Rebuilder` alone, so each works with each.
 //!
 //! The form chosen: the trait tells which rebuilder it is (`how`), and which keys are held, which needs are looked into and
-//! what a build leaves are functions of that, defined once for all rebuilders. `begun` is the meaning that `Job` lacks: that
+//! what a build leaves are functions of that, defined once for all rebuilders. So a rebuilder writes how it begins a job, of
+//! which kind it is (`method`), and its laws; the rest is given by its kind. `begun` is the meaning that `Job` lacks: that
 //! the job is one of `start` on this kept information, and over which truth it was driven. By two laws a scheduler knows
 //! each job from its start to its end. Premises on what is kept stand inside the laws, so no call requires them: over
 //! kept information that isn't sound a build still ends, and promises less.

@@ -7,12 +7,13 @@ ghost use Rattle.carte_book.specs.Needs.{IsRule, needs};
 ghost use Rattle.carte_record.specs.Kept.{SomeKept, kept_view};
 ghost use Rattle.carte_sound.specs.Base.{IsBase};
 ghost use Rattle.carte_sound.specs.Held.{How, looks_into_held, gathers};
+ghost use Rattle.carte_note.specs.Methods.{how_of};
 ghost use Rattle.carte_note.specs.Notes.{Notes, AreUnmarked};
 ghost use Rattle.carte_rebuild.specs.Goes.{IsPart, may_ask, GoesOver};
 
 use carte_book::Book;
 use carte_effect::Job;
-use carte_note::Finished;
+use carte_note::{Finished, Method, note_finished};
 use carte_record::{Batch, Kept};
 use carte_value::{Name, NoMemory};
 use std::alloc::Global;
@@ -40,6 +41,10 @@ pub trait Rebuilder {
         ensures name { IfOk result (λ j. Self.Job.name j ≡ key.now) }
         ensures idle { IfOk result (λ j. Self.Job.started j ≡ false) };
 
+    /// What it does with a finished key, which tells it from the others.
+    fn method(&self) -> Method
+        ensures { how_of result ≡ how self.now };
+
     /// Adds to the batch of a build what one more finished key brings. Where there is no memory the batch may hold a part of it.
     fn note(
         &self,
@@ -53,15 +58,24 @@ pub trait Rebuilder {
         ensures unmarked { OnOk result (AreUnmarked batch.old.entries → AreUnmarked batch.new.entries) }
         ensures start { OnOk result (batch.new.start ≡ batch.old.start) }
         ensures stale { OnOk result (batch.new.stale ≡ batch.old.stale) }
-        ensures chain { OnOk result (batch.new.chain ≡ batch.old.chain) };
+        ensures chain { OnOk result (batch.new.chain ≡ batch.old.chain) }
+    {
+        note_finished(alloc, self.method(), kept, book, finished, batch)
+    }
 
     /// Whether the needs of a held key are looked into.
     fn looks_beneath(&self) -> bool
-        ensures { result ≡ looks_into_held (how self.now) };
+        ensures { result ≡ looks_into_held (how self.now) }
+    {
+        self.method().looks_beneath()
+    }
 
     /// Whether the inputs beneath a key are gathered as it is finished.
     fn gathers_beneath(&self) -> bool
-        ensures { result ≡ gathers (how self.now) };
+        ensures { result ≡ gathers (how self.now) }
+    {
+        self.method().gathers_beneath()
+    }
 
     /// Such a job is one for the key's clean value. It stops at needs of the key alone, and asks for needs alone, or under deep traces for inputs beneath the key besides.
     ghost fits: { (r : Self) (K : SomeKept) (b : SomeBook) (H : List SomeBook) (t : Truth) (k : List ℕ) (j : Self.Job) → IsBase K b H → begun r K b t k j → Self.Job.fits j (clean b) k (clean b k) (needs b k) (may_ask (how r) b k) };

@@ -22,9 +22,9 @@ ghost use Rattle.carte_record.specs.declared.way.Way.TheVariants.{Verifying};
 ghost use Rattle.carte_rebuild.specs.Traced.{AreTried};
 
 use carte_book::Book;
-use carte_note::{Finished, Method, note_finished};
+use carte_note::Method;
 use carte_rebuild::{Checks, Rebuilder, Tries, checks_of};
-use carte_record::{Batch, Kept, Way};
+use carte_record::{Kept, Way};
 use carte_value::{Name, NoMemory};
 pub use laws::{
     early_cutoff, held_has_its_last_result, held_is_unchanged, held_links_are_present,
@@ -75,30 +75,8 @@ impl Rebuilder for Verify {
         Tries::of(alloc, book, key, checks)
     }
 
-    fn note(
-        &self,
-        alloc: Global,
-        kept: &Kept,
-        book: &Book,
-        finished: &Finished,
-        batch: &mut Batch,
-    ) -> Result<(), NoMemory> {
-        note_finished(
-            alloc,
-            Method::Tracing(Way::Verifying),
-            kept,
-            book,
-            finished,
-            batch,
-        )
-    }
-
-    fn looks_beneath(&self) -> bool {
-        true
-    }
-
-    fn gathers_beneath(&self) -> bool {
-        false
+    fn method(&self) -> Method {
+        Method::Tracing(Way::Verifying)
     }
 
     ghost fits = { λ r K b H t k p base job. traced_fits Verifying of_verifying K b H base t k p job };
