@@ -1,0 +1,3 @@
+pub mod KeyNames
+pub mod Made
+pub mod Formulas
