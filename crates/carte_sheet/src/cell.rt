@@ -8,7 +8,7 @@ ghost use Rattle.carte_sheet.specs.Places.{IsBefore};
 
 use crate::draft::Draft;
 use carte_book::{BookFault, Which};
-use carte_formula::read;
+use carte_formula::{Room, read_in};
 use carte_tree::FormulaFault;
 use carte_value::{Kind, Name, NoMemory, Text, TextFault, Value, read_number};
 use std::alloc::Global;
@@ -22,6 +22,7 @@ const MOST_COLUMNS: usize = 702;
 /// nothing.
 pub(crate) fn read_field(
     alloc: Global,
+    room: &mut Room,
     row: usize,
     column: usize,
     field: &[u8],
@@ -35,7 +36,7 @@ pub(crate) fn read_field(
         return Ok(());
     }
     match name_at(alloc, row, column) {
-        Ok(name) => read_filled(alloc, name, field, draft),
+        Ok(name) => read_filled(alloc, room, name, field, draft),
         Err(fault) => Err(fault),
     }
 }
@@ -59,22 +60,34 @@ fn name_at(alloc: Global, row: usize, column: usize) -> Result<Name, BookFault>
     }
 }
 
-fn read_filled(alloc: Global, name: Name, field: &[u8], draft: &mut Draft) -> Result<(), BookFault>
+fn read_filled(
+    alloc: Global,
+    room: &mut Room,
+    name: Name,
+    field: &[u8],
+    draft: &mut Draft,
+) -> Result<(), BookFault>
     requires { IsTrue (is_cell_name name) }
     ensures { (m : Content) → Holds draft.old m → get m name ≡ None → LeavesFilled name field.now m draft.new result }
 {
     match str::from_utf8(field) {
-        Ok(text) => read_text(alloc, name, text, draft),
+        Ok(text) => read_text(alloc, room, name, text, draft),
         Err(_) => Err(BookFault::NotUtf8(name)),
     }
 }
 
-fn read_text(alloc: Global, name: Name, text: &str, draft: &mut Draft) -> Result<(), BookFault>
+fn read_text(
+    alloc: Global,
+    room: &mut Room,
+    name: Name,
+    text: &str,
+    draft: &mut Draft,
+) -> Result<(), BookFault>
     requires { IsTrue (is_cell_name name) }
     ensures { (m : Content) → Holds draft.old m → get m name ≡ None → LeavesItem (ItemOf name text.now) name m draft.new result }
 {
     if is_formula(text) {
-        read_formula(alloc, name, text.split_at(1).1, draft)
+        read_formula(alloc, room, name, text.split_at(1).1, draft)
     } else {
         read_input(alloc, name, text, draft)
     }
@@ -89,11 +102,17 @@ fn is_formula(text: &str) -> bool
     }
 }
 
-fn read_formula(alloc: Global, name: Name, text: &str, draft: &mut Draft) -> Result<(), BookFault>
+fn read_formula(
+    alloc: Global,
+    room: &mut Room,
+    name: Name,
+    text: &str,
+    draft: &mut Draft,
+) -> Result<(), BookFault>
     requires { IsTrue (is_cell_name name) }
     ensures { (m : Content) → Holds draft.old m → get m name ≡ None → LeavesItem (FormulaOf name text.now) name m draft.new result }
 {
-    match read(alloc, Kind::Sheet, text) {
+    match read_in(alloc, room, Kind::Sheet, text) {
         Ok(expr) => match draft.add_rule(name, expr) {
             Ok(()) => Ok(()),
             Err(_) => Err(BookFault::NoMemory),

@@ -11,6 +11,7 @@ ghost use Rattle.carte_sheet.specs.Places.{IsAbove, IsBefore};
 use crate::cell::read_field;
 use crate::draft::Draft;
 use carte_book::{Book, BookFault};
+use carte_formula::Room;
 use carte_value::Seeded;
 use csv::{ByteRecord, Error, ErrorKind, ReaderBuilder};
 use std::alloc::Global;
@@ -23,12 +24,13 @@ pub(crate) fn read_records(alloc: Global, text: &[u8], hasher: Seeded) -> Result
         .has_headers(false)
         .flexible(true)
         .from_reader(alloc, text);
+    let mut room = Room::new(alloc);
     let mut draft = Draft::new(alloc, hasher);
     let mut row: usize = 1;
     for found in reader.into_byte_records() {
         match found {
             Ok(fields) => {
-                if let Err(fault) = read_row(alloc, row, &fields, &mut draft) {
+                if let Err(fault) = read_row(alloc, &mut room, row, &fields, &mut draft) {
                     return Err(fault);
                 }
             }
@@ -56,6 +58,7 @@ fn no_record(error: Error) -> BookFault
 
 fn read_row(
     alloc: Global,
+    room: &mut Room,
     row: usize,
     fields: &ByteRecord,
     draft: &mut Draft,
@@ -64,7 +67,7 @@ fn read_row(
     ensures { (m : Content) → Holds draft.old m → IsAbove m row → LeavesRow row (fields_of fields.now) m draft.new result }
 {
     for at in 0..fields.len() {
-        if let Err(fault) = read_at(alloc, row, at, fields, draft) {
+        if let Err(fault) = read_at(alloc, room, row, at, fields, draft) {
             return Err(fault);
         }
     }
@@ -73,6 +76,7 @@ fn read_row(
 
 fn read_at(
     alloc: Global,
+    room: &mut Room,
     row: usize,
     at: usize,
     fields: &ByteRecord,
@@ -83,7 +87,7 @@ fn read_at(
     ensures { (m : Content) → Holds draft.old m → IsBefore m row (at + 1) → LeavesField row (at + 1) (slice_index_or (fields_of fields.now) at []) m draft.new result }
 {
     match fields.get(at) {
-        Some(field) => read_field(alloc, row, at + 1, field, draft),
+        Some(field) => read_field(alloc, room, row, at + 1, field, draft),
         None => Ok(()),
     }
 }
