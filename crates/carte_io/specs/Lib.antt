@@ -1,6 +1,7 @@
 pub mod Causes
 pub mod Crashes
 pub mod Disk
+pub mod Around
 pub mod Stations
 pub mod Streams
 pub mod MemDisks

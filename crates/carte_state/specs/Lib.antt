@@ -1,4 +1,5 @@
 pub mod Folding
 pub mod States
+pub mod Applying
 pub mod Runs
 pub mod Histories
