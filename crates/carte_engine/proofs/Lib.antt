@@ -5,7 +5,5 @@ pub mod Succeeding
 pub mod Planning
 pub mod Keeping
 pub mod Enduring
-pub mod Committing
 pub mod Emptying
-pub mod Faulting
 pub mod Foreseeing

@@ -1,57 +1,34 @@
--- What a build has made of a state at its end.
-use Rattle.std.specs.Prelude.{ℕ, ◌≡◌, ◌⊎◌, ◌<◌, ◌+◌, false, List, Result, Ok, Err}
+-- What a build comes to: a plan, and its commit.
+use Rattle.std.specs.Prelude.{ℕ, ◌≡◌, ◌⊎◌, List, Result, Ok, Err}
+use Rattle.carte_state.specs.Around.{OverDisk}
 use Rattle.carte_book.specs.Book.{Book}
-use Rattle.carte_record.specs.declared.batch.Batch.{Batch}
-use Rattle.carte_record.specs.Empty.{is_empty}
-use Rattle.carte_record.specs.Folds.{apply}
 use Rattle.carte_sound.specs.Held.{How}
-use Rattle.carte_state.specs.Folding.{Keeps}
-use Rattle.carte_state.specs.States.{Stand, HasRoom, calls_for, kept_in, needs_for}
+use Rattle.carte_state.specs.Applying.{Applies, IsStill}
+use Rattle.carte_state.specs.States.{Stand, kept_in}
+use Rattle.carte_state.specs.declared.fault.ApplyFault.{ApplyFault}
 use Rattle.carte_engine.specs.declared.answer.Answer.{Answer}
 use Rattle.carte_engine.specs.declared.answer.Answer.TheVariants as answer
 use Rattle.carte_engine.specs.declared.answer.Built.{Built}
+use Rattle.carte_engine.specs.declared.answer.Plan.{Plan}
 use Rattle.carte_engine.specs.declared.fault.BuildFault.{BuildFault}
 use Rattle.carte_engine.specs.declared.fault.BuildFault.TheVariants as fault
 use Rattle.carte_engine.specs.declared.scheduler.Scheduler.{Scheduler}
-use Rattle.carte_engine.specs.Answers.{Leads, IsAnswer}
-
--- the answer is right, and a batch that it may commit was put into what is kept, for which there was room
-pub record HasBuilt (s : Scheduler) (h : How) (b : Book) (targets : List (List ℕ)) (a : Answer) (old new : Stand) : Type 0 where
-  pub right : IsAnswer s h (kept_in old) b targets a
-  pub batch : Batch
-  pub leads : Leads s h (kept_in old) b targets a batch
-  pub room : HasRoom old batch
-  pub kept : kept_in new ≡ apply batch (kept_in old)
-
--- a batch that a build may commit isn't empty, and needs just so many bytes, which are more than the limit
-pub record IsOverfull (s : Scheduler) (h : How) (b : Book) (targets : List (List ℕ)) (old : Stand) (needed limit : ℕ) : Type 0 where
-  pub answer : Answer
-  pub batch : Batch
-  pub right : IsAnswer s h (kept_in old) b targets answer
-  pub leads : Leads s h (kept_in old) b targets answer batch
-  pub filled : is_empty batch ≡ false
-  pub needed_is : needed ≡ needs_for old batch
-  pub limit_is : limit ≡ old.journal.limit
-  pub over : limit < needed
-
--- a file keeps what was kept before a build, or what a batch that it may commit makes of that
-abbrev pub KeepsStation : Scheduler → How → Book → List (List ℕ) → Stand → List ℕ → Type 0
-KeepsStation s h b targets old file = Keeps old.journal.limit (kept_in old) file
-    ⊎ ((B : Batch) × (a : Answer) × Leads s h (kept_in old) b targets a B × Keeps old.journal.limit (apply B (kept_in old)) file)
+use Rattle.carte_engine.specs.Answers.{IsPlan, Under}
+use Rattle.carte_engine.specs.Faults.{fault_of}
 
 -- an answer as a result
 abbrev pub answered : Answer → Result Built BuildFault
 answered (answer.Built built) = Ok built
 answered (answer.Refused reason) = Err (fault.Refused reason)
 
--- what holds of the answer that a build gave, where it gave one
-abbrev pub OnAnswer : Result Built BuildFault → (Answer → Type 0) → Type 0
-OnAnswer (Ok built) P = P (answer.Built built)
-OnAnswer (Err (fault.Refused reason)) P = P (answer.Refused reason)
-OnAnswer (Err fault.DiskFault) P = Unit {0}
-OnAnswer (Err (fault.StateFull needed limit)) P = Unit {0}
-OnAnswer (Err fault.NoMemory) P = Unit {0}
+-- where the batch of the plan was applied, the plan's answer; else why it wasn't
+abbrev pub answered_behind : Answer → Result (Unit {0}) ApplyFault → Result Built BuildFault
+answered_behind a (Ok done) = answered a
+answered_behind a (Err why) = Err (fault_of why)
 
--- so many writing calls had passed before, and so many have now: those of the batch that was put in
-abbrev pub HasCalled : Scheduler → How → Book → List (List ℕ) → Answer → Stand → Stand → ℕ → ℕ → Type 0
-HasCalled s h b targets a old new before now = (B : Batch) × Leads s h (kept_in old) b targets a B × (kept_in new ≡ apply B (kept_in old)) × (now ≡ before + calls_for old.journal B)
+-- There is a plan that is right under whatever history what was kept is sound for, and its batch was applied, or was not. Or there was no memory for a plan.
+abbrev pub Builds : Scheduler → How → Book → List (List ℕ) → OverDisk → Stand → Stand → Result Built BuildFault → Type 0
+Builds s h b targets d old new result =
+    ((p : Plan) × (applied : Result (Unit {0}) ApplyFault) × Under (kept_in old) b (IsPlan s h (kept_in old) b targets p)
+    × Applies d old new p.batch applied × (result ≡ answered_behind p.answer applied))
+    ⊎ ((result ≡ Err fault.NoMemory) × IsStill d old new)

@@ -1,15 +1,13 @@
-ghost use Rattle.std.specs.Prelude.{◌≡◌, ◌⊎◌, ◌<◌, ◌≤◌, ◌+◌, ◌^◌, ◌∷◌, ◌++◌, ◌↔◌, [], ℕ, List, true, false, option_copied, IsTrue, IfOk, OnOk, OnErr, Ok, Err};
+ghost use Rattle.std.specs.Prelude.{◌≡◌, ◌<◌, ◌^◌, ℕ, List, false, IfOk, OnOk, Err};
 ghost use Rattle.carte_codec.specs.Each.{EachFits};
+ghost use Rattle.carte_state.specs.Around.{over_disk};
 ghost use Rattle.carte_io.specs.Causes.{HasCauseOf};
-ghost use Rattle.carte_io.specs.Disk.{LeavesOnly};
-ghost use Rattle.carte_io.specs.Stations.{StepsThrough};
 ghost use Rattle.carte_book.specs.Book.{Book as SomeBook, book_view};
 ghost use Rattle.carte_book.specs.Digest.{rules_digest_of};
-ghost use Rattle.carte_book.specs.declared.reason.Reason.{Reason as SomeReason};
 ghost use Rattle.carte_record.specs.Bodies.{IsUnmarked};
-ghost use Rattle.carte_record.specs.Empty.{is_empty};
-ghost use Rattle.carte_state.specs.Folding.{Keeps, IsBadState};
-ghost use Rattle.carte_state.specs.States.{HasRoom, IsAfter, IsKeptOn, IsLoaded, calls_for, kept_in, needs_for, step_for};
+ghost use Rattle.carte_state.specs.Applying.{Applies};
+ghost use Rattle.carte_state.specs.Folding.{IsBadState};
+ghost use Rattle.carte_state.specs.States.{IsLoaded, kept_in};
 ghost use Rattle.carte_record.specs.Kept.{nothing_kept};
 ghost use Rattle.carte_engine.specs.Answers.{IsPlan, Under};
 ghost use Rattle.carte_engine.specs.Clearing.{clearing};
@@ -143,27 +141,7 @@ impl Engine {
     ) -> Result<(), ApplyFault>
         requires whole { self.old.journal.broken ≡ false }
         requires unmarked { EachFits IsUnmarked batch.entries }
-
-        ensures empty { is_empty batch ≡ true → (result ≡ Ok tt) × (self.new ≡ self.old) × (disk.new ≡ disk.old) }
-        ensures full { (needed limit : ℕ) → result ≡ Err (ApplyFault.Full needed limit)
-            → (needed ≡ needs_for self.old batch) × (limit ≡ self.old.journal.limit) × (limit < needed) × (self.new ≡ self.old) × (disk.new ≡ disk.old) }
-        ensures over { is_empty batch ≡ false → self.old.journal.limit < needs_for self.old batch
-            → (result ≡ Err (ApplyFault.Full (needs_for self.old batch) self.old.journal.limit)) ⊎ (result ≡ Err ApplyFault.NoMemory) }
-        ensures room { OnOk result (HasRoom self.old batch) }
-        ensures no_memory { result ≡ Err ApplyFault.NoMemory → (self.new ≡ self.old) × (disk.new ≡ disk.old) }
-        ensures broken { IsTrue self.new.journal.broken ↔ (result ≡ Err ApplyFault.DiskFault) }
-        ensures cause { HasCauseOf ApplyFault.DiskFault (D.faults disk.old) (D.faults disk.new) result }
-
-        ensures place { OnOk result (IsAfter batch self.old self.new) }
-        ensures limit { self.new.journal.limit ≡ self.old.journal.limit }
-        ensures calls { D.tells → OnOk result ((D.story disk.new).now.passed ≡ (D.story disk.old).now.passed + calls_for self.old.journal batch) }
-        ensures fewer { D.tells → OnErr result (((D.story disk.old).now.passed ≤ (D.story disk.new).now.passed)
-            × ((D.story disk.new).now.passed < (D.story disk.old).now.passed + calls_for self.old.journal batch)) }
-
-        ensures rest { D.tells → IsKeptOn self.old (D.story disk.old) → OnOk result (IsKeptOn self.new (D.story disk.new)) }
-        ensures any_moment { D.tells → IsKeptOn self.old (D.story disk.old)
-            → StepsThrough (Keeps self.old.journal.limit) (kept_in self.old) (step_for self.old.journal (kept_in self.old) batch)
-            (D.story disk.old) (D.story disk.new) }
+        ensures { Applies (over_disk D.tells D.story D.faults disk.old disk.new) self.old self.new batch result }
     {
         self.state.apply(alloc, disk, batch)
     }
@@ -172,22 +150,7 @@ impl Engine {
     pub fn clean<D: Disk>(&mut self, alloc: Global, disk: &mut D) -> Result<(), ApplyFault>
         requires whole { self.old.journal.broken ≡ false }
         ensures cleaned { OnOk result (kept_in self.new ≡ nothing_kept) }
-        ensures empty { is_empty (clearing self.old) ≡ true → (result ≡ Ok tt) × (self.new ≡ self.old) × (disk.new ≡ disk.old) }
-        ensures full { (needed limit : ℕ) → result ≡ Err (ApplyFault.Full needed limit)
-            → (needed ≡ needs_for self.old (clearing self.old)) × (limit ≡ self.old.journal.limit) × (limit < needed) × (self.new ≡ self.old) × (disk.new ≡ disk.old) }
-        ensures over { is_empty (clearing self.old) ≡ false → self.old.journal.limit < needs_for self.old (clearing self.old)
-            → (result ≡ Err (ApplyFault.Full (needs_for self.old (clearing self.old)) self.old.journal.limit)) ⊎ (result ≡ Err ApplyFault.NoMemory) }
-        ensures room { OnOk result (HasRoom self.old (clearing self.old)) }
-        ensures no_memory { result ≡ Err ApplyFault.NoMemory → (self.new ≡ self.old) × (disk.new ≡ disk.old) }
-        ensures broken { IsTrue self.new.journal.broken ↔ (result ≡ Err ApplyFault.DiskFault) }
-        ensures cause { HasCauseOf ApplyFault.DiskFault (D.faults disk.old) (D.faults disk.new) result }
-        ensures place { OnOk result (IsAfter (clearing self.old) self.old self.new) }
-        ensures limit { self.new.journal.limit ≡ self.old.journal.limit }
-        ensures calls { D.tells → OnOk result ((D.story disk.new).now.passed ≡ (D.story disk.old).now.passed + calls_for self.old.journal (clearing self.old)) }
-        ensures rest { D.tells → IsKeptOn self.old (D.story disk.old) → OnOk result (IsKeptOn self.new (D.story disk.new)) }
-        ensures any_moment { D.tells → IsKeptOn self.old (D.story disk.old)
-            → StepsThrough (Keeps self.old.journal.limit) (kept_in self.old) (step_for self.old.journal (kept_in self.old) (clearing self.old))
-            (D.story disk.old) (D.story disk.new) }
+        ensures applies { Applies (over_disk D.tells D.story D.faults disk.old disk.new) self.old self.new (clearing self.old) result }
     {
         let batch = clearing(alloc, &self.state);
         self.commit(alloc, disk, batch)

@@ -5,25 +5,34 @@ use Rattle.carte_value.specs.declared.value.Value.{Value}
 use Rattle.carte_book.specs.Book.{Book}
 use Rattle.carte_session.specs.declared.end.StepEnd.{StepEnd}
 use Rattle.carte_session.specs.declared.end.StepEnd.TheVariants.{DiskFault, StateFull, NoMemory}
+use Rattle.carte_name.specs.declared.kind.Kind.{Kind}
 use Rattle.carte_words.specs.Lines.{Means}
+use Rattle.carte_words.specs.Named.{LineNamed}
 use Rattle.carte_words.specs.declared.line.Line.{Line}
 use Rattle.carte_words.specs.declared.line.Line.TheVariants as line
-use Rattle.carte_shell.specs.Answers.{Answers, Breaks, Ends, Obeys, SetsInput}
+use Rattle.carte_shell.specs.Answers.{Answers, Breaks, Ends, NamesInput, Obeys, SetsInput}
+use Rattle.carte_shell.specs.Replies.{Said}
 use Rattle.carte_shell.specs.Scenes.{Scene}
 
 module _ (tells : Type 0) (m m' : Scene) where
-  ends_at : (n : ℕ) (bytes : List ℕ) (l : Line) (end : StepEnd) → Means m.book.kind bytes l → Breaks tells m l end m' → Ends tells m n bytes end m'
+  pub ends_at : (n : ℕ) (bytes : List ℕ) (l : Line) (end : StepEnd) → Means m.book.kind bytes l → Breaks tells m l end m' → Ends tells m n bytes end m'
   ends_at n bytes l DiskFault means breaks = (l, means, breaks)
   ends_at n bytes l (StateFull needed limit) means breaks = (l, means, breaks)
   ends_at n bytes l NoMemory means breaks = breaks
 
-  pub answers_by : {S : Type 0} (text : S → List ℕ) (n : ℕ) (bytes : List ℕ) (l : Line) (q : Result S StepEnd) → Means m.book.kind bytes l
-      → MatchResult q (λ t. Obeys tells m l (text t) m') (λ end. Breaks tells m l end m') → MatchResult q (λ t. Answers tells m n bytes (text t) m') (λ end. Ends tells m n bytes end m')
-  answers_by text n bytes l (Ok t) means does = inr (l, means, does)
-  answers_by text n bytes l (Err end) means breaks = ends_at n bytes l end means breaks
+  pub answers_with : (n : ℕ) (bytes : List ℕ) (l : Line) (reply : Said) → Means m.book.kind bytes l → Obeys tells m l reply m' → Answers tells m n bytes reply.text m'
+  answers_with n bytes l reply means does = inr (l, means, reply, refl, does)
 
-pub sets_by : {S : Type 0} (text : S → List ℕ) (tells : Type 0) (m : Scene) (c : Book) (k : List ℕ) (v : Value) (q : Result S StepEnd)
-    → MatchResult q (λ t. SetsInput m.book c k v (text t)) (λ end. (end ≡ NoMemory) × (c ≡ m.book))
-    → MatchResult q (λ t. Obeys tells m (line.Set k v) (text t) (record m { book = c })) (λ end. Breaks tells m (line.Set k v) end (record m { book = c }))
-sets_by text tells m c k v (Ok t) sets = (sets, refl)
-sets_by text tells m c k v (Err end) sets = subst (λ e. Breaks tells m (line.Set k v) e (record m { book = c })) (sym sets.0) (ap (λ (b : Book). record m { book = b }) sets.1)
+-- a line that was read names an input of the book's kind
+pub names_input : (kind : Kind) (l : Line) → LineNamed kind l → NamesInput kind l
+names_input kind (line.Set k v) named = named
+names_input kind (line.Build targets) named = tt
+names_input kind (line.Explain targets) named = tt
+names_input kind line.Clean named = tt
+names_input kind line.Nothing named = tt
+
+pub sets_by : {S : Type 0} (said : S → Said) (tells : Type 0) (m : Scene) (c : Book) (k : List ℕ) (v : Value) (q : Result S StepEnd)
+    → MatchResult q (λ t. SetsInput m.book c k v (said t)) (λ end. (end ≡ NoMemory) × (c ≡ m.book))
+    → MatchResult q (λ t. Obeys tells m (line.Set k v) (said t) (record m { book = c })) (λ end. Breaks tells m (line.Set k v) end (record m { book = c }))
+sets_by said tells m c k v (Ok t) sets = (sets, refl)
+sets_by said tells m c k v (Err end) sets = subst (λ e. Breaks tells m (line.Set k v) e (record m { book = c })) (sym sets.0) (ap (λ (b : Book). record m { book = b }) sets.1)

@@ -14,3 +14,6 @@ on_ok q x P is holds = subst (λ r. OnOk r P) is holds
 
 pub at_err : {A E : Type 0} (q : Result A E) (e : E) (P : A → Type 0) (Q : E → Type 0) → q ≡ Err e → MatchResult q P Q → Q e
 at_err q e P Q is holds = subst (λ r. MatchResult r P Q) is holds
+
+pub at_done : {A E : Type 0} (q : Result A E) (x : A) (P : A → Type 0) (Q : E → Type 0) → q ≡ Ok x → MatchResult q P Q → P x
+at_done q x P Q is holds = subst (λ r. MatchResult r P Q) is holds

@@ -27,6 +27,7 @@ use Rattle.carte_sound.proofs.Begins.{behind_sound, front_distinct}
 use Rattle.carte_sound.proofs.Histories.{nothing_sound}
 use Rattle.carte_state.specs.Folding.{Keeps}
 use Rattle.carte_state.specs.States.{IsKeptOn, Stand, kept_in, step_for}
+use Rattle.carte_state.specs.declared.fault.ApplyFault.{ApplyFault}
 use Rattle.carte_state.proofs.Applies.{kept_leaves}
 use Rattle.carte_words.specs.Lines.{Means}
 use Rattle.carte_words.specs.declared.line.Line.{Line}
@@ -34,8 +35,10 @@ use Rattle.carte_words.specs.declared.line.Line.TheVariants as line
 use Rattle.carte_shell.specs.Answers.{Answers, Brings, Ends, Obeys, Plans, SetsInput}
 use Rattle.carte_shell.specs.Books.{AreBooks, Edits, IsBookAt, LooksAt}
 use Rattle.carte_shell.specs.Chosen.{how_of, scheduler_of}
-use Rattle.carte_shell.specs.Commits.{Fails, Puts, Steps, Stops}
+use Rattle.carte_shell.specs.Commits.{Commits, Puts, Stops}
+use Rattle.carte_shell.specs.Replies.{Said}
 use Rattle.carte_shell.specs.Scenes.{Scene}
+use Rattle.carte_shell.specs.Stopping.{fault_of}
 use Rattle.carte_shell.specs.Sound.{EndLeavesSound, KeepsSound, LeavesSound, LinesStaySound, StandsSound, StaysSound}
 
 -- ---- one commit
@@ -51,10 +54,11 @@ module _ (m m' : Scene) (B : Batch) (J : List Book) where
   abbrev Sounds : List Book → Type 0
   Sounds H = IsSound (kept_in m.stand) (H ++ J) × IsSound (apply B (kept_in m.stand)) (H ++ J)
 
-  steps_sound : (H : List Book) → Steps m m' B → Sounds H → LeavesOnly m.story m'.story (KeepsSound m.stand.journal.limit (H ++ J))
-  steps_sound H steps sounds =
+  steps_sound : (tells : Type 0) (result : Result (Unit {0}) ApplyFault) → Commits tells m m' B result → tells → IsKeptOn m.stand m.story → (H : List Book) → Sounds H
+      → LeavesOnly m.story m'.story (KeepsSound m.stand.journal.limit (H ++ J))
+  steps_sound tells result c told on H sounds =
       leaves_more m.story m'.story (IsAtOneOf (Keeps m.stand.journal.limit) (kept_in m.stand) (step_for m.stand.journal (kept_in m.stand) B)) (KeepsSound m.stand.journal.limit (H ++ J)) at
-      (steps_leave (Keeps m.stand.journal.limit) (kept_in m.stand) (step_for m.stand.journal (kept_in m.stand) B) m.story m'.story steps.ordered steps.through)
+      (steps_leave (Keeps m.stand.journal.limit) (kept_in m.stand) (step_for m.stand.journal (kept_in m.stand) B) m.story m'.story (c.applies.ordered told) (c.applies.steps told on))
     where
       at : (file : List ℕ) → IsAtOneOf (Keeps m.stand.journal.limit) (kept_in m.stand) (step_for m.stand.journal (kept_in m.stand) B) file → KeepsSound m.stand.journal.limit (H ++ J) file
       at file there = elim (station m.stand.journal.limit (kept_in m.stand) (is_empty B) (record { calls = calls_of m.stand.journal; to = apply B (kept_in m.stand) }) file there) [
@@ -62,16 +66,22 @@ module _ (m m' : Scene) (B : Batch) (J : List Book) where
         | inr new ↦ (apply B (kept_in m.stand), new, sounds.1)
       ]
 
-  pub put_sound : (tells : Type 0) → Puts tells m m' B → ((H : List Book) → IsSound (kept_in m.stand) H → HasDistinctDigests (H ++ J) → IsSound (apply B (kept_in m.stand)) (H ++ J)) → StaysSound tells m m' J
+  abbrev MakesSound : Type 0
+  MakesSound = (H : List Book) → IsSound (kept_in m.stand) H → HasDistinctDigests (H ++ J) → IsSound (apply B (kept_in m.stand)) (H ++ J)
+
+  pub put_sound : (tells : Type 0) → Puts tells m m' B → MakesSound → StaysSound tells m m' J
   put_sound tells puts makes told H stands distinct =
       let made = makes H stands.sound distinct in (
-        record { kept_on = puts.rest told stands.kept_on; sound = subst (λ (L : SomeKept). IsSound L (H ++ J)) (sym puts.after.kept) made },
-        steps_sound H (puts.steps told stands.kept_on) (behind_sound (kept_in m.stand) H J stands.sound, made),
+        record {
+          kept_on = puts.applies.comes.rest told stands.kept_on;
+          sound = subst (λ (L : SomeKept). IsSound L (H ++ J)) (sym puts.applies.comes.after.kept) made;
+        },
+        steps_sound tells (Ok tt) puts told stands.kept_on H (behind_sound (kept_in m.stand) H J stands.sound, made),
       )
 
-  pub fail_sound : (tells : Type 0) → Fails tells m m' B → ((H : List Book) → IsSound (kept_in m.stand) H → HasDistinctDigests (H ++ J) → IsSound (apply B (kept_in m.stand)) (H ++ J)) → LeavesSound tells m m' J
-  fail_sound tells fails makes told H stands distinct =
-      steps_sound H (fails.steps told stands.kept_on) (behind_sound (kept_in m.stand) H J stands.sound, makes H stands.sound distinct)
+  pub stop_sound : (tells : Type 0) (end : StepEnd) → Stops tells m m' B end → MakesSound → LeavesSound tells m m' J
+  stop_sound tells end stops makes told H stands distinct =
+      steps_sound tells (Err (fault_of end)) stops told stands.kept_on H (behind_sound (kept_in m.stand) H J stands.sound, makes H stands.sound distinct)
 
 -- ---- no commit
 
@@ -113,30 +123,30 @@ abbrev One : Type 0 → Scene → Scene → List ℕ → Type 0
 One tells m m' bytes = (J : List Book) × IsBookAt m.book bytes J m'.book × (m'.stand.journal.limit ≡ m.stand.journal.limit) × StaysSound tells m m' J
 
 module _ (tells : Type 0) (m m' : Scene) (bytes text : List ℕ) where
-  obeyed : (l : Line) → Means m.book.kind bytes l → Obeys tells m l text m' → One tells m m' bytes
-  obeyed line.Nothing means does =
+  obeyed : (l : Line) (reply : Said) → Means m.book.kind bytes l → Obeys tells m l reply m' → One tells m m' bytes
+  obeyed line.Nothing reply means does =
       ([], inr (line.Nothing, means, (refl, ap (λ (x : Scene). x.book) does.1)), ap (λ (x : Scene). x.stand.journal.limit) does.1, same_sound tells m m' [] does.1)
-  obeyed (line.Set k v) means does = (
+  obeyed (line.Set k v) reply means does = (
     [],
     inr (line.Set k v, means, (refl, edited m.book m'.book k v does.0.result does.0.sets does.0.told)),
     ap (λ (x : Scene). x.stand.journal.limit) does.1,
     still_sound tells m m' [] (ap (λ (x : Scene). x.stand) does.1) (ap (λ (x : Scene). x.story) does.1),
   )
-  obeyed (line.Build targets) means does = (
+  obeyed (line.Build targets) reply means does = (
     m.book ∷ [],
     inr (line.Build targets, means, (refl, does.4.book)),
-    does.4.limit,
+    does.4.applies.limit,
     put_sound m m' does.1 (m.book ∷ []) tells does.4 (built_sound m targets does.0 does.1 does.2),
   )
-  obeyed (line.Explain targets) means does =
+  obeyed (line.Explain targets) reply means does =
       (m.book ∷ [], inr (line.Explain targets, means, (refl, ap (λ (x : Scene). x.book) does.1)), ap (λ (x : Scene). x.stand.journal.limit) does.1, same_sound tells m m' (m.book ∷ []) does.1)
-  obeyed line.Clean means does =
-      ([], inr (line.Clean, means, (refl, does.1.book)), does.1.limit, put_sound m m' (clearing m.stand) [] tells does.1 (cleaned_sound m (clearing m.stand) refl))
+  obeyed line.Clean reply means does =
+      ([], inr (line.Clean, means, (refl, does.1.book)), does.1.applies.limit, put_sound m m' (clearing m.stand) [] tells does.1 (cleaned_sound m (clearing m.stand) refl))
 
   pub answered : (n : ℕ) → Answers tells m n bytes text m' → One tells m m' bytes
   answered n (inl stray) =
       ([], inl (stray.0, refl, ap (λ (x : Scene). x.book) stray.2), ap (λ (x : Scene). x.stand.journal.limit) stray.2, same_sound tells m m' [] stray.2)
-  answered n (inr (l, means, does)) = obeyed l means does
+  answered n (inr (l, means, reply, is, does)) = obeyed l reply means does
 
 -- ---- lines
 
@@ -171,20 +181,14 @@ lines_sound tells n m m' (bytes ∷ lines) said goes =
 leaves : (tells : Type 0) (m m' : Scene) (J : List Book) → StaysSound tells m m' J → LeavesSound tells m m' J
 leaves tells m m' J stays told H stands distinct = (stays told H stands distinct).1
 
-stopped : (tells : Type 0) (m m' : Scene) (B : Batch) (J : List Book) (end : StepEnd) → Stops tells m m' B end
-    → ((H : List Book) → IsSound (kept_in m.stand) H → HasDistinctDigests (H ++ J) → IsSound (apply B (kept_in m.stand)) (H ++ J)) → LeavesSound tells m m' J
-stopped tells m m' B J DiskFault stops makes = fail_sound m m' B J tells stops makes
-stopped tells m m' B J (StateFull needed limit) stops makes = leaves tells m m' J (same_sound tells m m' J stops.1)
-stopped tells m m' B J NoMemory stops makes = leaves tells m m' J (same_sound tells m m' J stops)
-
 module _ (tells : Type 0) (m m' : Scene) (bytes : List ℕ) where
   abbrev Left : Type 0
   Left = (J : List Book) × ((J ≡ []) ⊎ IsBookAt m.book bytes J m.book) × LeavesSound tells m m' J
 
   brought : (l : Line) (end : StepEnd) → Means m.book.kind bytes l → (B : Batch) → Brings m l B → Stops tells m m' B end → Left
   brought (line.Build targets) end means B brings stops =
-      (m.book ∷ [], inr (inr (line.Build targets, means, (refl, refl))), stopped tells m m' B (m.book ∷ []) end stops (built_sound m targets brings.0 B brings.1))
-  brought line.Clean end means B brings stops = ([], inl refl, stopped tells m m' B [] end stops (cleaned_sound m B brings))
+      (m.book ∷ [], inr (inr (line.Build targets, means, (refl, refl))), stop_sound m m' B (m.book ∷ []) tells end stops (built_sound m targets brings.0 B brings.1))
+  brought line.Clean end means B brings stops = ([], inl refl, stop_sound m m' B [] tells end stops (cleaned_sound m B brings))
   brought (line.Set k v) end means B brings stops = absurd brings
   brought (line.Explain targets) end means B brings stops = absurd brings
   brought line.Nothing end means B brings stops = absurd brings

@@ -21,6 +21,7 @@ use Rattle.carte_sound.specs.Base.{HasDistinctDigests}
 use Rattle.carte_sound.specs.Held.{How}
 use Rattle.carte_sound.specs.Sound.{IsSound}
 use Rattle.carte_shell.specs.Explained.{AreWhys, Explained, TellAll, Tells, TellsEach, TellsRefusal}
+use Rattle.carte_shell.specs.Replies.{Said}
 
 module _ (r : RebuilderKind) (K : SomeKept) (b : Book) (w : Work) where
   tell_last : (told : List (List ℕ × Why)) (t : List ℕ × Why) → TellAll r K b w told → Tells r K b w t.0 t.1 → TellAll r K b w (told ++ t ∷ [])
@@ -55,7 +56,7 @@ module _ (r : RebuilderKind) (K : SomeKept) (b : Book) (w : Work) where
     are_why told is all = (p.clean, all_why told (λ k there. subst (λ ks. Among ks k) is there) all)
 
 -- a refusal is told, and it is for the reason
-pub refused_by : {A : Type 0} (h : How) (K : SomeKept) (b : Book) (targets : List (List ℕ)) (q : Result A PlanFault) (fault : PlanFault) (text : List ℕ) → q ≡ Err fault
-    → Under K b ((reason : Reason) → q ≡ Err (Refused reason) → IsReason b targets reason) → TellsRefusal fault text → Explained h K b targets text
-refused_by h K b targets q (Refused reason) text is because told = inr (reason, told, (λ H sound distinct. because H sound distinct reason is))
-refused_by h K b targets q NoMemory text is because told = absurd told
+pub refused_by : {A : Type 0} (h : How) (K : SomeKept) (b : Book) (targets : List (List ℕ)) (q : Result A PlanFault) (fault : PlanFault) (reply : Said) → q ≡ Err fault
+    → Under K b ((reason : Reason) → q ≡ Err (Refused reason) → IsReason b targets reason) → TellsRefusal fault reply → Explained h K b targets reply
+refused_by h K b targets q (Refused reason) reply is because told = inr (reason, told, (λ H sound distinct. because H sound distinct reason is))
+refused_by h K b targets q NoMemory reply is because told = absurd told

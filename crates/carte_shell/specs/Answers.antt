@@ -1,5 +1,7 @@
 -- What the lines of a session do, and what they are answered.
-use Rattle.std.specs.Prelude.{ℕ, ◌≡◌, ◌≢◌, ◌⊎◌, Bool, List, [], Result, Ok, Err}
+use Rattle.std.specs.Prelude.{ℕ, ◌≡◌, ◌≢◌, ◌⊎◌, IsTrue, List, [], Result, Ok, Err}
+use Rattle.carte_name.specs.Kinds.{is_name_of}
+use Rattle.carte_name.specs.declared.kind.Kind.{Kind}
 use Rattle.carte_value.specs.declared.value.Value.{Value}
 use Rattle.carte_book.specs.Book.{Book}
 use Rattle.carte_book.specs.Edits.{Sets}
@@ -8,11 +10,9 @@ use Rattle.carte_book.specs.declared.fault.SetFault.TheVariants as set
 use Rattle.carte_engine.specs.Answers.{IsPlan, Under}
 use Rattle.carte_engine.specs.Clearing.{clearing}
 use Rattle.carte_engine.specs.declared.answer.Answer.{Answer}
-use Rattle.carte_engine.specs.declared.answer.Answer.TheVariants.{Built, Refused}
 use Rattle.carte_record.specs.declared.batch.Batch.{Batch}
 use Rattle.carte_record.specs.Kept.{nothing_kept}
-use Rattle.carte_report.specs.Lines.{cleaned_line, not_set_line, refused_line, set_line, stray_line}
-use Rattle.carte_report.specs.Reply.{reply}
+use Rattle.carte_report.specs.Lines.{cleaned_line, not_set_line, set_line, stray_line}
 use Rattle.carte_session.specs.declared.end.StepEnd.{StepEnd}
 use Rattle.carte_session.specs.declared.end.StepEnd.TheVariants.{NoMemory}
 use Rattle.carte_state.specs.States.{kept_in}
@@ -22,6 +22,7 @@ use Rattle.carte_words.specs.declared.line.Line.TheVariants as line
 use Rattle.carte_shell.specs.Chosen.{how_of, scheduler_of}
 use Rattle.carte_shell.specs.Commits.{Puts, Stops}
 use Rattle.carte_shell.specs.Explained.{Explained}
+use Rattle.carte_shell.specs.Replies.{Said, build_reply, plain}
 use Rattle.carte_shell.specs.Scenes.{Scene}
 
 -- ---- builds
@@ -31,11 +32,6 @@ abbrev pub Plans : Scene → List (List ℕ) → Answer → Batch → Type 0
 Plans m targets a B =
     Under (kept_in m.stand) m.book (IsPlan (scheduler_of m.choices.scheduler) (how_of m.choices.rebuilder) (kept_in m.stand) m.book targets (record { batch = B; answer = a }))
 
--- the targets with their values, the rules that ran where they are to be listed, and the counts; or why a target has no value
-abbrev pub build_text : Bool → List (List ℕ) → Answer → List ℕ
-build_text list targets (Built built) = reply targets built.values list built.ran built.given_up built.reused
-build_text list targets (Refused reason) = refused_line reason
-
 -- ---- inputs
 
 abbrev pub set_text : List ℕ → Result (Unit {0}) SetFault → List ℕ
@@ -43,27 +39,32 @@ set_text k (Ok u) = set_line k
 set_text k (Err fault) = not_set_line k fault
 
 -- the book in memory has the value, or it can't have it
-pub record SetsInput (b c : Book) (k : List ℕ) (v : Value) (text : List ℕ) : Type 0 where
+pub record SetsInput (b c : Book) (k : List ℕ) (v : Value) (reply : Said) : Type 0 where
   pub result : Result (Unit {0}) SetFault
   pub sets : Sets b c k v result
   pub told : result ≢ Err set.NoMemory
-  pub text_is : text ≡ set_text k result
+  pub reply_is : reply ≡ plain (set_text k result)
 
 -- ---- lines
 
+-- an input that a line sets has a name of the book's kind
+abbrev pub NamesInput : Kind → Line → Type 0
+NamesInput kind (line.Set k v) = IsTrue (is_name_of kind k)
+NamesInput kind l = Unit {0}
+
 -- what a line means takes the one scene to the other, and is answered so
-abbrev pub Obeys : Type 0 → Scene → Line → List ℕ → Scene → Type 0
-Obeys tells m line.Nothing text m' = (text ≡ []) × (m' ≡ m)
-Obeys tells m (line.Set k v) text m' = SetsInput m.book m'.book k v text × (m' ≡ record m { book = m'.book })
-Obeys tells m (line.Build targets) text m' = (a : Answer) × (B : Batch) × Plans m targets a B × (text ≡ build_text m.choices.list targets a) × Puts tells m m' B
-Obeys tells m (line.Explain targets) text m' = Explained (how_of m.choices.rebuilder) (kept_in m.stand) m.book targets text × (m' ≡ m)
-Obeys tells m line.Clean text m' = (text ≡ cleaned_line) × Puts tells m m' (clearing m.stand) × (kept_in m'.stand ≡ nothing_kept)
+abbrev pub Obeys : Type 0 → Scene → Line → Said → Scene → Type 0
+Obeys tells m line.Nothing reply m' = (reply ≡ plain []) × (m' ≡ m)
+Obeys tells m (line.Set k v) reply m' = SetsInput m.book m'.book k v reply × (m' ≡ record m { book = m'.book })
+Obeys tells m (line.Build targets) reply m' = (a : Answer) × (B : Batch) × Plans m targets a B × (reply ≡ build_reply m.choices.list targets a) × Puts tells m m' B
+Obeys tells m (line.Explain targets) reply m' = Explained (how_of m.choices.rebuilder) (kept_in m.stand) m.book targets reply × (m' ≡ m)
+Obeys tells m line.Clean reply m' = (reply ≡ plain cleaned_line) × Puts tells m m' (clearing m.stand) × (kept_in m'.stand ≡ nothing_kept)
 
 -- line number n: where it means nothing that there is, that is told; else it is obeyed
 abbrev pub Answers : Type 0 → Scene → ℕ → List ℕ → List ℕ → Scene → Type 0
 Answers tells m n bytes text m' =
     (((l : Line) → ¬ (Means m.book.kind bytes l)) × (text ≡ stray_line n) × (m' ≡ m))
-    ⊎ ((l : Line) × Means m.book.kind bytes l × Obeys tells m l text m')
+    ⊎ ((l : Line) × Means m.book.kind bytes l × (reply : Said) × (text ≡ reply.text) × Obeys tells m l reply m')
 
 -- ---- lines that aren't answered
 

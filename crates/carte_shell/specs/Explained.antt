@@ -11,8 +11,9 @@ use Rattle.carte_record.specs.Kept.{SomeKept}
 use Rattle.carte_rebuild.specs.declared.work.PlanFault.{PlanFault}
 use Rattle.carte_rebuild.specs.declared.work.PlanFault.TheVariants.{Refused, NoMemory}
 use Rattle.carte_rebuild.specs.declared.work.Work.{Work}
-use Rattle.carte_report.specs.Lines.{refused_line, why_lines}
+use Rattle.carte_report.specs.Lines.{why_lines}
 use Rattle.carte_sound.specs.Held.{How}
+use Rattle.carte_shell.specs.Replies.{Said, plain, refusal}
 
 -- each key with the cause why a build would run it, or would not
 abbrev pub AreWhys : How → SomeKept → Book → List (List ℕ × Why) → Type 0
@@ -20,10 +21,10 @@ AreWhys h K b [] = Unit {0}
 AreWhys h K b (t ∷ told) = IsWhy h K b t.0 t.1 × AreWhys h K b told
 
 -- each target with its cause; or a target has no value, for this reason
-abbrev pub Explained : How → SomeKept → Book → List (List ℕ) → List ℕ → Type 0
+abbrev pub Explained : How → SomeKept → Book → List (List ℕ) → Said → Type 0
 Explained h K b targets reply =
-    ((told : List (List ℕ × Why)) × (map (λ t. t.0) told ≡ targets) × (reply ≡ why_lines told) × Under K b (AllClean b targets × AreWhys h K b told))
-    ⊎ ((reason : Reason) × (reply ≡ refused_line reason) × Under K b (IsReason b targets reason))
+    ((told : List (List ℕ × Why)) × (map (λ t. t.0) told ≡ targets) × (reply ≡ plain (why_lines told)) × Under K b (AllClean b targets × AreWhys h K b told))
+    ⊎ ((reason : Reason) × (reply ≡ refusal reason) × Under K b (IsReason b targets reason))
 
 -- what `explain` promises of such a cause
 abbrev pub Tells : RebuilderKind → SomeKept → Book → Work → List ℕ → Why → Type 0
@@ -37,7 +38,7 @@ TellAll r K b w (t ∷ told) = Tells r K b w t.0 t.1 × TellAll r K b w told
 abbrev pub TellsEach : RebuilderKind → SomeKept → Book → Work → List (List ℕ) → List ℕ → Type 0
 TellsEach r K b w keys text = (told : List (List ℕ × Why)) × (map (λ t. t.0) told ≡ keys) × (text ≡ why_lines told) × TellAll r K b w told
 
--- the reason of a refusal; there is no text where there was no memory
-abbrev pub TellsRefusal : PlanFault → List ℕ → Type 0
-TellsRefusal (Refused reason) text = text ≡ refused_line reason
-TellsRefusal NoMemory text = ⊥
+-- the reason of a refusal; there is no reply where there was no memory
+abbrev pub TellsRefusal : PlanFault → Said → Type 0
+TellsRefusal (Refused reason) reply = reply ≡ refusal reason
+TellsRefusal NoMemory reply = ⊥

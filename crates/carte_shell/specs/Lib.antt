@@ -1,7 +1,8 @@
 pub mod Chosen
 pub mod Scenes
-pub mod Commits
+pub mod Replies
 pub mod Stopping
+pub mod Commits
 pub mod Explained
 pub mod Answers
 pub mod Books

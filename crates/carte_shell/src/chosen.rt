@@ -25,24 +25,7 @@ use carte_verify::Verify;
 use carte_words::{Rebuilder4, Scheduler4};
 use std::alloc::Global;
 
-/// The plan of a build by what the words choose.
-pub fn plan(
-    alloc: Global,
-    choices: Choices,
-    engine: &mut Engine,
-    book: &Book,
-    targets: &Names,
-) -> Result<Plan, NoMemory>
-    ensures kept { engine.new ≡ engine.old }
-    ensures unmarked { IfOk result (λ p. EachFits IsUnmarked p.batch.entries) }
-    ensures plans { Under (kept_in engine.old) (book_view book.now)
-        (IfOk result (IsPlan (scheduler_of choices.scheduler) (how_of choices.rebuilder) (kept_in engine.old) (book_view book.now) targets.now)) }
-{
-    let rules = book.rules_digest(alloc)?;
-    plan_under(alloc, choices, engine, book, &rules, targets)
-}
-
-/// The same for whoever has the digest of the book's rules.
+/// The plan of a build by what the words choose, for whoever has the digest of the book's rules.
 pub(crate) fn plan_under(
     alloc: Global,
     choices: Choices,

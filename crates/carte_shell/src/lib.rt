@@ -20,12 +20,12 @@ mod choices;
 mod chosen;
 mod inputs;
 mod laws;
+mod reply;
 mod shell;
 mod stops;
 mod why;
 
 pub use choices::Choices;
-pub use chosen::plan;
 pub use laws::{end_leaves_sound, lines_stay_sound, session_of_scenes, session_stays_sound};
+pub use reply::Reply;
 pub use shell::Shell;
-pub use why::explanation;

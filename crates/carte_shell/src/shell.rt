@@ -1,18 +1,17 @@
-ghost use Rattle.std.specs.Prelude.{◌≡◌, false, IfOk, IsTrue, MatchResult, OnOk, Some, string_bytes};
+ghost use Rattle.std.specs.Prelude.{◌≡◌, false, IfOk, IsTrue, MatchResult, OnOk, Some};
 ghost use Rattle.carte_value.specs.declared.digest.Digest.{Digest as SomeDigest};
 ghost use Rattle.carte_codec.specs.Each.{EachFits};
 ghost use Rattle.carte_book.specs.Book.{book_view};
 ghost use Rattle.carte_book.specs.Digest.{rules_digest_of};
 ghost use Rattle.carte_record.specs.Bodies.{IsUnmarked};
 ghost use Rattle.carte_engine.specs.Clearing.{clearing};
-ghost use Rattle.carte_words.specs.Named.{LineNamed};
 ghost use Rattle.carte_words.specs.declared.line.Line.TheVariants.{Build as build_line, Clean as clean_line};
 
-use crate::Choices;
 use crate::chosen::plan_under;
 use crate::inputs::{known, set_input};
-use crate::stops::{build_text, stopped};
+use crate::stops::{build_reply, stopped};
 use crate::why::explanation_under;
+use crate::{Choices, Reply};
 use carte_book::Book;
 use carte_engine::{Engine, Plan};
 use carte_io::Disk;
@@ -53,15 +52,19 @@ impl<D: Disk> Machine<D> for Shell {
         line: &[u8],
     ) -> Result<String, StepEnd> {
         match read_line(alloc, self.book.kind(), line)? {
-            Some(line) => self.obey(alloc, disk, line),
+            Some(line) => match self.obey(alloc, disk, line) {
+                Ok(reply) => Ok(reply.text),
+                Err(end) => Err(end),
+            },
             None => Ok(stray_line(alloc, number)?),
         }
     }
 }
 
 impl Shell {
-    ghost use Rattle.carte_shell.specs.Answers.{Breaks, Obeys};
+    ghost use Rattle.carte_shell.specs.Answers.{Breaks, NamesInput, Obeys};
     ghost use Rattle.carte_shell.specs.Commits.{Puts, Stops};
+    ghost use Rattle.carte_shell.specs.Replies.{said};
     ghost use Rattle.carte_shell.specs.Scenes.{scene};
 
     /// Over an engine that isn't broken. It takes no memory.
@@ -78,11 +81,19 @@ impl Shell {
         }
     }
 
-    fn obey<D: Disk>(&mut self, alloc: Global, disk: &mut D, line: Line) -> Result<String, StepEnd>
+    /// Carries out a request over the disk that the engine was loaded from: the reply, or why there is none. Edits stay in memory.
+    /// The reply is made before what it tells of is committed, so want of memory leaves all as it was. Where the disk failed the
+    /// engine is broken, and no further request may be made.
+    pub fn obey<D: Disk>(
+        &mut self,
+        alloc: Global,
+        disk: &mut D,
+        line: Line,
+    ) -> Result<Reply, StepEnd>
         requires whole { self.old.engine.journal.broken ≡ false }
-        requires named { LineNamed (book_view self.old.book).kind line }
+        requires named { NamesInput (book_view self.old.book).kind line }
         ensures carried { MatchResult result
-            (λ text. Obeys D.tells (scene D.story D.faults (self.old, disk.old)) line (string_bytes text) (scene D.story D.faults (self.new, disk.new)))
+            (λ reply. Obeys D.tells (scene D.story D.faults (self.old, disk.old)) line (said reply) (scene D.story D.faults (self.new, disk.new)))
             (λ end. Breaks D.tells (scene D.story D.faults (self.old, disk.old)) line end (scene D.story D.faults (self.new, disk.new))) }
         ensures on { OnOk result (self.new.engine.journal.broken ≡ false) }
     {
@@ -96,20 +107,19 @@ impl Shell {
                 Ok(explanation_under(alloc, rebuilder, engine, &self.book, &rules, &targets)?)
             }
             Line::Clean => self.clean(alloc, disk),
-            Line::Nothing => Ok(String::new(alloc)),
+            Line::Nothing => Ok(Reply::plain(String::new(alloc))),
         }
     }
 
-    // The text is made before the commit, so that want of memory leaves all as it was.
     fn build<D: Disk>(
         &mut self,
         alloc: Global,
         disk: &mut D,
         targets: &Names,
-    ) -> Result<String, StepEnd>
+    ) -> Result<Reply, StepEnd>
         requires whole { self.old.engine.journal.broken ≡ false }
         ensures carried { MatchResult result
-            (λ text. Obeys D.tells (scene D.story D.faults (self.old, disk.old)) (build_line targets.now) (string_bytes text) (scene D.story D.faults (self.new, disk.new)))
+            (λ reply. Obeys D.tells (scene D.story D.faults (self.old, disk.old)) (build_line targets.now) (said reply) (scene D.story D.faults (self.new, disk.new)))
             (λ end. Breaks D.tells (scene D.story D.faults (self.old, disk.old)) (build_line targets.now) end (scene D.story D.faults (self.new, disk.new))) }
         ensures on { OnOk result (self.new.engine.journal.broken ≡ false) }
     {
@@ -122,9 +132,9 @@ impl Shell {
             &rules,
             targets,
         )?;
-        let text = build_text(alloc, self.choices.list, targets, &answer)?;
+        let reply = build_reply(alloc, self.choices.list, targets, answer)?;
         match self.commit(alloc, disk, batch) {
-            Ok(()) => Ok(text),
+            Ok(()) => Ok(reply),
             Err(end) => Err(end),
         }
     }
@@ -143,16 +153,16 @@ impl Shell {
         }
     }
 
-    fn clean<D: Disk>(&mut self, alloc: Global, disk: &mut D) -> Result<String, StepEnd>
+    fn clean<D: Disk>(&mut self, alloc: Global, disk: &mut D) -> Result<Reply, StepEnd>
         requires whole { self.old.engine.journal.broken ≡ false }
         ensures carried { MatchResult result
-            (λ text. Obeys D.tells (scene D.story D.faults (self.old, disk.old)) clean_line (string_bytes text) (scene D.story D.faults (self.new, disk.new)))
+            (λ reply. Obeys D.tells (scene D.story D.faults (self.old, disk.old)) clean_line (said reply) (scene D.story D.faults (self.new, disk.new)))
             (λ end. Breaks D.tells (scene D.story D.faults (self.old, disk.old)) clean_line end (scene D.story D.faults (self.new, disk.new))) }
         ensures on { OnOk result (self.new.engine.journal.broken ≡ false) }
     {
-        let text = cleaned_line(alloc)?;
+        let reply = Reply::plain(cleaned_line(alloc)?);
         match self.engine.clean(alloc, disk) {
-            Ok(()) => Ok(text),
+            Ok(()) => Ok(reply),
             Err(fault) => Err(stopped(fault)),
         }
     }

@@ -1,38 +1,42 @@
 // The reply of a build, and why a line isn't answered.
-ghost use Rattle.std.specs.Prelude.{◌≡◌, IfOk, string_bytes};
-ghost use Rattle.carte_shell.specs.Answers.{build_text};
-ghost use Rattle.carte_shell.specs.Stopping.{end_of};
+ghost use Rattle.std.specs.Prelude.{◌≡◌, IfOk};
+ghost use Rattle.carte_shell.specs.Replies.{build_reply, said};
+ghost use Rattle.carte_shell.specs.Stopping.{fault_of};
 
+use crate::Reply;
 use carte_engine::{Answer, ApplyFault};
-use carte_report::{refused_line, reply};
+use carte_report::reply;
 use carte_session::StepEnd;
 use carte_value::{Names, NoMemory};
 use std::alloc::Global;
 
-pub(crate) fn build_text(
+pub(crate) fn build_reply(
     alloc: Global,
     list: bool,
     targets: &Names,
-    answer: &Answer,
-) -> Result<String, NoMemory>
-    ensures { IfOk result (λ text. string_bytes text ≡ build_text list targets.now answer.now) }
+    answer: Answer,
+) -> Result<Reply, NoMemory>
+    ensures { IfOk result (λ reply. said reply ≡ build_reply list targets.now answer) }
 {
     match answer {
-        Answer::Built(built) => reply(
-            alloc,
-            targets,
-            &built.values,
-            list,
-            &built.ran,
-            built.given_up,
-            built.reused,
-        ),
-        Answer::Refused(reason) => refused_line(alloc, reason),
+        Answer::Built(built) => {
+            let text = reply(
+                alloc,
+                targets,
+                &built.values,
+                list,
+                &built.ran,
+                built.given_up,
+                built.reused,
+            )?;
+            Ok(Reply::plain(text))
+        }
+        Answer::Refused(reason) => Reply::refusal(alloc, reason),
     }
 }
 
 pub(crate) fn stopped(fault: ApplyFault) -> StepEnd
-    ensures { result ≡ end_of fault }
+    ensures { fault_of result ≡ fault }
 {
     match fault {
         ApplyFault::DiskFault => StepEnd::DiskFault,

@@ -8,35 +8,22 @@ ghost use Rattle.carte_record.specs.Kept.{kept_view};
 ghost use Rattle.carte_state.specs.States.{kept_in};
 ghost use Rattle.carte_shell.specs.Chosen.{how_of};
 ghost use Rattle.carte_shell.specs.Explained.{Explained, Tells, TellsEach, TellsRefusal};
+ghost use Rattle.carte_shell.specs.Replies.{said};
 
+use crate::Reply;
 use crate::chosen::{kind_of, preview};
 use carte_book::Book;
 use carte_engine::Engine;
 use carte_explain::{RebuilderKind, explain_under};
 use carte_rebuild::{PlanFault, Work};
 use carte_record::Kept;
-use carte_report::{refused_line, why_line};
+use carte_report::why_line;
 use carte_value::{Digest, Name, Names, NoMemory};
 use carte_words::Rebuilder4;
 use std::alloc::Global;
 
 /// A line for each target, why a build by the rebuilder would run it, or would not; or why a target has no value. Nothing is
-/// changed, and no call of a disk is made. A build is foreseen whose keys wait for what they need.
-pub fn explanation(
-    alloc: Global,
-    rebuilder: Rebuilder4,
-    engine: &mut Engine,
-    book: &Book,
-    targets: &Names,
-) -> Result<String, NoMemory>
-    ensures kept { engine.new ≡ engine.old }
-    ensures told { IfOk result (λ text. Explained (how_of rebuilder) (kept_in engine.old) (book_view book.now) targets.now (string_bytes text)) }
-{
-    let rules = book.rules_digest(alloc)?;
-    explanation_under(alloc, rebuilder, engine, book, &rules, targets)
-}
-
-/// The same for whoever has the digest of the book's rules.
+/// changed, and no call of a disk is made. A build is foreseen whose keys wait for what they need. The digest is that of the book's rules.
 pub(crate) fn explanation_under(
     alloc: Global,
     rebuilder: Rebuilder4,
@@ -44,30 +31,33 @@ pub(crate) fn explanation_under(
     book: &Book,
     rules: &Digest,
     targets: &Names,
-) -> Result<String, NoMemory>
+) -> Result<Reply, NoMemory>
     requires { rules.now ≡ rules_digest_of (book_view book.now) }
     ensures kept { engine.new ≡ engine.old }
-    ensures told { IfOk result (λ text. Explained (how_of rebuilder) (kept_in engine.old) (book_view book.now) targets.now (string_bytes text)) }
+    ensures told { IfOk result (λ reply. Explained (how_of rebuilder) (kept_in engine.old) (book_view book.now) targets.now (said reply)) }
 {
     match preview(alloc, rebuilder, engine, book, rules, targets) {
-        Ok(work) => why_lines(
-            alloc,
-            engine.kept(),
-            book,
-            rules,
-            &work,
-            kind_of(rebuilder),
-            targets,
-        ),
-        Err(fault) => refusal(alloc, &fault),
+        Ok(work) => {
+            let text = why_lines(
+                alloc,
+                engine.kept(),
+                book,
+                rules,
+                &work,
+                kind_of(rebuilder),
+                targets,
+            )?;
+            Ok(Reply::plain(text))
+        }
+        Err(fault) => refusal(alloc, fault),
     }
 }
 
-fn refusal(alloc: Global, fault: &PlanFault) -> Result<String, NoMemory>
-    ensures { IfOk result (λ text. TellsRefusal fault.now (string_bytes text)) }
+fn refusal(alloc: Global, fault: PlanFault) -> Result<Reply, NoMemory>
+    ensures { IfOk result (λ reply. TellsRefusal fault (said reply)) }
 {
     match fault {
-        PlanFault::Refused(reason) => refused_line(alloc, reason),
+        PlanFault::Refused(reason) => Reply::refusal(alloc, reason),
         PlanFault::NoMemory => Err(NoMemory),
     }
 }

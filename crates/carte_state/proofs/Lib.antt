@@ -1,4 +1,5 @@
 pub mod Folds
 pub mod Applies
+pub mod Putting
 pub mod Runs
 pub mod History

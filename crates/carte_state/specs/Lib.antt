@@ -1,4 +1,6 @@
+pub mod Around
 pub mod Folding
 pub mod States
+pub mod Applying
 pub mod Runs
 pub mod Histories

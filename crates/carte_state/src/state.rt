@@ -1,14 +1,12 @@
-ghost use Rattle.std.specs.Prelude.{◌≡◌, ◌≢◌, ◌⊎◌, ◌<◌, ◌≤◌, ◌+◌, ◌↔◌, ℕ, true, false, option_copied, IsTrue, IfOk, OnOk, OnErr, Ok, Err};
+ghost use Rattle.std.specs.Prelude.{◌≡◌, ◌≢◌, ◌<◌, ◌≤◌, ℕ, false, option_copied, IfOk, OnOk, OnErr, Ok, Err};
 ghost use Rattle.carte_codec.specs.Each.{EachFits};
-ghost use Rattle.carte_io.specs.Causes.{HasCauseOf};
-ghost use Rattle.carte_io.specs.Stations.{StepsThrough};
+ghost use Rattle.carte_state.specs.Around.{over_disk};
 ghost use Rattle.carte_record.specs.Bodies.{IsBody, IsUnmarked, spelled_batch};
-ghost use Rattle.carte_record.specs.Empty.{is_empty};
 ghost use Rattle.carte_record.specs.Folds.{apply, with_marks};
 ghost use Rattle.carte_record.specs.Kept.{kept_view};
 ghost use Rattle.carte_record.specs.Marked.{CanBeMarked, lists_marked};
-ghost use Rattle.carte_state.specs.Folding.{Keeps};
-ghost use Rattle.carte_state.specs.States.{Stand as SomeStand, HasRoom, IsAfter, IsKeptOn, calls_for, kept_in, needs_for, step_for};
+ghost use Rattle.carte_state.specs.Applying.{Applies};
+ghost use Rattle.carte_state.specs.States.{Stand as SomeStand, kept_in, needs_for};
 
 use crate::ApplyFault;
 use crate::fault::fault_of;
@@ -95,28 +93,7 @@ impl State {
         requires whole { self.old.journal.broken ≡ false }
         requires unmarked { EachFits IsUnmarked batch.entries }
 
-        ensures empty { is_empty batch ≡ true → (result ≡ Ok tt) × (self.new ≡ self.old) × (disk.new ≡ disk.old) }
-
-        // Where there is no room, or no memory, nothing has changed and no call of the disk was made.
-        ensures full { (needed limit : ℕ) → result ≡ Err (ApplyFault.Full needed limit)
-            → (needed ≡ needs_for self.old batch) × (limit ≡ self.old.journal.limit) × (limit < needed) × (self.new ≡ self.old) × (disk.new ≡ disk.old) }
-        ensures over { is_empty batch ≡ false → self.old.journal.limit < needs_for self.old batch
-            → (result ≡ Err (ApplyFault.Full (needs_for self.old batch) self.old.journal.limit)) ⊎ (result ≡ Err ApplyFault.NoMemory) }
-        ensures room { OnOk result (HasRoom self.old batch) }
-        ensures no_memory { result ≡ Err ApplyFault.NoMemory → (self.new ≡ self.old) × (disk.new ≡ disk.old) }
-        ensures broken { IsTrue self.new.journal.broken ↔ (result ≡ Err ApplyFault.DiskFault) }
-        ensures cause { HasCauseOf ApplyFault.DiskFault (D.faults disk.old) (D.faults disk.new) result }
-
-        ensures place { OnOk result (IsAfter batch self.old self.new) }
-        ensures limit { self.new.journal.limit ≡ self.old.journal.limit }
-        ensures calls { D.tells → OnOk result ((D.story disk.new).now.passed ≡ (D.story disk.old).now.passed + calls_for self.old.journal batch) }
-        ensures fewer { D.tells → OnErr result (((D.story disk.old).now.passed ≤ (D.story disk.new).now.passed)
-            × ((D.story disk.new).now.passed < (D.story disk.old).now.passed + calls_for self.old.journal batch)) }
-
-        ensures rest { D.tells → IsKeptOn self.old (D.story disk.old) → OnOk result (IsKeptOn self.new (D.story disk.new)) }
-        ensures any_moment { D.tells → IsKeptOn self.old (D.story disk.old)
-            → StepsThrough (Keeps self.old.journal.limit) (kept_in self.old) (step_for self.old.journal (kept_in self.old) batch)
-            (D.story disk.old) (D.story disk.new) }
+        ensures { Applies (over_disk D.tells D.story D.faults disk.old disk.new) self.old self.new batch result }
     {
         self.put(alloc, disk, &mut batch)
     }
@@ -131,28 +108,7 @@ impl State {
         requires whole { self.old.journal.broken ≡ false }
         requires unmarked { EachFits IsUnmarked batch.old.entries }
 
-        ensures empty { is_empty batch.old ≡ true → (result ≡ Ok tt) × (self.new ≡ self.old) × (disk.new ≡ disk.old) }
-
-        // Where there is no room, or no memory, nothing has changed and no call of the disk was made.
-        ensures full { (needed limit : ℕ) → result ≡ Err (ApplyFault.Full needed limit)
-            → (needed ≡ needs_for self.old batch.old) × (limit ≡ self.old.journal.limit) × (limit < needed) × (self.new ≡ self.old) × (disk.new ≡ disk.old) }
-        ensures over { is_empty batch.old ≡ false → self.old.journal.limit < needs_for self.old batch.old
-            → (result ≡ Err (ApplyFault.Full (needs_for self.old batch.old) self.old.journal.limit)) ⊎ (result ≡ Err ApplyFault.NoMemory) }
-        ensures room { OnOk result (HasRoom self.old batch.old) }
-        ensures no_memory { result ≡ Err ApplyFault.NoMemory → (self.new ≡ self.old) × (disk.new ≡ disk.old) }
-        ensures broken { IsTrue self.new.journal.broken ↔ (result ≡ Err ApplyFault.DiskFault) }
-        ensures cause { HasCauseOf ApplyFault.DiskFault (D.faults disk.old) (D.faults disk.new) result }
-
-        ensures place { OnOk result (IsAfter batch.old self.old self.new) }
-        ensures limit { self.new.journal.limit ≡ self.old.journal.limit }
-        ensures calls { D.tells → OnOk result ((D.story disk.new).now.passed ≡ (D.story disk.old).now.passed + calls_for self.old.journal batch.old) }
-        ensures fewer { D.tells → OnErr result (((D.story disk.old).now.passed ≤ (D.story disk.new).now.passed)
-            × ((D.story disk.new).now.passed < (D.story disk.old).now.passed + calls_for self.old.journal batch.old)) }
-
-        ensures rest { D.tells → IsKeptOn self.old (D.story disk.old) → OnOk result (IsKeptOn self.new (D.story disk.new)) }
-        ensures any_moment { D.tells → IsKeptOn self.old (D.story disk.old)
-            → StepsThrough (Keeps self.old.journal.limit) (kept_in self.old) (step_for self.old.journal (kept_in self.old) batch.old)
-            (D.story disk.old) (D.story disk.new) }
+        ensures { Applies (over_disk D.tells D.story D.faults disk.old disk.new) self.old self.new batch.old result }
     {
         if batch.is_empty() {
             return Ok(());
@@ -174,8 +130,6 @@ impl State {
         ensures room { OnOk result (needs_for self.now batch.now ≤ self.now.journal.limit) }
         ensures full { (needed limit : ℕ) → result ≡ Err (ApplyFault.Full needed limit)
             → (needed ≡ needs_for self.now batch.now) × (limit ≡ self.now.journal.limit) × (limit < needed) }
-        ensures over { self.now.journal.limit < needs_for self.now batch.now
-            → (result ≡ Err (ApplyFault.Full (needs_for self.now batch.now) self.now.journal.limit)) ⊎ (result ≡ Err ApplyFault.NoMemory) }
         ensures disk { result ≢ Err ApplyFault.DiskFault }
     {
         let bytes = batch.encode(alloc)?;

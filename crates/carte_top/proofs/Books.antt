@@ -1,5 +1,5 @@
 -- A book that was read, and a run over it.
-use Rattle.std.proofs.Common.{◌≡◌, ℕ, ◌≤◌, List, ◌++◌, length, Result, Ok, Err, refl, sym, ◌∙◌, subst, inl, inr, arith, append-nil}
+use Rattle.std.proofs.Common.{◌≡◌, ℕ, ◌≤◌, List, ◌++◌, length, Result, Ok, Err, refl, sym, ◌∙◌, subst, inl, arith, append-nil}
 use Rattle.carte_name.specs.declared.kind.Kind.{Kind}
 use Rattle.carte_book.specs.Book.{Book, book_view}
 use Rattle.carte_book.specs.declared.book.Book.{Book as CodeBook}
@@ -8,13 +8,10 @@ use Rattle.carte_book.specs.declared.fault.BookFault.TheVariants.{NoMemory as Bo
 use Rattle.carte_words.specs.declared.words.Words.{Words as Asked}
 use Rattle.carte_report.specs.declared.status.Status.{Status}
 use Rattle.carte_report.specs.declared.status.Status.TheVariants.{Done, BookRefused, Usage, BuildRefused, ReadFault, WriteFault, DiskFault, BadState, StateFull, NoMemory, ScriptTooLong}
-use Rattle.carte_engine.specs.declared.answer.Answer.TheVariants as answer
-use Rattle.carte_top.specs.Around.{OverSource, OverDisk, OverSink, IsUnvisited, IsUntouched, TakesAll, TakesFront}
+use Rattle.carte_top.specs.Around.{OverSource, OverDisk, OverSink, IsUnvisited, IsUntouched}
 use Rattle.carte_top.specs.Chosen.{BookOfKind}
-use Rattle.carte_top.specs.Found.{Commits, Found, Holds, Overfills, Refuses, Replies, WasRead}
-use Rattle.carte_top.specs.Outcome.{Built, TellsSource}
-use Rattle.carte_top.specs.Sound.{MayBuild, StaysAt}
-use Rattle.carte_top.specs.Running.{Builds, BuildsOver, BuiltOver, LoadsBook, Parses, ReadsEnough, RefusesBytes}
+use Rattle.carte_top.specs.Found.{Holds, Refuses, WasRead}
+use Rattle.carte_top.specs.Running.{Builds, LoadsBook, Parses, ReadsEnough, RefusesBytes}
 
 refuses : (kind : Kind) (s : OverSource) (bytes : List ℕ) (fault : BookFault) → WasRead s bytes → RefusesBytes kind bytes fault → Refuses kind s fault
 refuses kind s bytes BookNoMemory was not = absurd not
@@ -46,25 +43,6 @@ loads_book kind s bytes (Err ScriptTooLong) parses was short same = absurd parse
 module _ (kind : Kind) (s : OverSource) (b : Book) (holds : Holds kind s (λ c. c ≡ b)) where
   pub holds_so : (P : Book → Type 0) → P b → Holds kind s P
   holds_so P there = (holds.0, holds.1, b, subst (λ (c : Book). BookOfKind kind holds.0 (Ok c)) holds.4 holds.3, there)
-
-module _ (limit : ℕ) (w : Asked) (s : OverSource) (d : OverDisk) (k : OverSink) (b : Book) (holds : Holds w.kind s (λ c. c ≡ b)) where
-  built_on : (status : Status) → BuiltOver limit w b d k status → s.new.faults ≡ s.old.faults → Built limit w s d k status × TellsSource s status
-  built_on Done did same = (holds_so w.kind s b holds (λ c. Found limit d (Replies limit w d k TakesAll c)) did, same)
-  built_on (BuildRefused reason) did same = ((holds_so w.kind s b holds (λ c. Found limit d (λ K. Commits limit w d c K (answer.Refused reason))) did.0, did.1), same)
-  built_on WriteFault did same = (holds_so w.kind s b holds (λ c. Found limit d (Replies limit w d k TakesFront c)) did, same)
-  built_on DiskFault did same = ((holds_so w.kind s b holds (λ c. Unit {0}) tt, did), same)
-  built_on (BadState offset) did same = ((holds_so w.kind s b holds (λ c. Unit {0}) tt, did.0, did.1), same)
-  built_on (StateFull needed most) did same = ((holds_so w.kind s b holds (λ c. Found limit d (Overfills limit w d needed most c)) did.0, did.1), same)
-  built_on NoMemory did same = (did, same)
-  built_on (BookRefused fault) did same = absurd did
-  built_on (Usage fault) did same = absurd did
-  built_on ReadFault did same = absurd did
-  built_on ScriptTooLong did same = absurd did
-
-  pub builds : (status : Status) → BuildsOver limit w b d k status → ReadsEnough s → s.new.faults ≡ s.old.faults → Builds limit w s d k status
-  builds status over read same =
-      let parts = built_on status over.did same in
-      record { did = parts.0; read = read; visits = inr (holds_so w.kind s b holds (λ c. StaysAt limit (MayBuild w c) d) over.stays); source = parts.1; disk = over.disk; sink = over.sink }
 
 -- where there is no book
 pub no_book : (limit : ℕ) (w : Asked) (s : OverSource) (d : OverDisk) (k : OverSink) (status : Status) → LoadsBook w.kind s (Err status) → IsUnvisited d → IsUntouched k → Builds limit w s d k status

@@ -1,18 +1,14 @@
--- Where a book or a state is lacking, for an explanation or a session; and what is done over a book that was read.
-use Rattle.std.proofs.Common.{◌≡◌, ℕ, List, [], Result, Ok, Err, refl, sym, ◌∙◌, subst, inl, inr, ◌⊎◌}
-use Rattle.carte_book.specs.Book.{Book, book_view}
-use Rattle.carte_book.specs.Reason.{IsReason}
-use Rattle.carte_record.specs.Kept.{SomeKept}
+-- Where a book is lacking, for an explanation or a session, or a state for a session; and a session over a book that was read.
+use Rattle.std.proofs.Common.{◌≡◌, ℕ, Err, refl, inl, inr, ◌⊎◌}
+use Rattle.carte_book.specs.Book.{Book}
 use Rattle.carte_words.specs.declared.words.Words.{Words as Asked}
-use Rattle.carte_engine.specs.Answers.{Under}
 use Rattle.carte_session.specs.declared.end.SessionEnd.{SessionEnd}
 use Rattle.carte_report.specs.declared.status.Status.{Status}
 use Rattle.carte_report.specs.declared.status.Status.TheVariants.{Done, BookRefused, Usage, BuildRefused, ReadFault, WriteFault, DiskFault, BadState, StateFull, NoMemory, ScriptTooLong}
-use Rattle.carte_top.specs.Around.{OverSource, OverDisk, OverSink, IsUnread, IsUnvisited, IsUntouched, TakesAll, TakesFront}
-use Rattle.carte_top.specs.Chosen.{how_of}
-use Rattle.carte_top.specs.Found.{Carries, Explains, Found, HasBook, Holds}
-use Rattle.carte_top.specs.Outcome.{Explained, IsBad, IsSpared, Lacks, Sat, TellsDisk, TellsSink, TellsSource}
-use Rattle.carte_top.specs.Running.{AreToldWhys, Prints, ExplainedOver, ExplainedWith, ExplainsWith, LacksState, LoadedOr, LoadsBook, ReadsEnough, SatOver, SessionStaysOver, Sits, SitsOver, Tells, TellsOver}
+use Rattle.carte_top.specs.Around.{OverSource, OverDisk, OverSink, IsUnread, IsUnvisited, IsUntouched}
+use Rattle.carte_top.specs.Found.{Carries, Found, HasBook, Holds}
+use Rattle.carte_top.specs.Outcome.{Explained, Lacks, Sat, TellsDisk, TellsSink, TellsSource}
+use Rattle.carte_top.specs.Running.{LacksState, LoadedOr, LoadsBook, ReadsEnough, SatOver, SessionStaysOver, Sits, SitsOver, Tells}
 use Rattle.carte_top.proofs.Books.{holds_so}
 
 -- ---- no book
@@ -85,22 +81,6 @@ module _ (w : Asked) (s : OverSource) (d : OverDisk) (k : OverSink) where
 -- ---- no state
 
 module _ (limit : ℕ) (d : OverDisk) (k : OverSink) (story : d.tells → d.new ≡ d.old) (untouched : IsUntouched k) where
-  unexplained : (w : Asked) (b : Book) (status : Status) → LoadedOr limit d (Err status) → ExplainedOver limit w b d k status × TellsSink k status
-  unexplained w b DiskFault loaded = (untouched, untouched.2)
-  unexplained w b (BadState offset) loaded = ((λ told. (loaded told, story told), untouched), untouched.2)
-  unexplained w b NoMemory loaded = (untouched, untouched.2)
-  unexplained w b Done loaded = absurd loaded
-  unexplained w b (BookRefused fault) loaded = absurd loaded
-  unexplained w b (Usage fault) loaded = absurd loaded
-  unexplained w b (BuildRefused reason) loaded = absurd loaded
-  unexplained w b ReadFault loaded = absurd loaded
-  unexplained w b WriteFault loaded = absurd loaded
-  unexplained w b (StateFull needed most) loaded = absurd loaded
-  unexplained w b ScriptTooLong loaded = absurd loaded
-
-  pub tells_no_state : (w : Asked) (b : Book) (status : Status) → LoadedOr limit d (Err status) → TellsDisk d status → TellsOver limit w b d k status
-  tells_no_state w b status loaded told = let parts = unexplained w b status loaded in record { did = parts.0; stays = story; disk = told; sink = parts.1 }
-
   unserved : (c : OverSource) (status : Status) → LoadedOr limit d (Err status) → IsUnread c → LacksState limit d status × TellsSource c status × TellsSink k status
   unserved c DiskFault loaded unread = (tt, unread.1, untouched.2)
   unserved c (BadState offset) loaded unread = (λ told. (loaded told, story told), unread.1, untouched.2)
@@ -119,54 +99,11 @@ module _ (limit : ℕ) (d : OverDisk) (k : OverSink) (story : d.tells → d.new 
       let parts = unserved c status loaded unread in
       record { did = inl (parts.0, story, untouched, unread); stays = stays; source = parts.1; disk = told; sink = parts.2 }
 
--- ---- an explanation over what is kept
-
-pub tells_from : (limit : ℕ) (w : Asked) (b : Book) (K : SomeKept) (d : OverDisk) (k : OverSink) (status : Status) → Found limit d (λ L. L ≡ K) → (d.tells → d.new ≡ d.old) → d.failed ≡ d.failed_before → ExplainsWith w b K k status → TellsOver limit w b d k status
-tells_from limit w b K d k status found story disk with = record { did = over status with.did; stays = story; disk = told status with.did; sink = with.sink }
-  where
-    there : (P : SomeKept → Type 0) → P K → Found limit d P
-    there P holds = (found.0, found.1, subst P (sym found.2) holds)
-
-    over : (status : Status) → ExplainedWith w b K k status → ExplainedOver limit w b d k status
-    over Done did = there (Explains w k TakesAll b) did
-    over (BuildRefused reason) did = (there (λ L. Under L b (IsReason b w.targets reason)) did.0, did.1)
-    over WriteFault did = there (Explains w k TakesFront b) did
-    over NoMemory did = did
-    over (BookRefused fault) did = absurd did
-    over (Usage fault) did = absurd did
-    over ReadFault did = absurd did
-    over DiskFault did = absurd did
-    over (BadState offset) did = absurd did
-    over (StateFull needed most) did = absurd did
-    over ScriptTooLong did = absurd did
-
-    told : (status : Status) → ExplainedWith w b K k status → TellsDisk d status
-    told DiskFault did = absurd did
-    told status did = disk
-
 -- ---- over a book that was read
 
 module _ (limit : ℕ) (w : Asked) (s : OverSource) (d : OverDisk) (k : OverSink) (b : Book) (holds : Holds w.kind s (λ c. c ≡ b)) where
   has_book : HasBook w.kind s
   has_book = holds_so w.kind s b holds (λ c. Unit {0}) tt
-
-  explained_on : (status : Status) → ExplainedOver limit w b d k status → s.new.faults ≡ s.old.faults → Explained limit w s d k status × TellsSource s status
-  explained_on Done did same = (holds_so w.kind s b holds (λ c. Found limit d (Explains w k TakesAll c)) did, same)
-  explained_on (BuildRefused reason) did same = ((holds_so w.kind s b holds (λ c. Found limit d (λ K. Under K c (IsReason c w.targets reason))) did.0, did.1), same)
-  explained_on WriteFault did same = (holds_so w.kind s b holds (λ c. Found limit d (Explains w k TakesFront c)) did, same)
-  explained_on DiskFault did same = ((has_book, did), same)
-  explained_on (BadState offset) did same = (((has_book, did.0), did.1), same)
-  explained_on NoMemory did same = ((tt, did), same)
-  explained_on (BookRefused fault) did same = absurd did
-  explained_on (Usage fault) did same = absurd did
-  explained_on ReadFault did same = absurd did
-  explained_on (StateFull needed most) did same = absurd did
-  explained_on ScriptTooLong did same = absurd did
-
-  pub tells : (status : Status) → TellsOver limit w b d k status → ReadsEnough s → s.new.faults ≡ s.old.faults → Tells limit w s d k status
-  tells status over read same =
-      let parts = explained_on status over.did same in
-      record { did = (parts.0, over.stays); read = read; visits = inr (has_book, over.stays); source = parts.1; disk = over.disk; sink = over.sink }
 
   lacks_state : (status : Status) → LacksState limit d status → Lacks limit w s d status
   lacks_state DiskFault lacks = has_book
@@ -194,19 +131,3 @@ module _ (limit : ℕ) (w : Asked) (s : OverSource) (d : OverDisk) (k : OverSink
     disk = over.disk;
     sink = over.sink;
   }
-
--- the lines went to the sink
-pub explains_printed : (w : Asked) (b : Book) (K : SomeKept) (k : OverSink) (status : Status) (text bytes : List ℕ) → AreToldWhys (how_of w.rebuilder) K b w.targets text → bytes ≡ text → Prints bytes k status → ExplainsWith w b K k status
-explains_printed w b K k Done text bytes told is prints =
-    record { did = record { told = told.0; of_targets = told.1; whys = told.3; takes = λ t. subst (TakesAll k) (is ∙ told.2) (prints.0 t) }; sink = prints.1 }
-explains_printed w b K k WriteFault text bytes told is prints =
-    record { did = record { told = told.0; of_targets = told.1; whys = told.3; takes = λ t. subst (TakesFront k) (is ∙ told.2) (prints.0 t) }; sink = prints.1 }
-explains_printed w b K k (BookRefused fault) text bytes told is prints = absurd prints
-explains_printed w b K k (Usage fault) text bytes told is prints = absurd prints
-explains_printed w b K k (BuildRefused reason) text bytes told is prints = absurd prints
-explains_printed w b K k ReadFault text bytes told is prints = absurd prints
-explains_printed w b K k DiskFault text bytes told is prints = absurd prints
-explains_printed w b K k (BadState offset) text bytes told is prints = absurd prints
-explains_printed w b K k (StateFull needed most) text bytes told is prints = absurd prints
-explains_printed w b K k NoMemory text bytes told is prints = absurd prints
-explains_printed w b K k ScriptTooLong text bytes told is prints = absurd prints

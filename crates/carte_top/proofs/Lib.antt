@@ -2,12 +2,10 @@ pub mod Unique
 pub mod Putting
 pub mod Keeping
 pub mod Clearing
-pub mod Cleaning
-pub mod Building
-pub mod Opening
 pub mod Books
 pub mod Lacking
 pub mod Serving
+pub mod Requesting
 pub mod Sounds
 pub mod Completing
 pub mod Commands

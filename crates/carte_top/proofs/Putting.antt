@@ -1,6 +1,5 @@
 -- What a commit makes of a disk on which was found what is kept.
-use Rattle.std.proofs.Common.{◌≡◌, ℕ, ◌+◌, ◌<◌, ◌≤◌, Bool, true, false, if◌then◌else◌, List, [], ◌∷◌, Err, refl, sym, ◌∙◌, ap, subst, inl, inr, ◌⊎◌}
-use Rattle.carte_io.specs.Causes.{Rose}
+use Rattle.std.proofs.Common.{◌≡◌, ℕ, ◌+◌, ◌≤◌, Bool, true, false, if◌then◌else◌, List, [], ◌∷◌, refl, sym, ◌∙◌, ap, subst, inl, inr, ◌⊎◌}
 use Rattle.carte_io.specs.Disk.{CountsUp, IsSettled, LeavesOnly, Story, moments}
 use Rattle.carte_io.specs.Stations.{IsAtOneOf, Step, StepsThrough}
 use Rattle.carte_io.proofs.Acknowledged.{steps_leave}
@@ -14,13 +13,8 @@ use Rattle.carte_record.specs.Kept.{SomeKept, nothing_kept}
 use Rattle.carte_record.specs.declared.batch.Batch.{Batch}
 use Rattle.carte_state.specs.Folding.{IsFolded, Keeps}
 use Rattle.carte_state.specs.States.{HasRoom, IsAfter, IsKeptOn, IsLoaded, Stand, calls_for, kept_in, needs_for, step_for}
-use Rattle.carte_state.specs.declared.fault.ApplyFault.{ApplyFault}
-use Rattle.carte_state.specs.declared.fault.ApplyFault.TheVariants as applying
-use Rattle.carte_state.proofs.Applies.{kept_leaves}
 use Rattle.carte_top.specs.Around.{OverDisk}
-use Rattle.carte_top.specs.Found.{EndsWith, FitsIn, GrowsBy, IsNeeded, IsOver, IsPut}
-use Rattle.carte_top.specs.Outcome.{TellsDisk}
-use Rattle.carte_top.specs.Running.{PutOrNot, uncommitted_of}
+use Rattle.carte_top.specs.Found.{EndsWith, FitsIn, GrowsBy, IsNeeded, IsPut}
 
 pub kept_on : (e : Stand) (s : Story) → IsLoaded e s.now.reads → IsSettled s.now → IsKeptOn e s
 kept_on e s loaded settled = record { bodies = loaded.bodies; rest = record { read = loaded.read; settled = settled }; folded = loaded.folded }
@@ -58,9 +52,9 @@ ends_with limit L f u limit_is kept on = record {
 }
 
 -- a commit that has passed
-pub is_put : (e f : Stand) (d : OverDisk) (B : Batch) → (d.tells → IsLoaded e d.old.now.reads) → HasRoom e B → IsAfter B e f → f.journal.limit ≡ e.journal.limit → (d.tells → IsKeptOn e d.old → IsKeptOn f d.new)
+pub put_in : (e f : Stand) (d : OverDisk) (B : Batch) → (d.tells → IsLoaded e d.old.now.reads) → HasRoom e B → IsAfter B e f → f.journal.limit ≡ e.journal.limit → (d.tells → IsKeptOn e d.old → IsKeptOn f d.new)
     → (d.tells → d.new.now.passed ≡ d.old.now.passed + calls_for e.journal B) → IsPut e.journal.limit d (kept_in e) B
-is_put e f d B loaded room after limit rest calls = record {
+put_in e f d B loaded room after limit rest calls = record {
   room = λ told. fits_in e d.old.now.reads B (loaded told) room;
   ends = λ told settled. ends_with e.journal.limit (apply B (kept_in e)) f d.new limit after.kept (rest told (kept_on e d.old (loaded told) settled));
   grows = λ told settled. grows told settled;
@@ -90,37 +84,5 @@ stays_with e s u B up steps =
     (steps_leave (Keeps e.journal.limit) (kept_in e) (step_for e.journal (kept_in e) B) s u up steps)
 
 -- and where no call is made
-pub stays_still : (e : Stand) (s u : Story) (P : List ℕ → Type 0) → IsLoaded e s.now.reads → IsSettled s.now → u ≡ s → ((file : List ℕ) → Keeps e.journal.limit (kept_in e) file → P file) → LeavesOnly s u P
-stays_still e s u P loaded settled same f = leaves_none s u P same (λ file image. f file (kept_leaves e s (kept_on e s loaded settled) file image))
-
 pub stays_kept : (limit : ℕ) (K : SomeKept) (s u : Story) (P : List ℕ → Type 0) → Keeps limit K s.now.reads → IsSettled s.now → u ≡ s → ((file : List ℕ) → Keeps limit K file → P file) → LeavesOnly s u P
 stays_kept limit K s u P keeps settled same f = leaves_none s u P same (λ file image. f file (subst (Keeps limit K) (sym (settled_image s.now file settled image)) keeps))
-
-pub not_true : (b : Bool) → ¬ (b ≡ true) → b ≡ false
-not_true true never = absurd (never refl)
-not_true false never = refl
-
--- why a batch wasn't put in
-module _ (e : Stand) (d : OverDisk) (B : Batch) (loaded : d.tells → IsLoaded e d.old.now.reads) where
-  pub is_over : (needed limit : ℕ) → needed ≡ needs_for e B → limit ≡ e.journal.limit → limit < needed → (d.tells → d.new ≡ d.old) → IsOver e.journal.limit d B needed limit
-  is_over needed limit needed_is limit_is over story = record {
-    needed_is = λ told. needed_in e d.old.now.reads B needed (loaded told) needed_is;
-    most_is = limit_is;
-    over = subst (λ n. n < needed) limit_is over;
-    story = story;
-  }
-
-  pub not_put : (fault : ApplyFault) → ¬ (is_empty B ≡ true)
-      → ((needed limit : ℕ) → fault ≡ applying.Full needed limit → (needed ≡ needs_for e B) × (limit ≡ e.journal.limit) × (limit < needed) × (d.tells → d.new ≡ d.old))
-      → (fault ≡ applying.NoMemory → d.tells → d.new ≡ d.old)
-      → PutOrNot e.journal.limit d (kept_in e) B (Err (uncommitted_of fault))
-  not_put applying.DiskFault filled full spared = tt
-  not_put (applying.Full needed limit) filled full spared =
-      let why = full needed limit refl in
-      (not_true (is_empty B) filled, is_over needed limit why.0 why.1 why.2 why.3)
-  not_put applying.NoMemory filled full spared = spared refl
-
-pub told_put : (d : OverDisk) (fault : ApplyFault) → (fault ≡ applying.DiskFault → Rose d.failed_before d.failed) → (¬ (fault ≡ applying.DiskFault) → d.failed ≡ d.failed_before) → TellsDisk d (uncommitted_of fault)
-told_put d applying.DiskFault rose same = rose refl
-told_put d (applying.Full needed limit) rose same = same (λ is. cc)
-told_put d applying.NoMemory rose same = same (λ is. cc)

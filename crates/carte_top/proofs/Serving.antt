@@ -15,6 +15,7 @@ use Rattle.carte_session.proofs.LineLemmas.{lines_of-all, lines_of-front, next_i
 use Rattle.carte_session.proofs.SessionLemmas.{goes_more}
 use Rattle.carte_shell.specs.Answers.{Answers, Ends, Obeys}
 use Rattle.carte_shell.specs.Books.{AreBooks, IsBookAt}
+use Rattle.carte_shell.specs.Replies.{Said}
 use Rattle.carte_shell.specs.Scenes.{Scene}
 use Rattle.carte_shell.specs.Sound.{KeepsSound, LeavesSound, StandsSound, StaysSound as LinesStay}
 use Rattle.carte_shell.proofs.Sounding.{end_sound, lines_sound}
@@ -59,16 +60,16 @@ told_sink k (Err (Machine (line.StateFull needed most))) cause = cause.passed (�
 told_sink k (Err (Machine line.NoMemory)) cause = cause.passed (λ is. cc)
 
 module _ (tells : Type 0) where
-  obeyed_faults : (m m' : Scene) (l : Line) (text : List ℕ) → Obeys tells m l text m' → m'.faults ≡ m.faults
-  obeyed_faults m m' meaning.Nothing text does = ap (λ (x : Scene). x.faults) does.1
-  obeyed_faults m m' (meaning.Set k v) text does = ap (λ (x : Scene). x.faults) does.1
-  obeyed_faults m m' (meaning.Build targets) text does = does.4.faults
-  obeyed_faults m m' (meaning.Explain targets) text does = ap (λ (x : Scene). x.faults) does.1
-  obeyed_faults m m' meaning.Clean text does = does.1.faults
+  pub obeyed_faults : (m m' : Scene) (l : Line) (reply : Said) → Obeys tells m l reply m' → m'.faults ≡ m.faults
+  obeyed_faults m m' meaning.Nothing reply does = ap (λ (x : Scene). x.faults) does.1
+  obeyed_faults m m' (meaning.Set k v) reply does = ap (λ (x : Scene). x.faults) does.1
+  obeyed_faults m m' (meaning.Build targets) reply does = does.4.applies.comes.faults
+  obeyed_faults m m' (meaning.Explain targets) reply does = ap (λ (x : Scene). x.faults) does.1
+  obeyed_faults m m' meaning.Clean reply does = does.1.applies.comes.faults
 
   answered_faults : (m m' : Scene) (n : ℕ) (bytes text : List ℕ) → Answers tells m n bytes text m' → m'.faults ≡ m.faults
   answered_faults m m' n bytes text (inl stray) = ap (λ (x : Scene). x.faults) stray.2
-  answered_faults m m' n bytes text (inr (l, means, does)) = obeyed_faults m m' l text does
+  answered_faults m m' n bytes text (inr (l, means, reply, is, does)) = obeyed_faults m m' l reply does
 
   goes_faults : (n : ℕ) (m m' : Scene) (lines : List (List ℕ)) (said : List ℕ) → Goes (Answers tells) n m lines said m' → m'.faults ≡ m.faults
   goes_faults n m m' [] said goes = ap (λ (x : Scene). x.faults) goes.0
@@ -86,11 +87,11 @@ module _ (tells : Type 0) where
         same_faults (answered_faults is.0.2 m' (length is.0.0 + 1) is.0.3 is.0.4 is.0.7 ∙ goes_faults 1 m is.0.2 is.0.0 is.0.1 is.0.6)
     told_disk limit read (Err NoMemory) is = same_faults (goes_faults 1 m m' is.0.0 is.0.1 is.0.8)
     told_disk limit read (Err (Machine line.DiskFault)) is =
-        let there : Rose is.0.2.faults m'.faults = is.0.6.2.2.rose in
+        let there : Rose is.0.2.faults m'.faults = is.0.6.2.2.applies.comes.rose in
         let from : Rose m.faults m'.faults = subst (λ (n : ℕ). Rose n m'.faults) (goes_faults 1 m is.0.2 is.0.0 is.0.1 is.0.5) there in
         subst (λ (n : ℕ). Rose n d.failed) before (subst (λ (n : ℕ). Rose m.faults n) after from)
     told_disk limit read (Err (Machine (line.StateFull needed most))) is =
-        same_faults (ap (λ (x : Scene). x.faults) is.0.6.2.2.1 ∙ goes_faults 1 m is.0.2 is.0.0 is.0.1 is.0.5)
+        same_faults (is.0.6.2.2.applies.comes.1.disk.faults ∙ goes_faults 1 m is.0.2 is.0.0 is.0.1 is.0.5)
     told_disk limit read (Err (Machine line.NoMemory)) is =
         same_faults (ap (λ (x : Scene). x.faults) is.0.6 ∙ goes_faults 1 m is.0.2 is.0.0 is.0.1 is.0.5)
 

@@ -40,7 +40,7 @@ built_sound limit w b d stays told settled H (K, keeps, sound) distinct =
     at file (inl there) = (K, there, behind_sound K H (b ∷ []) sound)
     at file (inr (B, may, there)) =
         let leads = may H sound distinct in
-        (apply B K, there, lead_sound (how_of w.rebuilder) K H b w.targets B sound distinct (scheduler_of w.scheduler) leads.0 leads.1)
+        (apply B K, there, lead_sound (how_of w.rebuilder) K H b w.targets B sound distinct (scheduler_of w.scheduler) leads.0 leads.1.leads)
 
 -- under a clearing
 cleaned_sound : (limit : ℕ) (d : OverDisk) → StaysAt limit IsClearing d → StaysSound limit [] d

@@ -1,25 +1,14 @@
 -- What a run has round it, before and after.
 use Rattle.std.specs.Prelude.{ℕ, ◌≡◌, ◌≤◌, ◌⊎◌, List, ◌++◌, length, take}
 use Rattle.carte_io.specs.Causes.{Rose}
-use Rattle.carte_io.specs.Disk.{Story}
 use Rattle.carte_io.specs.Streams.{SinkState, SourceState}
 -- a source over a call, and a sink: whether its type tells its bytes, and what it was and is
 pub use Rattle.carte_session.specs.Around.{OverSource, OverSink}
-
--- a disk over a call: whether its type tells its story, that story, and how often it failed; `same` says that it is the very disk still
-pub record OverDisk : Type 1 where
-  pub tells : Type 0
-  pub old : Story
-  pub new : Story
-  pub failed_before : ℕ
-  pub failed : ℕ
-  pub same : Type 0
+-- a disk over a call
+pub use Rattle.carte_state.specs.Around.{OverDisk, over_disk, IsUnvisited}
 
 abbrev pub over_source : {A : Type 0} → Type 0 → (A → SourceState) → A → A → OverSource
 over_source tells seen old new = record { tells = tells; old = seen old; new = seen new }
-
-abbrev pub over_disk : {A : Type 0} → Type 0 → (A → Story) → (A → ℕ) → A → A → OverDisk
-over_disk tells story faults old new = record { tells = tells; old = story old; new = story new; failed_before = faults old; failed = faults new; same = new ≡ old }
 
 abbrev pub over_sink : {A : Type 0} → Type 0 → (A → SinkState) → A → A → OverSink
 over_sink tells seen old new = record { tells = tells; old = seen old; new = seen new }
@@ -36,12 +25,6 @@ pub record Around : Type 1 where
 -- no read of it was made: it is as it was, with the counts of its reads and of its failures
 abbrev pub IsUnread : OverSource → Type 0
 IsUnread s = (s.new ≡ s.old) × (s.new.faults ≡ s.old.faults)
-
--- no call of it was made
-pub record IsUnvisited (d : OverDisk) : Type 0 where
-  pub same : d.same
-  pub story : d.new ≡ d.old
-  pub faults : d.failed ≡ d.failed_before
 
 abbrev pub IsUntouched : OverSink → Type 0
 IsUntouched k = (k.new.taken ≡ k.old.taken) × (k.new.handed ≡ k.old.handed) × (k.new.faults ≡ k.old.faults)

@@ -103,6 +103,10 @@ pub record IsOver (limit : ℕ) (d : OverDisk) (B : Batch) (needed most : ℕ) :
   pub over : limit < needed
   pub story : d.tells → d.new ≡ d.old
 
+-- its commit was begun, and not all of its calls passed
+abbrev pub IsCut : OverDisk → Batch → Type 0
+IsCut d B = d.tells → (d.old.now.passed ≤ d.new.now.passed) × (d.new.now.passed < d.old.now.passed + calls_into d.old.now.reads B)
+
 -- ---- the build
 
 -- a build of the words' targets answers so, rightly, and may commit the batch
@@ -134,6 +138,13 @@ pub record Overfills (limit : ℕ) (w : Asked) (d : OverDisk) (needed most : ℕ
   pub filled : is_empty batch ≡ false
   pub over : IsOver limit d batch needed most
 
+-- the commit of a batch that a build may commit was cut off
+pub record Halts (w : Asked) (d : OverDisk) (b : Book) (K : SomeKept) : Type 0 where
+  pub answer : Answer
+  pub batch : Batch
+  pub answers : Answers w b K answer batch
+  pub cut : IsCut d batch
+
 -- ---- the clearing
 
 -- its batch leaves nothing: an empty one where nothing is kept, and else one that clears and brings nothing
@@ -154,6 +165,12 @@ pub record ClearsNot (limit : ℕ) (d : OverDisk) (needed most : ℕ) (K : SomeK
   pub clearing : IsClearing K batch
   pub filled : is_empty batch ≡ false
   pub over : IsOver limit d batch needed most
+
+-- its commit was cut off
+pub record ClearsInPart (d : OverDisk) (K : SomeKept) : Type 0 where
+  pub batch : Batch
+  pub clearing : IsClearing K batch
+  pub cut : IsCut d batch
 
 -- ---- the explanation
 

@@ -17,7 +17,7 @@ use Rattle.carte_report.specs.declared.status.Status.{Status}
 use Rattle.carte_report.specs.declared.status.Status.TheVariants.{Done, BookRefused, Usage, BuildRefused, ReadFault, WriteFault, DiskFault, BadState, StateFull, NoMemory, ScriptTooLong}
 use Rattle.carte_report.specs.Texts.{error_line}
 use Rattle.carte_top.specs.Around.{OverSource, OverDisk, OverSink, IsUnread, IsUnvisited, IsUntouched, TakesAll, TakesFront, Says}
-use Rattle.carte_top.specs.Found.{Holds, HasBook, Refuses, Found, Commits, Replies, Overfills, Clears, ClearsNot, Explains, Carries}
+use Rattle.carte_top.specs.Found.{Holds, HasBook, Refuses, Found, Commits, Replies, Overfills, Halts, Clears, ClearsNot, ClearsInPart, Explains, Carries}
 
 -- the words ask for something that is so
 abbrev pub Asks : List (List ℕ) → (Asked → Type 0) → Type 0
@@ -39,7 +39,7 @@ Built limit w s d k (Usage fault) = ⊥
 Built limit w s d k (BuildRefused reason) = Holds w.kind s (λ b. Found limit d (λ K. Commits limit w d b K (answer.Refused reason))) × IsUntouched k
 Built limit w s d k ReadFault = IsUnvisited d × IsUntouched k
 Built limit w s d k WriteFault = Holds w.kind s (λ b. Found limit d (Replies limit w d k TakesFront b))
-Built limit w s d k DiskFault = HasBook w.kind s × IsUntouched k
+Built limit w s d k DiskFault = ((HasBook w.kind s × IsSpared d) ⊎ Holds w.kind s (λ b. Found limit d (Halts w d b))) × IsUntouched k
 Built limit w s d k (BadState offset) = HasBook w.kind s × IsBad limit d offset × IsUntouched k
 Built limit w s d k (StateFull needed most) = Holds w.kind s (λ b. Found limit d (Overfills limit w d needed most b)) × IsUntouched k
 Built limit w s d k NoMemory = IsUntouched k × IsSpared d
@@ -49,7 +49,7 @@ Built limit w s d k ScriptTooLong = ⊥
 abbrev pub Cleaned : ℕ → OverDisk → OverSink → Status → Type 0
 Cleaned limit d k Done = Found limit d (Clears limit d k TakesAll)
 Cleaned limit d k WriteFault = Found limit d (Clears limit d k TakesFront)
-Cleaned limit d k DiskFault = IsUntouched k
+Cleaned limit d k DiskFault = (IsSpared d ⊎ Found limit d (ClearsInPart d)) × IsUntouched k
 Cleaned limit d k (BadState offset) = IsBad limit d offset × IsUntouched k
 Cleaned limit d k (StateFull needed most) = Found limit d (ClearsNot limit d needed most) × IsUntouched k
 Cleaned limit d k NoMemory = IsUntouched k × IsSpared d

@@ -1,7 +1,6 @@
 -- What the parts of a run have done.
-use Rattle.std.specs.Prelude.{ℕ, ◌≡◌, ◌⊎◌, ◌≤◌, Bool, true, false, List, length, map, Result, Ok, Err}
+use Rattle.std.specs.Prelude.{ℕ, ◌≡◌, ◌⊎◌, ◌≤◌, Bool, true, false, List, length, Some, None, Result, Ok, Err}
 use Rattle.carte_io.specs.Causes.{Rose}
-use Rattle.carte_io.specs.Disk.{IsSettled, LeavesOnly}
 use Rattle.carte_io.specs.Streams.{Reads}
 use Rattle.carte_io.specs.declared.whole.ReadEnd.{ReadEnd}
 use Rattle.carte_io.specs.declared.whole.ReadEnd.TheVariants.{TooLong, Failed, NoMemory as ReadNoMemory}
@@ -9,40 +8,33 @@ use Rattle.carte_journal.specs.declared.faults.LoadFault.{LoadFault}
 use Rattle.carte_journal.specs.declared.faults.LoadFault.TheVariants as load
 use Rattle.carte_name.specs.declared.kind.Kind.{Kind}
 use Rattle.carte_book.specs.Book.{Book, book_view}
-use Rattle.carte_book.specs.Reason.{AllClean, IsReason}
 use Rattle.carte_book.specs.declared.book.Book.{Book as CodeBook}
 use Rattle.carte_book.specs.declared.fault.BookFault.{BookFault}
 use Rattle.carte_book.specs.declared.fault.BookFault.TheVariants.{Limit, NoMemory as BookNoMemory}
 use Rattle.carte_book.specs.declared.fault.Which.TheVariants.{Bytes}
-use Rattle.carte_record.specs.declared.batch.Batch.{Batch}
-use Rattle.carte_record.specs.Empty.{is_empty}
-use Rattle.carte_record.specs.Folds.{apply}
-use Rattle.carte_record.specs.Kept.{SomeKept}
-use Rattle.carte_state.specs.Folding.{Keeps, IsBadState}
+use Rattle.carte_book.specs.declared.reason.Reason.{Reason}
+use Rattle.carte_state.specs.Folding.{IsBadState}
 use Rattle.carte_state.specs.States.{IsLoaded, Stand}
-use Rattle.carte_state.specs.declared.fault.ApplyFault.{ApplyFault}
-use Rattle.carte_state.specs.declared.fault.ApplyFault.TheVariants as applying
 use Rattle.carte_session.specs.Session.{IsSession}
 use Rattle.carte_session.specs.declared.end.SessionEnd.{SessionEnd}
-use Rattle.carte_shell.specs.Answers.{Answers as AnswersLine, Ends as EndsAt}
-use Rattle.carte_shell.specs.Explained.{AreWhys}
+use Rattle.carte_session.specs.declared.end.SessionEnd.TheVariants as session
+use Rattle.carte_session.specs.declared.end.StepEnd.{StepEnd}
+use Rattle.carte_shell.specs.Answers.{Answers as AnswersLine, Breaks, Ends as EndsAt, Obeys}
+use Rattle.carte_shell.specs.Replies.{Said}
 use Rattle.carte_shell.specs.Scenes.{Scene}
-use Rattle.carte_sound.specs.Held.{How}
-use Rattle.carte_explain.specs.declared.why.Why.{Why}
-use Rattle.carte_report.specs.Lines.{why_lines}
+use Rattle.carte_shell.specs.declared.choices.Choices.{Choices}
 use Rattle.carte_words.specs.declared.fault.WordsFault.{WordsFault}
 use Rattle.carte_words.specs.declared.fault.WordsFault.TheVariants.{NoMemory as WordsNoMemory}
+use Rattle.carte_words.specs.declared.line.Line.{Line}
 use Rattle.carte_words.specs.declared.words.Command.TheVariants as command
 use Rattle.carte_words.specs.declared.words.Words.{Words as Asked}
-use Rattle.carte_engine.specs.Answers.{Under}
-use Rattle.carte_engine.specs.declared.answer.Answer.TheVariants as answer
 use Rattle.carte_report.specs.declared.status.Status.{Status}
 use Rattle.carte_report.specs.declared.status.Status.TheVariants.{Done, BookRefused, Usage, BuildRefused, ReadFault, WriteFault, DiskFault, BadState, StateFull, NoMemory, ScriptTooLong}
 use Rattle.carte_top.specs.Around.{OverSource, OverDisk, OverSink, IsUnread, IsUnvisited, IsUntouched, TakesAll, TakesFront}
 use Rattle.carte_top.specs.Chosen.{BookOfKind}
-use Rattle.carte_top.specs.Found.{Holds, Refuses, Found, IsPut, IsOver, Commits, Replies, Overfills, IsClearing, Clears, ClearsNot, HasBook, Explains, Carries}
-use Rattle.carte_top.specs.Outcome.{Asks, Explained, IsBad, IsSpared, Built, Cleaned, Does, Lacks, Ran, Sat, TellsEither, TellsSource, TellsSources, TellsDisk, TellsSink, status_of}
-use Rattle.carte_top.specs.Sound.{AreFirst, IsStation, StaysAt, StaysSound, MayBuild, KeepsOn, SessionStays}
+use Rattle.carte_top.specs.Found.{Holds, Refuses, Found, IsClearing, HasBook, Carries}
+use Rattle.carte_top.specs.Outcome.{Asks, Explained, IsBad, IsSpared, Built, Cleaned, Does, Ran, Sat, TellsEither, TellsSource, TellsSources, TellsDisk, TellsSink, status_of}
+use Rattle.carte_top.specs.Sound.{AreFirst, StaysAt, StaysSound, MayBuild, KeepsOn, SessionStays}
 
 -- ---- the book
 
@@ -100,123 +92,41 @@ pub record LoadsState (limit : ℕ) (d : OverDisk) (result : Result Stand Status
   pub story : d.tells → d.new ≡ d.old
   pub disk : TellsOpen d result
 
-abbrev pub PutOrNot : ℕ → OverDisk → SomeKept → Batch → Result (Unit {0}) Status → Type 0
-PutOrNot limit d K B (Ok u) = IsPut limit d K B
-PutOrNot limit d K B (Err DiskFault) = Unit {0}
-PutOrNot limit d K B (Err (StateFull needed most)) = (is_empty B ≡ false) × IsOver limit d B needed most
-PutOrNot limit d K B (Err NoMemory) = IsSpared d
-PutOrNot limit d K B (Err status) = ⊥
+-- ---- one request
 
-abbrev pub TellsPut : OverDisk → Result (Unit {0}) Status → Type 0
-TellsPut d (Ok u) = d.failed ≡ d.failed_before
-TellsPut d (Err status) = TellsDisk d status
+-- bytes that are given to a sink
+abbrev pub Prints : List ℕ → OverSink → Status → Type 0
+Prints bytes k Done = (k.tells → TakesAll k bytes) × (k.new.faults ≡ k.old.faults)
+Prints bytes k WriteFault = (k.tells → TakesFront k bytes) × Rose k.old.faults k.new.faults
+Prints bytes k status = ⊥
 
--- at each moment an image keeps what was kept, or what the batch makes of it
-abbrev pub StaysWith : ℕ → SomeKept → Batch → OverDisk → Type 0
-StaysWith limit K B d = d.tells → IsSettled d.old.now → LeavesOnly d.old d.new (λ file. Keeps limit K file ⊎ Keeps limit (apply B K) file)
+-- the shell that is opened: what the words choose, the book, and what was found to be kept, over a disk on which nothing was written yet
+pub record Opens (limit : ℕ) (x : Choices) (b : Book) (d : OverDisk) (m : Scene) : Type 0 where
+  pub choices : m.choices ≡ x
+  pub book : m.book ≡ b
+  pub limit_is : m.stand.journal.limit ≡ limit
+  pub whole : m.stand.journal.broken ≡ false
+  pub loaded : d.tells → IsLoaded m.stand d.old.now.reads
+  pub story : d.tells → m.story ≡ d.old
+  pub faults : m.faults ≡ d.failed_before
 
-pub record IsPutOrNot (limit : ℕ) (d : OverDisk) (K : SomeKept) (B : Batch) (result : Result (Unit {0}) Status) : Type 0 where
-  pub put : PutOrNot limit d K B result
-  pub stays : StaysWith limit K B d
-  pub disk : TellsPut d result
+-- a reply was shown: the reason of a refusal is the status, and any other text is written
+abbrev pub Shows : Said → OverSink → Status → Type 0
+Shows r k status =
+    ((reason : Reason) × (r.refused ≡ Some reason) × (status ≡ BuildRefused reason) × IsUntouched k)
+    ⊎ ((r.refused ≡ None) × Prints r.text k status)
 
--- ---- a run over a state
+-- the request was carried out and its reply shown, or it came to an end before
+abbrev pub Requests : Type 0 → Scene → Line → Scene → OverSink → Status → Type 0
+Requests tells m l m' k status =
+    ((r : Said) × Obeys tells m l r m' × Shows r k status)
+    ⊎ ((end : StepEnd) × (status ≡ status_of (Err (session.Machine end))) × Breaks tells m l end m' × IsUntouched k)
 
--- what was done, what an image keeps at each moment, and each device's fault by its own status
-pub record StateRun (Did Stays : Type 0) (d : OverDisk) (k : OverSink) (status : Status) : Type 0 where
-  pub did : Did
-  pub stays : Stays
-  pub disk : TellsDisk d status
-  pub sink : TellsSink k status
-
--- a commit of a batch, and then a text
-abbrev pub Settled : ℕ → List ℕ → SomeKept → Batch → OverDisk → OverSink → Status → Type 0
-Settled limit text K B d k Done = IsPut limit d K B × (k.tells → TakesAll k text)
-Settled limit text K B d k WriteFault = IsPut limit d K B × (k.tells → TakesFront k text)
-Settled limit text K B d k DiskFault = IsUntouched k
-Settled limit text K B d k (StateFull needed most) = (is_empty B ≡ false) × IsOver limit d B needed most × IsUntouched k
-Settled limit text K B d k NoMemory = IsUntouched k × IsSpared d
-Settled limit text K B d k status = ⊥
-
-abbrev pub Settles : ℕ → List ℕ → SomeKept → Batch → OverDisk → OverSink → Status → Type 0
-Settles limit text K B d k status = StateRun (Settled limit text K B d k status) (StaysWith limit K B d) d k status
-
--- the same where it is known what is kept
-abbrev pub StaysOver : ℕ → (SomeKept → Batch → Type 0) → SomeKept → OverDisk → Type 0
-StaysOver limit May K d = d.tells → IsSettled d.old.now → LeavesOnly d.old d.new (IsStation limit May K)
-
--- a build over what is kept
-abbrev pub BuiltWith : ℕ → Asked → Book → SomeKept → OverDisk → OverSink → Status → Type 0
-BuiltWith limit w b K d k Done = Replies limit w d k TakesAll b K
-BuiltWith limit w b K d k (BuildRefused reason) = Commits limit w d b K (answer.Refused reason) × IsUntouched k
-BuiltWith limit w b K d k WriteFault = Replies limit w d k TakesFront b K
-BuiltWith limit w b K d k DiskFault = IsUntouched k
-BuiltWith limit w b K d k (StateFull needed most) = Overfills limit w d needed most b K × IsUntouched k
-BuiltWith limit w b K d k NoMemory = IsUntouched k × IsSpared d
-BuiltWith limit w b K d k status = ⊥
-
-abbrev pub BuildsWith : ℕ → Asked → Book → SomeKept → OverDisk → OverSink → Status → Type 0
-BuildsWith limit w b K d k status = StateRun (BuiltWith limit w b K d k status) (StaysOver limit (MayBuild w b) K d) d k status
-
--- a build over a disk
-abbrev pub BuiltOver : ℕ → Asked → Book → OverDisk → OverSink → Status → Type 0
-BuiltOver limit w b d k Done = Found limit d (Replies limit w d k TakesAll b)
-BuiltOver limit w b d k (BuildRefused reason) = Found limit d (λ K. Commits limit w d b K (answer.Refused reason)) × IsUntouched k
-BuiltOver limit w b d k WriteFault = Found limit d (Replies limit w d k TakesFront b)
-BuiltOver limit w b d k DiskFault = IsUntouched k
-BuiltOver limit w b d k (BadState offset) = IsBad limit d offset × IsUntouched k
-BuiltOver limit w b d k (StateFull needed most) = Found limit d (Overfills limit w d needed most b) × IsUntouched k
-BuiltOver limit w b d k NoMemory = IsUntouched k × IsSpared d
-BuiltOver limit w b d k status = ⊥
-
-abbrev pub BuildsOver : ℕ → Asked → Book → OverDisk → OverSink → Status → Type 0
-BuildsOver limit w b d k status = StateRun (BuiltOver limit w b d k status) (StaysAt limit (MayBuild w b) d) d k status
-
--- a clearing of what is kept, and of a disk
-abbrev pub CleanedWith : ℕ → SomeKept → OverDisk → OverSink → Status → Type 0
-CleanedWith limit K d k Done = Clears limit d k TakesAll K
-CleanedWith limit K d k WriteFault = Clears limit d k TakesFront K
-CleanedWith limit K d k DiskFault = IsUntouched k
-CleanedWith limit K d k (StateFull needed most) = ClearsNot limit d needed most K × IsUntouched k
-CleanedWith limit K d k NoMemory = IsUntouched k × IsSpared d
-CleanedWith limit K d k status = ⊥
-
-abbrev pub CleansWith : ℕ → SomeKept → OverDisk → OverSink → Status → Type 0
-CleansWith limit K d k status = StateRun (CleanedWith limit K d k status) (StaysOver limit IsClearing K d) d k status
-
-abbrev pub Cleans : ℕ → OverDisk → OverSink → Status → Type 0
-Cleans limit d k status = StateRun (Cleaned limit d k status) (StaysAt limit IsClearing d) d k status
-
--- ---- an explanation
-
--- the lines of an explanation
-abbrev pub AreToldWhys : How → SomeKept → Book → List (List ℕ) → List ℕ → Type 0
-AreToldWhys h K b targets text = (told : List (List ℕ × Why)) × (map (λ t. t.0) told ≡ targets) × (text ≡ why_lines told) × Under K b (AllClean b targets × AreWhys h K b told)
-
--- lines, or the reason of a refusal
-abbrev pub ExplainedWith : Asked → Book → SomeKept → OverSink → Status → Type 0
-ExplainedWith w b K k Done = Explains w k TakesAll b K
-ExplainedWith w b K k (BuildRefused reason) = Under K b (IsReason b w.targets reason) × IsUntouched k
-ExplainedWith w b K k WriteFault = Explains w k TakesFront b K
-ExplainedWith w b K k NoMemory = IsUntouched k
-ExplainedWith w b K k status = ⊥
-
-abbrev pub ExplainedOver : ℕ → Asked → Book → OverDisk → OverSink → Status → Type 0
-ExplainedOver limit w b d k Done = Found limit d (Explains w k TakesAll b)
-ExplainedOver limit w b d k (BuildRefused reason) = Found limit d (λ K. Under K b (IsReason b w.targets reason)) × IsUntouched k
-ExplainedOver limit w b d k WriteFault = Found limit d (Explains w k TakesFront b)
-ExplainedOver limit w b d k DiskFault = IsUntouched k
-ExplainedOver limit w b d k (BadState offset) = IsBad limit d offset × IsUntouched k
-ExplainedOver limit w b d k NoMemory = IsUntouched k
-ExplainedOver limit w b d k status = ⊥
-
-pub record ExplainsWith (w : Asked) (b : Book) (K : SomeKept) (k : OverSink) (status : Status) : Type 0 where
-  pub did : ExplainedWith w b K k status
-  pub sink : TellsSink k status
-
--- over a disk
-abbrev pub TellsOver : ℕ → Asked → Book → OverDisk → OverSink → Status → Type 0
-TellsOver limit w b d k status = StateRun (ExplainedOver limit w b d k status) (IsSpared d) d k status
+-- over a disk and this book; or there is no state
+abbrev pub RequestsOver : ℕ → Choices → Book → Line → OverDisk → OverSink → Status → Type 0
+RequestsOver limit x b l d k status =
+    (LoadsState limit d (Err status) × IsUntouched k)
+    ⊎ ((m m' : Scene) × Opens limit x b d m × (m'.story ≡ d.new) × (m'.faults ≡ d.failed) × Requests d.tells m l m' k status)
 
 -- ---- a session
 
@@ -259,6 +169,12 @@ pub record RunOf (Did Visited Told : Type 0) (s : OverSource) (d : OverDisk) (k 
   pub disk : TellsDisk d status
   pub sink : TellsSink k status
 
+pub record Cleans (limit : ℕ) (d : OverDisk) (k : OverSink) (status : Status) : Type 0 where
+  pub did : Cleaned limit d k status
+  pub stays : StaysAt limit IsClearing d
+  pub disk : TellsDisk d status
+  pub sink : TellsSink k status
+
 abbrev pub Builds : ℕ → Asked → OverSource → OverDisk → OverSink → Status → Type 0
 Builds limit w s d k status = RunOf (Built limit w s d k status) (Holds w.kind s (λ b. StaysAt limit (MayBuild w b) d)) (TellsSource s status) s d k status
 
@@ -275,12 +191,6 @@ abbrev pub IsRun : ℕ → List (List ℕ) → OverSource → OverSource → Ove
 IsRun limit words s c d k status = RunOf (Ran limit words s c d k status) (Asks words (λ w. KeepsOn w.command limit w s c d)) (TellsSources words s c status) s d k status
 
 -- ---- what is written
-
--- bytes that are given to a sink
-abbrev pub Prints : List ℕ → OverSink → Status → Type 0
-Prints bytes k Done = (k.tells → TakesAll k bytes) × (k.new.faults ≡ k.old.faults)
-Prints bytes k WriteFault = (k.tells → TakesFront k bytes) × Rose k.old.faults k.new.faults
-Prints bytes k status = ⊥
 
 -- a status with an error line
 abbrev pub is_spoken : Status → Bool
@@ -318,8 +228,3 @@ abbrev pub unloaded_of : LoadFault → Status
 unloaded_of load.DiskFault = DiskFault
 unloaded_of (load.BadState offset) = BadState offset
 unloaded_of load.NoMemory = NoMemory
-
-abbrev pub uncommitted_of : ApplyFault → Status
-uncommitted_of applying.DiskFault = DiskFault
-uncommitted_of (applying.Full needed limit) = StateFull needed limit
-uncommitted_of applying.NoMemory = NoMemory

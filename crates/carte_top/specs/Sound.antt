@@ -12,7 +12,7 @@ use Rattle.carte_words.specs.declared.words.Command.{Command}
 use Rattle.carte_words.specs.declared.words.Command.TheVariants as command
 use Rattle.carte_words.specs.declared.words.Words.{Words as Asked}
 use Rattle.carte_engine.specs.declared.answer.Answer.{Answer}
-use Rattle.carte_engine.specs.Answers.{Leads, Under}
+use Rattle.carte_engine.specs.Answers.{IsPlan, Under}
 use Rattle.carte_shell.specs.Books.{AreBooks as AreBooksAt}
 use Rattle.carte_top.specs.Around.{OverSource, OverDisk, IsUnvisited}
 use Rattle.carte_top.specs.Chosen.{scheduler_of, how_of}
@@ -28,9 +28,9 @@ IsStation limit May K file = Keeps limit K file ⊎ ((B : Batch) × May K B × K
 abbrev pub StaysAt : ℕ → (SomeKept → Batch → Type 0) → OverDisk → Type 0
 StaysAt limit May d = d.tells → IsSettled d.old.now → (K : SomeKept) → Keeps limit K d.old.now.reads → LeavesOnly d.old d.new (IsStation limit May K)
 
--- the batch is one to which a build leads
+-- the batch is one that a build with a right answer may commit
 abbrev pub MayBuild : Asked → Book → SomeKept → Batch → Type 0
-MayBuild w b K B = Under K b ((a : Answer) × Leads (scheduler_of w.scheduler) (how_of w.rebuilder) K b w.targets a B)
+MayBuild w b K B = Under K b ((a : Answer) × IsPlan (scheduler_of w.scheduler) (how_of w.rebuilder) K b w.targets (record { batch = B; answer = a }))
 
 -- ---- soundness
 

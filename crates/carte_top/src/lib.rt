@@ -23,16 +23,13 @@
 #![tactic(auto)]
 
 mod book;
-mod build;
 mod chosen;
-mod clean;
-mod commit;
-mod explain;
 mod laws;
+mod one;
+mod open;
 mod say;
 mod session;
 mod top;
-mod whys;
 
 pub use carte_report::Status;
 pub use carte_words::{Command, Word, Words, WordsFault, read_words};

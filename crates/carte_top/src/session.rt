@@ -8,7 +8,7 @@ ghost use Rattle.carte_top.specs.Running.{Serves, Sits, SitsOver};
 
 use crate::book::load_book;
 use crate::chosen::choices_of;
-use crate::commit::load_state;
+use crate::open::open;
 use carte_book::Book;
 use carte_io::{Disk, Sink, Source};
 use carte_report::Status;
@@ -57,11 +57,8 @@ fn session_over<S: Source, D: Disk, O: Sink>(
         (over_sink O.tells O.state out.old out.new)
         result }
 {
-    match load_state(alloc, state, book.hasher()) {
-        Ok(engine) => {
-            let mut shell = Shell::new(choices_of(asked), book, engine);
-            session_with(alloc, &mut shell, script, state, out)
-        }
+    match open(alloc, choices_of(asked), book, state) {
+        Ok(mut shell) => session_with(alloc, &mut shell, script, state, out),
         Err(status) => status,
     }
 }
@@ -85,7 +82,8 @@ fn session_with<S: Source, D: Disk, O: Sink>(
     }
 }
 
-fn ended(end: SessionEnd) -> Status
+/// The status of an end.
+pub(crate) fn ended(end: SessionEnd) -> Status
     ensures { result ≡ status_of (Err end) }
 {
     match end {

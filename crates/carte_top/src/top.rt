@@ -3,9 +3,7 @@ ghost use Rattle.carte_top.specs.Around.{over_source, over_disk, over_sink};
 ghost use Rattle.carte_top.specs.Running.{usage_of, IsRun, Runs};
 ghost use Rattle.carte_top.specs.Whole.{IsOutcome};
 
-use crate::build::build;
-use crate::clean::clean;
-use crate::explain::explain;
+use crate::one::{build, clean, explain};
 use crate::say::report;
 use crate::session::session;
 use carte_io::{Disk, Sink, Source};
@@ -65,7 +63,7 @@ fn run<B: Source, S: Source, D: Disk, O: Sink>(
         result }
 {
     match read_words(alloc, words) {
-        Ok(asked) => command(alloc, &asked, book, script, state, out, hasher),
+        Ok(asked) => command(alloc, asked, book, script, state, out, hasher),
         Err(fault) => usage(fault),
     }
 }
@@ -81,14 +79,14 @@ fn usage(fault: WordsFault) -> Status
 
 fn command<B: Source, S: Source, D: Disk, O: Sink>(
     alloc: Global,
-    asked: &Words,
+    asked: Words,
     book: &mut B,
     script: &mut S,
     state: &mut D,
     out: &mut O,
     hasher: Seeded,
 ) -> Status
-    ensures { Runs 268435456 asked.now
+    ensures { Runs 268435456 asked
         (over_source B.tells B.state book.old book.new)
         (over_source S.tells S.state script.old script.new)
         (over_disk D.tells D.story D.faults state.old state.new)
@@ -97,8 +95,8 @@ fn command<B: Source, S: Source, D: Disk, O: Sink>(
 {
     match asked.command {
         Command::Build => build(alloc, asked, book, state, out, hasher),
-        Command::Session => session(alloc, asked, book, script, state, out, hasher),
+        Command::Session => session(alloc, &asked, book, script, state, out, hasher),
         Command::Explain => explain(alloc, asked, book, state, out, hasher),
-        Command::Clean => clean(alloc, state, out, hasher),
+        Command::Clean => clean(alloc, asked, state, out, hasher),
     }
 }

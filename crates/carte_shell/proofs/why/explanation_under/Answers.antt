@@ -1,4 +1,4 @@
-use Rattle.std.proofs.Common.{sym, ap, subst, ◌∙◌, inl, string_bytes}
+use Rattle.std.proofs.Common.{sym, ap, subst, ◌∙◌, inl}
 use Rattle.carte_book.specs.Book.{book_view}
 use Rattle.carte_book.specs.Reason.{AllClean}
 use Rattle.carte_engine.specs.Previews.{IsPreview}
@@ -6,28 +6,30 @@ use Rattle.carte_record.specs.Kept.{kept_view}
 use Rattle.carte_state.specs.States.{Stand, kept_in}
 use Rattle.carte_shell.specs.Chosen.{how_of}
 use Rattle.carte_shell.specs.Explained.{AreWhys, TellAll}
+use Rattle.carte_shell.specs.Replies.{plain, said}
 use Rattle.carte_shell.proofs.Results.{at_ok, lifted}
 use Rattle.carte_shell.proofs.Telling.{are_why, refused_by}
 use Rattle.carte_shell.proofs.why.explanation_under.Goals as goal
 
-pub returns-in-Ok-clause-told : goal.returns-in-Ok-clause-told
-returns-in-Ok-clause-told c =
+pub returns-in_ok-text-in-Ok-clause-told : goal.returns-in_ok-text-in-Ok-clause-told
+returns-in_ok-text-in-Ok-clause-told c =
     let b = book_view c.args.book.now in
     let K = kept_in c.args.engine.now in
     let kept = ap kept_view (c.kept.ensures ∙ ap (λ (t : Stand). t.kept) c.preview.ensures.kept) in
     let same = c.kind_of.ensures in
-    lifted c.why_lines.result _ _ c.why_lines.ensures (λ text told. inl (
+    let told = c.in_ok-text-in-Ok.ensures {u = tt} in
+    inl (
       told.0,
       told.1,
-      told.2,
+      c.plain.ensures ∙ ap plain told.2,
       (λ H sound distinct.
           let seen : IsPreview (how_of c.args.rebuilder) K b c.args.targets.now c.in-Ok.work = at_ok c.preview.result c.in-Ok.work _ c.in-Ok.is (c.preview.ensures.served H sound distinct) in
           subst (λ h. AllClean b c.args.targets.now × AreWhys h K b told.0) same
           (are_why c.kind_of.result K b c.in-Ok.work H c.args.targets.now sound distinct (subst (λ h. IsPreview h K b c.args.targets.now c.in-Ok.work) (sym same) seen)
           told.0 told.1 (subst (λ L. TellAll c.kind_of.result L b c.in-Ok.work told.0) kept told.3))),
-    ))
+    )
 
 pub returns-in-Err-clause-told : goal.returns-in-Err-clause-told
 returns-in-Err-clause-told c =
-    lifted c.refusal.result _ _ c.refusal.ensures (λ text told.
-    refused_by (how_of c.args.rebuilder) (kept_in c.args.engine.now) (book_view c.args.book.now) c.args.targets.now c.preview.result c.in-Err.fault (string_bytes text) c.in-Err.is c.preview.ensures.refused told)
+    lifted c.refusal.result _ _ c.refusal.ensures (λ reply told.
+    refused_by (how_of c.args.rebuilder) (kept_in c.args.engine.now) (book_view c.args.book.now) c.args.targets.now c.preview.result c.in-Err.fault (said reply) c.in-Err.is c.preview.ensures.refused told)

@@ -1,11 +1,17 @@
-use Rattle.std.proofs.Common.{◌∙◌, ◌+◌, ap, arith, drop, length, refl, subst}
+use Rattle.std.proofs.Common.{◌≡◌, Ok, Err, ◌∙◌, ◌+◌, ap, arith, drop, length, refl, subst, sym}
+use Rattle.std.specs.Prelude.{IsTrue, ◌↔◌}
 use Rattle.std.proofs.lemmas.Iterator.Adapters.{YieldsList-from_vec}
 use Rattle.std.proofs.lemmas.Iterator.Consumers.{YieldsList-so_far, YieldsList-turn}
 use Rattle.std.proofs.lemmas.Result.{err_from_is_err_and}
+use Rattle.carte_state.specs.Around.{over_disk}
+use Rattle.carte_io.specs.Causes.{HasCauseOf}
 use Rattle.carte_io.specs.Stations.{StepsThrough}
 use Rattle.carte_journal.specs.Journals.{Standing}
+use Rattle.carte_state.specs.Applying.{Comes}
 use Rattle.carte_state.specs.Folding.{Keeps}
 use Rattle.carte_state.specs.States.{kept_in, step_for}
+use Rattle.carte_state.specs.declared.fault.ApplyFault.TheVariants.{DiskFault}
+use Rattle.carte_state.proofs.Putting.{broken_by, cause_by, few_by}
 use Rattle.carte_state.proofs.Runs.{cut_behind, ends_in, kept_further, made_further, none_yet, one_more, place_further, steps_to, unmarked_in, whole_after}
 use Rattle.carte_state.proofs.many.apply_all.Goals as goal
 
@@ -39,7 +45,9 @@ returns-in_err-apply-clause-ends g c told =
     let turn = YieldsList-turn road done c.loop-batch.batch-iterator c.loop-batch.yielded_by c.next.result c.next.new.self c.in-Some.batch c.in-Some.is c.next.ensures.steps in
     let all = cut_behind Bs done c.in-Some.batch (YieldsList-so_far road done c.loop-batch.batch-iterator c.loop-batch.yielded_by) turn in
     let p = err_from_is_err_and c.from_residual.result c.from_residual.ensures.1 in
-    let some = c.in_err-apply.ensures.fewer told in
+    let seen = over_disk g.D.Disk.tells g.D.Disk.story g.D.Disk.faults c.loop-batch.disk c.apply.new.disk in
+    let fault = c.in_err-apply.field-0.0 in
+    let some = few_by seen c.loop-batch.state c.apply.new.self c.in-Some.batch told fault (subst (Comes seen c.loop-batch.state c.apply.new.self c.in-Some.batch) c.in_err-apply.was c.apply.ensures.comes) in
     rw p.1 (ends_in c.args.state.now.journal.limit c.args.state.now.journal (kept_in c.args.state.now) done c.in-Some.batch
     c.loop-batch.state c.loop-batch.invariant.place c.loop-batch.invariant.kept
     Bs (drop (length done + 1) Bs) all _ _ _ (c.loop-batch.invariant.made told) some.0 some.1)
@@ -53,12 +61,30 @@ returns-in_err-apply-clause-steps g c told on =
     let turn = YieldsList-turn road done c.loop-batch.batch-iterator c.loop-batch.yielded_by c.next.result c.next.new.self c.in-Some.batch c.in-Some.is c.next.ensures.steps in
     let all = cut_behind Bs done c.in-Some.batch (YieldsList-so_far road done c.loop-batch.batch-iterator c.loop-batch.yielded_by) turn in
     let so = c.loop-batch.invariant.so_far told on in
+    let seen = over_disk g.D.Disk.tells g.D.Disk.story g.D.Disk.faults c.loop-batch.disk c.apply.new.disk in
+    let fault = c.in_err-apply.field-0.0 in
+    let some = few_by seen c.loop-batch.state c.apply.new.self c.in-Some.batch told fault (subst (Comes seen c.loop-batch.state c.apply.new.self c.in-Some.batch) c.in_err-apply.was c.apply.ensures.comes) in
     steps_to c.args.state.now.journal.limit c.args.state.now.journal (kept_in c.args.state.now) done c.in-Some.batch
     c.loop-batch.state c.loop-batch.invariant.place c.loop-batch.invariant.kept
     (g.D.Disk.story c.args.disk.now) (g.D.Disk.story c.loop-batch.disk) (g.D.Disk.story c.apply.new.disk) so (g.met.D.Disk.in_order c.apply.new.disk told)
     (subst (λ l. StepsThrough (Keeps l) (kept_in c.loop-batch.state) (step_for c.loop-batch.state.journal (kept_in c.loop-batch.state) c.in-Some.batch)
-    (g.D.Disk.story c.loop-batch.disk) (g.D.Disk.story c.apply.new.disk)) c.loop-batch.invariant.limit (c.apply.ensures.any_moment told so.on))
-    Bs (drop (length done + 1) Bs) all (c.in_err-apply.ensures.fewer told).1
+    (g.D.Disk.story c.loop-batch.disk) (g.D.Disk.story c.apply.new.disk)) c.loop-batch.invariant.limit (c.apply.ensures.steps told so.on))
+    Bs (drop (length done + 1) Bs) all some.1
+
+pub returns-in_err-apply-clause-broken : goal.returns-in_err-apply-clause-broken
+returns-in_err-apply-clause-broken g c =
+    let p = err_from_is_err_and c.from_residual.result c.from_residual.ensures.1 in
+    let seen = over_disk g.D.Disk.tells g.D.Disk.story g.D.Disk.faults c.loop-batch.disk c.apply.new.disk in
+    subst (λ r. IsTrue c.apply.new.self.journal.broken ↔ (r ≡ Err DiskFault)) (c.in_err-apply.was ∙ sym (ap Err p.2) ∙ sym p.1)
+    (broken_by seen c.loop-batch.state c.apply.new.self c.in-Some.batch c.loop-batch.invariant.whole c.apply.result c.apply.ensures.comes)
+
+pub returns-in_err-apply-clause-cause : goal.returns-in_err-apply-clause-cause
+returns-in_err-apply-clause-cause g c =
+    let p = err_from_is_err_and c.from_residual.result c.from_residual.ensures.1 in
+    let seen = over_disk g.D.Disk.tells g.D.Disk.story g.D.Disk.faults c.loop-batch.disk c.apply.new.disk in
+    subst (λ r. HasCauseOf DiskFault (g.D.Disk.faults c.args.disk.now) (g.D.Disk.faults c.apply.new.disk) r) (c.in_err-apply.was ∙ sym (ap Err p.2) ∙ sym p.1)
+    (subst (λ n. HasCauseOf DiskFault n (g.D.Disk.faults c.apply.new.disk) c.apply.result) c.loop-batch.invariant.same
+    (cause_by seen c.loop-batch.state c.apply.new.self c.in-Some.batch c.apply.result c.apply.ensures.comes))
 
 pub loop-batch-preserved : goal.loop-batch-preserved
 loop-batch-preserved g c =
@@ -68,21 +94,23 @@ loop-batch-preserved g c =
     let done = c.loop-batch.yielded in
     let B = c.in-Some.batch in
     let now = c.loop-batch.state in
+    let seen = over_disk g.D.Disk.tells g.D.Disk.story g.D.Disk.faults c.loop-batch.disk c.apply.new.disk in
+    let puts : Comes seen now c.apply.new.self B (Ok tt) = subst (Comes seen now c.apply.new.self B) c.in_ok-apply.was c.apply.ensures.comes in
     record {
-      whole = ap (λ (k : Standing). k.broken) c.in_ok-apply.ensures.place.journal ∙ whole_after now.journal B c.loop-batch.invariant.whole;
+      whole = ap (λ (k : Standing). k.broken) puts.after.journal ∙ whole_after now.journal B c.loop-batch.invariant.whole;
       place = place_further l j K done B now c.loop-batch.invariant.place c.loop-batch.invariant.kept
-          c.apply.new.self.journal c.in_ok-apply.ensures.place.journal;
+          c.apply.new.self.journal puts.after.journal;
       kept = kept_further l j K done B now c.loop-batch.invariant.place c.loop-batch.invariant.kept
-          (kept_in c.apply.new.self) c.in_ok-apply.ensures.place.kept;
+          (kept_in c.apply.new.self) puts.after.kept;
       limit = c.apply.ensures.limit ∙ c.loop-batch.invariant.limit;
-      same = c.in_ok-apply.ensures.cause.passed (λ never. absurd (cc)) ∙ c.loop-batch.invariant.same;
+      same = puts.faults ∙ c.loop-batch.invariant.same;
       made = λ told. made_further l j K done B now c.loop-batch.invariant.place c.loop-batch.invariant.kept
-          _ _ _ (c.loop-batch.invariant.made told) (c.in_ok-apply.ensures.calls told);
+          _ _ _ (c.loop-batch.invariant.made told) (puts.calls told);
       so_far = λ told on.
           let so = c.loop-batch.invariant.so_far told on in
           one_more l j K done B now c.loop-batch.invariant.place c.loop-batch.invariant.kept
           (g.D.Disk.story c.args.disk.now) (g.D.Disk.story c.loop-batch.disk) (g.D.Disk.story c.apply.new.disk) so (g.met.D.Disk.in_order c.apply.new.disk told)
           (subst (λ l. StepsThrough (Keeps l) (kept_in now) (step_for now.journal (kept_in now) B) (g.D.Disk.story c.loop-batch.disk) (g.D.Disk.story c.apply.new.disk))
-          c.loop-batch.invariant.limit (c.apply.ensures.any_moment told so.on))
-          c.apply.new.self (c.in_ok-apply.ensures.rest told so.on) (c.in_ok-apply.ensures.calls told);
+          c.loop-batch.invariant.limit (c.apply.ensures.steps told so.on))
+          c.apply.new.self (puts.rest told so.on) (puts.calls told);
     }

@@ -1,47 +1,108 @@
-use Rattle.std.proofs.Common.{◌∙◌, ◌++◌, ◌∷◌, [], ap, sym, subst}
+use Rattle.std.proofs.Common.{◌≡◌, ◌+◌, ◌<◌, ◌≤◌, false, Ok, Err, refl, sym, ◌∙◌, ◌++◌, ◌∷◌, [], ap, subst, inr}
+use Rattle.std.proofs.lemmas.Result.{err_from_is_err_and}
+use Rattle.carte_state.specs.Around.{over_disk}
 use Rattle.carte_io.specs.Stations.{StepsThrough}
 use Rattle.carte_journal.specs.Frames.{Ends}
-use Rattle.carte_journal.specs.Journals.{IsAtRest, IsReadAs, Standing, step_of}
+use Rattle.carte_journal.specs.Journals.{IsAtRest, IsReadAs, Standing, calls_of, committed, needed_for, step_of}
+use Rattle.carte_journal.specs.declared.faults.CommitFault.TheVariants.{DiskFault}
+use Rattle.carte_record.specs.Bodies.{spelled_batch}
+use Rattle.carte_record.specs.Empty.{is_empty}
 use Rattle.carte_record.specs.Folds.{apply}
 use Rattle.carte_record.specs.Kept.{kept_view}
+use Rattle.carte_record.specs.declared.kept.Kept.{Kept}
+use Rattle.carte_state.specs.Applying.{IsStill}
 use Rattle.carte_state.specs.States.{Stand}
-use Rattle.carte_state.proofs.Applies.{commit_kept, commit_steps, still_steps}
+use Rattle.carte_state.specs.declared.fault.ApplyFault.TheVariants.{NoMemory}
+use Rattle.carte_state.proofs.Applies.{commit_kept, commit_steps}
+use Rattle.carte_state.proofs.Putting.{put_none, unframed, unmoved}
 use Rattle.carte_state.proofs.state.State.put.Goals as goal
 
-pub returns-then-is_empty-clause-any_moment : goal.returns-then-is_empty-clause-any_moment
-returns-then-is_empty-clause-any_moment g c told on = still_steps c.args.self.now (g.D.Disk.story c.args.disk.now) on c.args.batch.now
+pub returns-then-is_empty : goal.returns-then-is_empty
+returns-then-is_empty g c =
+    let d = over_disk g.D.Disk.tells g.D.Disk.story g.D.Disk.faults c.args.disk.now c.args.disk.now in
+    put_none d c.args.self.now _ c.args.batch.now (g.met.D.Disk.in_order c.args.disk.now) (record { stand = refl; disk = record { same = refl; story = refl; faults = refl } })
+    c.requires.whole (sym c.is_empty.ensures ∙ c.if-is_empty.true)
 
-pub returns-in_err-frame-clause-any_moment : goal.returns-in_err-frame-clause-any_moment
-returns-in_err-frame-clause-any_moment g c told on = still_steps c.args.self.now (g.D.Disk.story c.args.disk.now) on c.args.batch.now
+pub returns-in_err-frame : goal.returns-in_err-frame
+returns-in_err-frame g c =
+    let d = over_disk g.D.Disk.tells g.D.Disk.story g.D.Disk.faults c.args.disk.now c.args.disk.now in
+    let p = err_from_is_err_and c.from_residual.result c.from_residual.ensures.1 in
+    rw (p.1 ∙ ap Err p.2)
+    (unframed d c.args.self.now _ c.args.batch.now (g.met.D.Disk.in_order c.args.disk.now) (record { stand = refl; disk = record { same = refl; story = refl; faults = refl } })
+    (sym c.is_empty.ensures ∙ c.if-is_empty.false) c.in_err-frame.field-0.0
+    (λ is. c.in_err-frame.ensures.disk (ap Err is))
+    (λ needed limit is. c.in_err-frame.ensures.full needed limit (ap Err is)))
 
-pub returns-in_err-take_in-clause-any_moment : goal.returns-in_err-take_in-clause-any_moment
-returns-in_err-take_in-clause-any_moment g c told on = still_steps c.args.self.now (g.D.Disk.story c.args.disk.now) on c.args.batch.now
+pub returns-in_err-take_in : goal.returns-in_err-take_in
+returns-in_err-take_in g c =
+    let d = over_disk g.D.Disk.tells g.D.Disk.story g.D.Disk.faults c.args.disk.now c.args.disk.now in
+    let r = c.from_residual-in_err-take_in.result in
+    let p = err_from_is_err_and r c.from_residual-in_err-take_in.ensures.1 in
+    let still : IsStill d c.args.self.now (record { journal = c.self.inside.journal; kept = c.take_in.new.kept }) = record {
+      stand = ap (λ (K : Kept). record { journal = c.self.inside.journal; kept = K }) (c.in_err-take_in.ensures {u = tt}).no_memory ∙ c.self.view_is;
+      disk = record { same = refl; story = refl; faults = refl };
+    } in
+    rw (p.1 ∙ ap Err p.2)
+    (unmoved d c.args.self.now _ c.args.batch.now (g.met.D.Disk.in_order c.args.disk.now) still (Err NoMemory) (sym c.is_empty.ensures ∙ c.if-is_empty.false, still))
 
-pub returns-in-Ok-clause-rest : goal.returns-in-Ok-clause-rest
-returns-in-Ok-clause-rest g c told on =
+pub returns-in-Ok : goal.returns-in-Ok
+returns-in-Ok g c =
     let s = g.D.Disk.story c.args.disk.now in
     let u = g.D.Disk.story c.commit.new.disk in
+    let B = c.args.batch.now in
+    let frame = c.in_ok-frame.frame in
     let journal_is = ap (λ (s : Stand). s.journal) c.self.view_is in
     let kept_is = ap (λ (s : Stand). s.kept) c.self.view_is in
-    commit_kept c.args.self.now s on c.args.batch.now c.in_ok-frame.frame c.in_ok-frame.ensures.fits u _
-    (c.in_ok-take_in.ensures.ok ∙ ap (λ kept. apply c.args.batch.now (kept_view kept)) kept_is)
-    (subst (λ (j : Standing). IsAtRest c.commit.new.self (on.bodies ++ (j.gate, c.in_ok-frame.frame) ∷ []) u) journal_is
-    (c.in-Ok.ensures.ok told on.bodies (subst (λ j. IsAtRest j on.bodies s) (sym journal_is) on.rest)))
+    let filled : is_empty B ≡ false = sym c.is_empty.ensures ∙ c.if-is_empty.false in
+    let place = c.in-Ok.ensures.place in
+    let kept = c.in_ok-take_in.ensures.ok ∙ ap (λ kept. apply B (kept_view kept)) kept_is in
+    record {
+      comes = record {
+        room = inr c.in_ok-frame.ensures.room;
+        after = record {
+          journal = rw filled (place ∙ ap (λ (j : Standing). committed j frame) journal_is ∙ ap (committed c.args.self.now.journal) c.in_ok-frame.ensures.frame);
+          kept = kept;
+        };
+        whole = ap (λ (j : Standing). j.broken) place;
+        faults = c.in-Ok.ensures.cause.passed (λ is. cc);
+        still = λ empty. absurd (cc);
+        calls = λ told. rw filled (c.in-Ok.ensures.calls told ∙ ap (λ (j : Standing). s.now.passed + calls_of j) journal_is);
+        rest = λ told on. commit_kept c.args.self.now s on B frame c.in_ok-frame.ensures.fits u _ kept
+            (subst (λ (j : Standing). IsAtRest c.commit.new.self (on.bodies ++ (j.gate, frame) ∷ []) u) journal_is
+            (c.in-Ok.ensures.ok told on.bodies (subst (λ j. IsAtRest j on.bodies s) (sym journal_is) on.rest)));
+      };
+      limit = ap (λ (j : Standing). j.limit) place ∙ ap (λ (j : Standing). j.limit) journal_is;
+      steps = λ told on. commit_steps c.args.self.now s on B frame c.in_ok-frame.ensures.fits u filled
+          (subst (λ (j : Standing). StepsThrough (IsReadAs j.limit) (Ends j.gate on.bodies) (step_of j on.bodies frame ∷ []) s u) journal_is
+          (c.commit.ensures.any_moment told on.bodies (subst (λ j. IsAtRest j on.bodies s) (sym journal_is) on.rest)));
+      ordered = g.met.D.Disk.in_order c.commit.new.disk;
+    }
 
-pub returns-in-Ok-clause-any_moment : goal.returns-in-Ok-clause-any_moment
-returns-in-Ok-clause-any_moment g c told on =
+pub returns : goal.returns
+returns g c =
     let s = g.D.Disk.story c.args.disk.now in
     let u = g.D.Disk.story c.commit.new.disk in
+    let B = c.args.batch.now in
+    let frame = c.in_ok-frame.frame in
     let journal_is = ap (λ (s : Stand). s.journal) c.self.view_is in
-    commit_steps c.args.self.now s on c.args.batch.now c.in_ok-frame.frame c.in_ok-frame.ensures.fits u (sym c.is_empty.ensures ∙ c.if-is_empty.false)
-    (subst (λ (j : Standing). StepsThrough (IsReadAs j.limit) (Ends j.gate on.bodies) (step_of j on.bodies c.in_ok-frame.frame ∷ []) s u) journal_is
-    (c.commit.ensures.any_moment told on.bodies (subst (λ j. IsAtRest j on.bodies s) (sym journal_is) on.rest)))
-
-pub returns-clause-any_moment : goal.returns-clause-any_moment
-returns-clause-any_moment g c told on =
-    let s = g.D.Disk.story c.args.disk.now in
-    let u = g.D.Disk.story c.commit.new.disk in
-    let journal_is = ap (λ (s : Stand). s.journal) c.self.view_is in
-    commit_steps c.args.self.now s on c.args.batch.now c.in_ok-frame.frame c.in_ok-frame.ensures.fits u (sym c.is_empty.ensures ∙ c.if-is_empty.false)
-    (subst (λ (j : Standing). StepsThrough (IsReadAs j.limit) (Ends j.gate on.bodies) (step_of j on.bodies c.in_ok-frame.frame ∷ []) s u) journal_is
-    (c.commit.ensures.any_moment told on.bodies (subst (λ j. IsAtRest j on.bodies s) (sym journal_is) on.rest)))
+    let filled : is_empty B ≡ false = sym c.is_empty.ensures ∙ c.if-is_empty.false in
+    let room = subst (λ (j : Standing). needed_for j (spelled_batch B) ≤ j.limit) (sym journal_is) c.in_ok-frame.ensures.room in
+    let only : c.in-Err.fault ≡ DiskFault = c.in-Err.ensures.room (subst (λ body. needed_for c.self.inside.journal body ≤ c.self.inside.journal.limit) (sym c.in_ok-frame.ensures.frame) room) in
+    let broke = c.commit.ensures.fault (c.in-Err.is ∙ ap Err only) in
+    rw (c.fault_of.ensures.disk only) (record {
+      comes = record {
+        filled = filled;
+        room = c.in_ok-frame.ensures.room;
+        broken = ap (λ (j : Standing). j.broken) broke;
+        later = c.commit.ensures.cause.later;
+        rose = c.commit.ensures.cause.failed (c.in-Err.is ∙ ap Err only);
+        few = λ told.
+            let few = c.in-Err.ensures.fewer told in
+            (few.0, rw filled (subst (λ (j : Standing). u.now.passed < s.now.passed + calls_of j) journal_is few.1));
+      };
+      limit = ap (λ (j : Standing). j.limit) broke ∙ ap (λ (j : Standing). j.limit) journal_is;
+      steps = λ told on. commit_steps c.args.self.now s on B frame c.in_ok-frame.ensures.fits u filled
+          (subst (λ (j : Standing). StepsThrough (IsReadAs j.limit) (Ends j.gate on.bodies) (step_of j on.bodies frame ∷ []) s u) journal_is
+          (c.commit.ensures.any_moment told on.bodies (subst (λ j. IsAtRest j on.bodies s) (sym journal_is) on.rest)));
+      ordered = g.met.D.Disk.in_order c.commit.new.disk;
+    })

@@ -1,0 +1,147 @@
+// One request over a book and the state.
+ghost use Rattle.std.specs.Prelude.{◌≡◌, false};
+ghost use Rattle.carte_book.specs.Book.{book_view};
+ghost use Rattle.carte_shell.specs.Answers.{NamesInput};
+ghost use Rattle.carte_shell.specs.Replies.{said};
+ghost use Rattle.carte_shell.specs.Scenes.{scene};
+ghost use Rattle.carte_top.specs.Around.{over_source, over_disk, over_sink};
+ghost use Rattle.carte_top.specs.Running.{Builds, Cleans, Requests, RequestsOver, Shows, Tells};
+
+use crate::book::load_book;
+use crate::chosen::choices_of;
+use crate::open::open;
+use crate::say::print;
+use crate::session::ended;
+use carte_book::Book;
+use carte_io::{Disk, Sink, Source};
+use carte_report::Status;
+use carte_session::SessionEnd;
+use carte_shell::{Choices, Reply, Shell};
+use carte_value::Seeded;
+use carte_words::{Line, Words};
+use std::alloc::Global;
+use std::mem::forget;
+
+/// Builds the targets of the words.
+pub(crate) fn build<B: Source, D: Disk, O: Sink>(
+    alloc: Global,
+    asked: Words,
+    source: &mut B,
+    state: &mut D,
+    out: &mut O,
+    hasher: Seeded,
+) -> Status
+    ensures { Builds 268435456 asked
+        (over_source B.tells B.state source.old source.new)
+        (over_disk D.tells D.story D.faults state.old state.new)
+        (over_sink O.tells O.state out.old out.new)
+        result }
+{
+    let choices = choices_of(&asked);
+    match load_book(alloc, asked.kind, source, hasher) {
+        Ok(book) => one(alloc, choices, book, Line::Build(asked.targets), state, out),
+        Err(status) => status,
+    }
+}
+
+/// A line for each target of the words, of a build that lets rules wait for what they need. Nothing is written to the state.
+pub(crate) fn explain<B: Source, D: Disk, O: Sink>(
+    alloc: Global,
+    asked: Words,
+    source: &mut B,
+    state: &mut D,
+    out: &mut O,
+    hasher: Seeded,
+) -> Status
+    ensures { Tells 268435456 asked
+        (over_source B.tells B.state source.old source.new)
+        (over_disk D.tells D.story D.faults state.old state.new)
+        (over_sink O.tells O.state out.old out.new)
+        result }
+{
+    let choices = choices_of(&asked);
+    match load_book(alloc, asked.kind, source, hasher) {
+        Ok(book) => one(
+            alloc,
+            choices,
+            book,
+            Line::Explain(asked.targets),
+            state,
+            out,
+        ),
+        Err(status) => status,
+    }
+}
+
+/// Clears the state, and says so. No book is read: an empty one stands in its place.
+pub(crate) fn clean<D: Disk, O: Sink>(
+    alloc: Global,
+    asked: Words,
+    state: &mut D,
+    out: &mut O,
+    hasher: Seeded,
+) -> Status
+    ensures { Cleans 268435456
+        (over_disk D.tells D.story D.faults state.old state.new)
+        (over_sink O.tells O.state out.old out.new)
+        result }
+{
+    let book = Book::new(alloc, asked.kind, hasher);
+    one(alloc, choices_of(&asked), book, Line::Clean, state, out)
+}
+
+// Opens a shell over the book and the state, and has it carry out the request.
+fn one<D: Disk, O: Sink>(
+    alloc: Global,
+    choices: Choices,
+    book: Book,
+    line: Line,
+    state: &mut D,
+    out: &mut O,
+) -> Status
+    requires { NamesInput (book_view book).kind line }
+    ensures { RequestsOver 268435456 choices (book_view book) line
+        (over_disk D.tells D.story D.faults state.old state.new)
+        (over_sink O.tells O.state out.old out.new)
+        result }
+{
+    match open(alloc, choices, book, state) {
+        Ok(mut shell) => {
+            let status = request(alloc, &mut shell, line, state, out);
+            // The process ends behind this: giving back what is kept, name by name, would only take time.
+            forget(shell);
+            status
+        }
+        Err(status) => status,
+    }
+}
+
+fn request<D: Disk, O: Sink>(
+    alloc: Global,
+    shell: &mut Shell,
+    line: Line,
+    state: &mut D,
+    out: &mut O,
+) -> Status
+    requires whole { shell.old.engine.journal.broken ≡ false }
+    requires named { NamesInput (book_view shell.old.book).kind line }
+    ensures { Requests D.tells (scene D.story D.faults (shell.old, state.old)) line (scene D.story D.faults (shell.new, state.new))
+        (over_sink O.tells O.state out.old out.new)
+        result }
+{
+    match shell.obey(alloc, state, line) {
+        Ok(reply) => show(reply, out),
+        Err(end) => ended(SessionEnd::Machine(end)),
+    }
+}
+
+// The text of a refusal is a session's. A command ends with the reason as its status, whose error line tells it.
+fn show<O: Sink>(reply: Reply, out: &mut O) -> Status
+    ensures { Shows (said reply) (over_sink O.tells O.state out.old out.new) result }
+{
+    let Reply { text, refused } = reply;
+    match refused {
+        Some(reason) => Status::BuildRefused(reason),
+        None => print(out, text.as_str().as_bytes()),
+    }
+}
