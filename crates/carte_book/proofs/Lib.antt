@@ -10,3 +10,4 @@ pub mod Orders
 pub mod Stuck
 pub mod Reasoned
 pub mod Named
+pub mod FirstDynamic

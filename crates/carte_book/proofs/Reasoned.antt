@@ -16,7 +16,7 @@ use Rattle.carte_book.specs.Stuck.{CleanOrReason}
 use Rattle.carte_book.specs.declared.reason.Reason.TheVariants.{Cycle, Missing, Dynamic}
 use Rattle.carte_book.proofs.Clean.{tied_name, rule_held, clean_input, clean_rule}
 
-abbrev names_among : List (List ℕ × Tree) → List (List ℕ)
+abbrev pub names_among : List (List ℕ × Tree) → List (List ℕ)
 names_among [] = []
 names_among ((k, e) ∷ rs) = k ∷ names_among rs
 
@@ -38,14 +38,14 @@ rule_found ((j, rule f) ∷ es) k e is =
     ] refl is
 
 -- each rule stands in the list of rules
-rule_listed : (b : Book) (k : List ℕ) (e : Tree) → content b k ≡ Some (rule e) → Among (names_among (rules_of b)) k
+pub rule_listed : (b : Book) (k : List ℕ) (e : Tree) → content b k ≡ Some (rule e) → Among (names_among (rules_of b)) k
 rule_listed b k e is = rule_found (entries b.items) k e (sym (get-entries b.items k) ∙ rule_held b k e is)
 
 -- where the names without repeats lead round or astray
 abbrev LeadsOn : Book → List (List ℕ) → List ℕ → Type 0
 LeadsOn b seen k = (rest : List (List ℕ)) × (GoesRound b seen (k ∷ rest) ⊎ GoesAstray b seen (k ∷ rest))
 
-is_among_or_not : (ks : List (List ℕ)) (k : List ℕ) → Among ks k ⊎ (¬ (Among ks k))
+pub is_among_or_not : (ks : List (List ℕ)) (k : List ℕ) → Among ks k ⊎ (¬ (Among ks k))
 is_among_or_not [] k = inr (λ here. here)
 is_among_or_not (j ∷ js) k = elim (same_or_not k j) [
   | inl same ↦ inl (inl same)

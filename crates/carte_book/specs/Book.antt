@@ -3,6 +3,8 @@ use Rattle.std.specs.Prelude.{ℕ, zero, suc, ◌+◌, List, [], ◌∷◌, leng
 use Rattle.std.specs.Arc.{arc_value}
 use Rattle.std.specs.Result.{result_ok}
 use Rattle.std.specs.FinMap.{FinMap, get, entries, from_entries}
+use Rattle.indexmap.specs.IndexMap.{hasher_of}
+use Rattle.carte_name.specs.declared.seeded.Seeded.{Seeded}
 use Rattle.carte_name.specs.declared.kind.Kind.{Kind}
 use Rattle.carte_name.specs.declared.kind.Kind.TheVariants.{Rules, Sheet}
 use Rattle.carte_value.specs.declared.value.Value.{Value}
@@ -76,3 +78,7 @@ entries_view es = map (λ e. (e.0, item_view e.1)) es
 
 abbrev pub book_view : CodeBook → Book
 book_view b = record { kind = b.kind; items = from_entries (entries_view b.items.entries) }
+
+-- the hash that its map is made with
+abbrev pub hasher_in : CodeBook → Seeded
+hasher_in b = hasher_of b.items

@@ -1,5 +1,5 @@
 -- Rules whose references can't be told before they are worked out, and the paths that lead to them.
-use Rattle.std.specs.Prelude.{ℕ, ◌≡◌, true, false, List, [], ◌∷◌, length, Some}
+use Rattle.std.specs.Prelude.{ℕ, ◌≡◌, ◌⊎◌, true, false, List, [], ◌∷◌, length, Some}
 use Rattle.std.specs.Ordering.{nat_cmp}
 use Rattle.std.specs.declared.cmp.Ordering.{Ordering}
 use Rattle.std.specs.declared.cmp.Ordering.TheVariants.{Less, Equal, Greater}
@@ -10,7 +10,7 @@ use Rattle.carte_tree.specs.Tree.{Tree}
 use Rattle.carte_tree.specs.Formula.{refs_of, is_static_tree}
 use Rattle.carte_book.specs.Book.{rule, Book, content}
 use Rattle.carte_book.specs.Needs.{needs_of}
-use Rattle.carte_book.specs.Reason.{IsReason}
+use Rattle.carte_book.specs.Reason.{AllClean, IsReason}
 use Rattle.carte_book.specs.declared.reason.Reason.{Reason}
 use Rattle.carte_book.specs.declared.reason.Reason.TheVariants.{Cycle, Missing, Dynamic}
 
@@ -57,3 +57,7 @@ abbrev pub IsOrderReason : Book → List (List ℕ) → Reason → Type 0
 IsOrderReason b targets (Dynamic path) = IsFirstDynamicPath b targets path
 IsOrderReason b targets (Cycle path) = NoDynamicPath b targets × IsReason b targets (Cycle path)
 IsOrderReason b targets (Missing path) = NoDynamicPath b targets × IsReason b targets (Missing path)
+
+-- targets lead to no dynamic rule and have clean values, or there is such a reason why not
+abbrev pub OrderCleanOrReason : Book → List (List ℕ) → Type 0
+OrderCleanOrReason b targets = (NoDynamicPath b targets × AllClean b targets) ⊎ ((reason : Reason) × IsOrderReason b targets reason)

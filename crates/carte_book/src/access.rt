@@ -2,7 +2,7 @@ ghost use Rattle.std.specs.Prelude.{◌≡◌, None, is_some, IsTrue, IfOk, OnOk
 ghost use Rattle.std.specs.FinMap.{empty, get};
 ghost use Rattle.carte_name.specs.Kinds.{is_name_of};
 ghost use Rattle.carte_book.specs.Fits.{FitsItem};
-ghost use Rattle.carte_book.specs.Book.{book_view, item_view, content, default_of};
+ghost use Rattle.carte_book.specs.Book.{book_view, item_view, content, default_of, hasher_in};
 ghost use Rattle.carte_book.specs.Edits.{with_item};
 ghost use Rattle.carte_book.specs.Looked.{Answers, IsFormula, IsFormulaAt, HasNoOthers, HasRules, AddsRule};
 ghost use Rattle.carte_book.specs.Needs.{IsRule};
@@ -20,6 +20,7 @@ impl Book {
     pub fn new(alloc: Global, kind: Kind, hasher: Seeded) -> Book
         ensures kind { (book_view result).kind ≡ kind }
         ensures items { (book_view result).items ≡ empty }
+        ensures hasher { hasher_in result ≡ hasher }
     {
         Book {
             alloc,
@@ -37,7 +38,9 @@ impl Book {
     }
 
     /// The hash that maps of this book's names are made with. It takes no memory.
-    pub fn hasher(&self) -> Seeded {
+    pub fn hasher(&self) -> Seeded
+        ensures { result ≡ hasher_in self.now }
+    {
         *self.items.hasher()
     }
 

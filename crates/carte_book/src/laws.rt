@@ -7,7 +7,7 @@ ghost use Rattle.carte_tree.specs.Tree.{Tree};
 ghost use Rattle.carte_tree.specs.Meaning.{eval};
 ghost use Rattle.carte_book.specs.Book.{Item, Book, rule, content, settled, clean};
 ghost use Rattle.carte_book.specs.Digest.{OneDigest};
-ghost use Rattle.carte_book.specs.Dynamic.{NoDynamicPath, IsOrderReason};
+ghost use Rattle.carte_book.specs.Dynamic.{NoDynamicPath, IsOrderReason, OrderCleanOrReason};
 ghost use Rattle.carte_book.specs.Edits.{with_item};
 ghost use Rattle.carte_book.specs.Reason.{AllClean, IsReason};
 ghost use Rattle.carte_book.specs.Stuck.{StuckIsLastNeed, CleanOrReason};
@@ -70,4 +70,11 @@ pub fn stuck_need_is_last()
 #[tactic(auto, using(crate::proofs::Reasoned::reason_or_clean))]
 pub fn reason_or_clean()
     ensures { (b : Book) (targets : List (List ℕ)) → CleanOrReason b targets }
+{}
+
+/// Where rules are ordered before any is worked out, targets lead to no dynamic rule and have clean values, or there is a
+/// reason why a build of them is refused.
+#[tactic(auto, using(crate::proofs::FirstDynamic::order_reason_or_clean))]
+pub fn order_reason_or_clean()
+    ensures { (b : Book) (targets : List (List ℕ)) → OrderCleanOrReason b targets }
 {}

@@ -44,7 +44,8 @@ pub use fault::{AddFault, BookFault, SetFault, Which};
 pub use key_text::KeyText;
 pub use laws::{
     clean_is_evaluated, clean_is_settled, clean_or_refused, one_digest, order_clean_or_refused,
-    order_reason_is_unique, put_stands, reason_is_unique, reason_or_clean, stuck_need_is_last,
+    order_reason_is_unique, order_reason_or_clean, put_stands, reason_is_unique, reason_or_clean,
+    stuck_need_is_last,
 };
 pub use needs::needs_are_names;
 pub use reason::Reason;

@@ -1,9 +1,8 @@
 //! Constructive traces: a key has the result of any earlier trace whose links are those that the needs have now.
 //!
 //! The job is that of all rebuilders which compare needs (`Tries`): here it gets the checks of all traces of the key whose
-//! result is in the store, the newest first. So a key whose inputs are set back has its old result again, and needs no
-//! entry for it. One trace at most can hold; so which is compared first is a matter of cost, and the newest is the
-//! likeliest.
+//! result is in the store. So a key whose inputs are set back has its old result again, and needs no entry for it. One
+//! trace at most can hold; so in which order they are compared is a matter of cost, of which no clause speaks.
 //!
 //! What a build may rely on stands as laws, each the contract of a function that does nothing. A key is held exactly where
 //! its needs have the values of a trace (`unchanged_is_held`, `held_is_unchanged`), whatever has run beneath it

@@ -42,7 +42,7 @@ impl Earlier {
     }
 }
 
-/// The end that the newest trace of a key tells of whose links the inputs of the book have now and whose value is there.
+/// The end that a trace of a key tells of whose links the inputs of the book have now and whose value is there.
 pub(crate) fn held(
     alloc: Global,
     kept: &Kept,

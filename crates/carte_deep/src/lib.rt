@@ -1,7 +1,7 @@
 //! Deep traces: a key has the result of any earlier trace whose inputs, those beneath the key, have the values of then.
 //!
 //! Whether such a trace holds is known before anything is worked out, since the book has the inputs. So `start` compares
-//! the links of the key's traces with the book, the newest trace first, and the job of a held key has its result from the
+//! the links of the key's traces with the book, one trace after another, and the job of a held key has its result from the
 //! start: it asks for nothing, and no task is made for it. Each other key runs its task. A name that is no input of the
 //! book, a digest that differs, and a result that the store lacks each count as a difference. The needs of a held key
 //! aren't looked into, so a build that changes nothing looks at its targets alone.

@@ -1,7 +1,7 @@
 -- What work that is done rightly has made.
 use Rattle.std.proofs.Common.{◌≡◌, ℕ, ◌≤◌, cond, List, [], ◌∷◌, Option, Some, None, map, length, refl, ap, sym, ◌∙◌, subst, inl, inr, arith}
 use Rattle.carte_name.specs.Names.{name_eq}
-use Rattle.carte_value.specs.Truths.{Among}
+use Rattle.carte_value.specs.Truths.{Among, NoneTwice}
 use Rattle.carte_value.proofs.Members.{name_apart, no_longer, same_or_not}
 use Rattle.carte_effect.specs.declared.outcome.Made.{Made}
 use Rattle.carte_effect.specs.declared.outcome.Made.TheVariants.{Ran, Reused}
@@ -21,7 +21,7 @@ use Rattle.carte_note.specs.Lists.{finished_of}
 use Rattle.carte_note.specs.Right.{AreRight, IsRightFinished, IsRightMade, finishes_of, has_run, key_of, ran_in}
 use Rattle.carte_rebuild.specs.declared.work.Work.{Work}
 use Rattle.carte_rebuild.specs.Ends.{IsWork, NothingGivenUp}
-use Rattle.carte_engine.specs.Answers.{AreValues, IsSuccess}
+use Rattle.carte_engine.specs.Answers.{AreValues, IsLedgerOf, IsSuccess}
 use Rattle.carte_engine.specs.Reckoned.{IsReckoned, value_at, value_found, value_made}
 use Rattle.carte_engine.specs.Schedulers.{IsDoneBy, IsServed}
 use Rattle.carte_engine.specs.declared.answer.Built.{Built}
@@ -74,6 +74,15 @@ module _ (h : How) (M : SomeKept) (b : Book) where
       on (Reused o) made (inl same) rest = absurd (unheld (subst (IsHeld h M b) (sym same) made.came.0))
       on (Reused o) made (inr later) rest = rest later
 
+  -- each once
+  ran_once : (fs : List Finished) → AreRight h M b fs → NoneTwice (keys_of (finishes_of fs)) → NoneTwice (ran_in fs)
+  ran_once [] right once = tt
+  ran_once (f ∷ fs) right once = on f.made (ran_once fs right.1 once.1)
+    where
+      on : (m : Made) → NoneTwice (ran_in fs) → NoneTwice (cond (has_run m) (key_of f ∷ ran_in fs) (ran_in fs))
+      on (Ran o) rest = ((λ again. once.0 (ran_only fs (key_of f) right.1 again).0), rest)
+      on (Reused o) rest = rest
+
 keys_length : (fs : List Finished) → length (keys_of (finishes_of fs)) ≡ length fs
 keys_length [] = refl
 keys_length (f ∷ fs) = omega (arith, keys_length fs)
@@ -86,6 +95,21 @@ target_done Suspending h M b targets k among is_rule is_clean = (treated.IsTreat
 served_clean : (s : Scheduler) (b : Book) (targets : List (List ℕ)) → IsServed s b targets → AllClean b targets
 served_clean Topological b targets served = served.1
 served_clean Suspending b targets served = served
+
+-- what was started has ended, and what has ended has run
+ledger_of : (h : How) (M : SomeKept) (b : Book) (targets : List (List ℕ)) (done : List ℕ → Type 0) (w : Work) (built : Built) → IsWork h M b done w → NothingGivenUp w → IsReckoned b targets w built → IsLedgerOf built.ran built.runs
+ledger_of h M b targets done w built work nothing reckoned = rw reckoned.runs (record {
+  started_once = nothing.once;
+  started = λ k. (
+    (λ there. reckoned.ran.each k (subst (λ ks. Among ks k) work.ends (nothing.only k there))),
+    (λ there. nothing.each k (subst (λ ks. Among ks k) (sym work.ends) (reckoned.ran.only k there))),
+  );
+  ended_once = subst NoneTwice (sym work.ends) (ran_once h M b w.finished work.right work.order.once);
+  ended = λ k. (
+    (λ there. reckoned.ran.each k (subst (λ ks. Among ks k) work.ends there)),
+    (λ there. subst (λ ks. Among ks k) (sym work.ends) (reckoned.ran.only k there)),
+  );
+})
 
 pub succeeds : (s : Scheduler) (h : How) (K : SomeKept) (b : Book) (targets marks : List (List ℕ)) (w : Work) (built : Built) → AreMarks K b marks → IsServed s b targets
     → IsWork h (begin K b marks) b (IsDoneBy s h (begin K b marks) b targets) w → NothingGivenUp w → IsReckoned b targets w built → IsSuccess s h K b targets built
@@ -116,4 +140,5 @@ succeeds s h K b targets marks w built marked served work nothing reckoned =
       };
       count = omega (arith, reckoned.reused, fewer, all, keys_length fs);
       none_given_up = omega (arith, reckoned.given_up, ended);
+      ledger = ledger_of h M b targets (IsDoneBy s h M b targets) w built work nothing reckoned;
     }

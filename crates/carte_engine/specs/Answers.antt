@@ -1,7 +1,8 @@
 -- What a build answers, and the batches that it may commit.
 use Rattle.std.specs.Prelude.{ℕ, ◌≡◌, ◌+◌, List, [], ◌∷◌, ◌++◌, length, Some}
 use Rattle.carte_value.specs.declared.value.Value.{Value}
-use Rattle.carte_value.specs.Truths.{Truth, IsListOf}
+use Rattle.carte_value.specs.Truths.{Among, IsListOf, NoneTwice, Truth}
+use Rattle.carte_effect.specs.Ledger.{Ledger}
 use Rattle.carte_book.specs.Book.{Book, clean}
 use Rattle.carte_record.specs.declared.batch.Batch.{Batch}
 use Rattle.carte_record.specs.Kept.{SomeKept}
@@ -32,7 +33,14 @@ AreValues t [] (v ∷ vs) = ⊥
 AreValues t (k ∷ ks) [] = ⊥
 AreValues t (k ∷ ks) (v ∷ vs) = (t k ≡ Some v) × AreValues t ks vs
 
--- Each target has a clean value, and these are they. Exactly the rules that are done and not held ran, and the others were reused.
+-- the task of each of these was started once and ended once, and no other was
+pub record IsLedgerOf (ran : List (List ℕ)) (r : Ledger) : Type 0 where
+  pub started_once : NoneTwice r.starts
+  pub started : (k : List ℕ) → (Among r.starts k → Among ran k) × (Among ran k → Among r.starts k)
+  pub ended_once : NoneTwice r.ends
+  pub ended : (k : List ℕ) → (Among r.ends k → Among ran k) × (Among ran k → Among r.ends k)
+
+-- Each target has a clean value, and these are they. Exactly the rules that are done and not held ran, which the ledger tells too, and the others were reused.
 pub record IsSuccess (s : Scheduler) (h : How) (K : SomeKept) (b : Book) (targets : List (List ℕ)) (built : Built) : Type 0 where
   pub served : IsServed s b targets
   pub values : AreValues (clean b) targets built.values
@@ -43,6 +51,7 @@ pub record IsSuccess (s : Scheduler) (h : How) (K : SomeKept) (b : Book) (target
   pub all_done : IsListOf (IsDoneBy s h (begin K b marks) b targets) done
   pub count : length built.ran + built.reused ≡ length done
   pub none_given_up : built.given_up ≡ 0
+  pub ledger : IsLedgerOf built.ran built.runs
 
 abbrev pub IsAnswer : Scheduler → How → SomeKept → Book → List (List ℕ) → Answer → Type 0
 IsAnswer s h K b targets (answer.Built built) = IsSuccess s h K b targets built

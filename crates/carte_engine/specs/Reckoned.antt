@@ -42,3 +42,4 @@ pub record IsReckoned (b : Book) (targets : List (List ℕ)) (w : Work) (built :
   pub ran : IsListOf (Among (ran_in w.finished)) built.ran
   pub reused : built.reused ≡ length w.finished - length built.ran
   pub given_up : built.given_up ≡ left_open w.runs
+  pub runs : built.runs ≡ w.runs

@@ -1,5 +1,5 @@
 -- What a build does, by its scheduler.
-use Rattle.std.specs.Prelude.{ℕ, List}
+use Rattle.std.specs.Prelude.{ℕ, ◌⊎◌, List}
 use Rattle.carte_book.specs.Book.{Book}
 use Rattle.carte_book.specs.Dynamic.{NoDynamicPath, IsOrderReason}
 use Rattle.carte_book.specs.Needs.{IsRule, Reaches}
@@ -28,6 +28,10 @@ IsServed Suspending b targets = AllClean b targets
 abbrev pub IsRefusedFor : Scheduler → Book → List (List ℕ) → Reason → Type 0
 IsRefusedFor Topological b targets reason = IsOrderReason b targets reason
 IsRefusedFor Suspending b targets reason = IsReason b targets reason
+
+-- it has nothing to refuse, or something
+abbrev pub IsServedOrRefused : Scheduler → Book → List (List ℕ) → Type 0
+IsServedOrRefused s b targets = IsServed s b targets ⊎ ((reason : Reason) × IsRefusedFor s b targets reason)
 
 -- each rule that the targets reach is kept with its clean value
 abbrev pub KeepsReached : SomeKept → Book → List (List ℕ) → Type 0

@@ -1,4 +1,5 @@
 use carte_book::Reason;
+use carte_effect::Runs;
 use carte_record::Batch;
 use carte_value::{Names, Values};
 
@@ -13,6 +14,8 @@ pub struct Built {
     pub given_up: u64,
     /// How many rules were finished without a run.
     pub reused: u64,
+    /// The ledger of the build.
+    pub runs: Runs,
 }
 
 /// How a build comes out.

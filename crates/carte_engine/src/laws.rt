@@ -13,7 +13,7 @@ ghost use Rattle.carte_engine.specs.declared.answer.Built.{Built};
 ghost use Rattle.carte_engine.specs.declared.scheduler.Scheduler.{Scheduler};
 ghost use Rattle.carte_engine.specs.Answers.{Leads};
 ghost use Rattle.carte_engine.specs.Histories.{HistoryIsRight};
-ghost use Rattle.carte_engine.specs.Schedulers.{IsServed, KeepsBy};
+ghost use Rattle.carte_engine.specs.Schedulers.{IsServed, IsServedOrRefused, KeepsBy};
 
 /// A batch that a build may commit leaves what is kept sound for the history with the present book, with each scheduler
 /// and each rebuilder, whatever the build answers.
@@ -33,4 +33,9 @@ pub fn plan_keeps()
 /// them a crash cuts off before its commit: what is kept stays sound for the books so far, and each answer is right.
 pub fn history_is_right()
     ensures { HistoryIsRight }
+{}
+
+/// Of each book and targets a build has nothing to refuse, or there is a reason for a refusal, with each scheduler.
+pub fn served_or_refused()
+    ensures { (s : Scheduler) (b : Book) (targets : List (List ℕ)) → IsServedOrRefused s b targets }
 {}

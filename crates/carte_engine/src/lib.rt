@@ -37,5 +37,5 @@ pub use answer::{Answer, Built, Plan};
 pub use carte_state::{ApplyFault, LoadFault};
 pub use engine::Engine;
 pub use fault::BuildFault;
-pub use laws::{history_is_right, plan_is_sound, plan_keeps};
+pub use laws::{history_is_right, plan_is_sound, plan_keeps, served_or_refused};
 pub use scheduler::Scheduler;

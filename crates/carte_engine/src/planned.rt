@@ -76,7 +76,7 @@ fn planned<R: Rebuilder>(
     match end {
         WorkEnd::All(work) => {
             let batch = plan(alloc, rebuilder, begun, base, rules, book, &work.finished)?;
-            let built = reckon(alloc, book, targets, &work)?;
+            let built = reckon(alloc, book, targets, work)?;
             Ok(Plan {
                 batch,
                 answer: Answer::Built(built),

@@ -19,9 +19,9 @@ pub(crate) fn reckon(
     alloc: Global,
     book: &Book,
     targets: &Names,
-    work: &Work,
+    work: Work,
 ) -> Result<Built, NoMemory>
-    ensures { IfOk result (IsReckoned (book_view book.now) targets.now work.now) }
+    ensures { IfOk result (IsReckoned (book_view book.now) targets.now work) }
 {
     let values = values(alloc, book, targets, &work.finished)?;
     let ran = ran(alloc, work.finished.as_slice())?;
@@ -32,6 +32,7 @@ pub(crate) fn reckon(
         ran,
         given_up: work.runs.given_up(),
         reused,
+        runs: work.runs,
     })
 }
 

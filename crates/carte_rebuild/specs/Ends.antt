@@ -14,7 +14,7 @@ use Rattle.carte_sound.specs.Held.{How}
 use Rattle.carte_sound.specs.Chains.{IsRightChain}
 use Rattle.carte_sound.specs.LeadsTo.{chain_behind}
 use Rattle.carte_sound.specs.Left.{keys_of}
-use Rattle.carte_sound.specs.Treated.{IsDoneInOrder, IsDoneRestarting, IsDoneSuspending, IsTreatedRestarting}
+use Rattle.carte_sound.specs.Treated.{IsDoneInOrder, IsDoneRestarting, IsDoneSuspending, IsTreated, IsTreatedRestarting}
 use Rattle.carte_note.specs.Right.{AreRight, finishes_of, ran_in}
 use Rattle.carte_rebuild.specs.declared.work.Work.{Work}
 use Rattle.carte_rebuild.specs.declared.work.WorkEnd.{WorkEnd}
@@ -36,6 +36,12 @@ pub record NothingGivenUp (w : Work) : Type 0 where
   pub only : (k : List ℕ) → Among w.runs.starts k → Among w.runs.ends k
   pub each : (k : List ℕ) → Among w.runs.ends k → Among w.runs.starts k
 
+-- tasks may have been given up: each was started once and is of a key that is treated, and each that has ended was started
+pub record StartedOnce (treated : List ℕ → Type 0) (w : Work) : Type 0 where
+  pub once : NoneTwice w.runs.starts
+  pub only : (k : List ℕ) → Among w.runs.starts k → treated k
+  pub each : (k : List ℕ) → Among w.runs.ends k → Among w.runs.starts k
+
 -- nothing was finished or started
 pub record IsNoWork (w : Work) : Type 0 where
   pub finished : w.finished ≡ []
@@ -47,12 +53,12 @@ EndsInOrder h K b targets (All w) = (w.chain ≡ None) × NoDynamicPath b target
     × (IsGiven K b → IsWork h K b (IsDoneInOrder b targets) w × NothingGivenUp w)
 EndsInOrder h K b targets (Refused w reason) = (w.chain ≡ None) × IsOrderReason b targets reason × IsNoWork w
 
--- where a rule waits for what it needs: all that is treated and has a clean value, and a refusal exactly for the reason
+-- where a rule waits for what it needs: all that is treated and has a clean value, and a refusal exactly for the reason, where tasks may have been given up
 abbrev pub EndsSuspending : How → SomeKept → Book → List (List ℕ) → WorkEnd → Type 0
 EndsSuspending h K b targets (All w) = (w.chain ≡ None)
     × (IsGiven K b → AllClean b targets × IsWork h K b (IsDoneSuspending h K b targets) w × NothingGivenUp w)
 EndsSuspending h K b targets (Refused w reason) = (w.chain ≡ None)
-    × (IsGiven K b → IsReason b targets reason × IsWork h K b (IsDoneSuspending h K b targets) w)
+    × (IsGiven K b → IsReason b targets reason × IsWork h K b (IsDoneSuspending h K b targets) w × StartedOnce (IsTreated h K b targets) w)
 
 -- how often the name stands in the list
 abbrev pub times : List ℕ → List (List ℕ) → ℕ

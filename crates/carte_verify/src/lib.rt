@@ -1,9 +1,9 @@
 //! Verifying traces: a key's old result is given again where a trace of that result has the links that the needs have now.
 //!
 //! The job is that of all rebuilders which compare needs (`Tries`): here it gets the checks of those traces whose result
-//! is the one that the key's entry has, the newest first. So at most one result comes into question, and a key that has no
-//! entry just runs its task. What a check looks up a run would look up too, since a trace's names are compared in the order in
-//! which the task asked for them, and only as far as they are the same.
+//! is the one that the key's entry has. So at most one result comes into question, and a key that has no entry just runs
+//! its task. What a check looks up a run would look up too, since a trace's names are compared in the order in which the
+//! task asked for them, and only as far as they are the same.
 //!
 //! What a build may rely on stands as laws, each the contract of a function that does nothing. A key is held exactly where
 //! its needs have the values of then and its entry the result of then (`unchanged_is_held`, `held_is_unchanged`), whatever

@@ -11,7 +11,7 @@ use Rattle.carte_progress.specs.Reasons.{FirstReason}
 use Rattle.carte_progress.specs.Standing.{IsDemanded}
 use Rattle.carte_suspend.proofs.Goings.{going_none}
 use Rattle.carte_progress.proofs.Ending.{is_work, targets_clean, targets_reason, each_clean}
-use Rattle.carte_suspend.proofs.Ending.{nothing_given_up}
+use Rattle.carte_suspend.proofs.Ending.{nothing_given_up, started_once}
 use Rattle.carte_suspend.proofs.building.build.Goals as goal
 
 pub returns-in-None : goal.returns-in-None
@@ -65,5 +65,6 @@ returns g c =
           let now = going given.0 given.1 in (
             targets_reason name b s ok.standing fits begun h K ts w.finished now.along demanded ts (λ t here. here) c.treat_all.new.bench.slots.entries (λ q. refl) c.in-Some.reason first,
             is_work name b s ok.standing fits begun h K ts w.finished now.along demanded w refl now.counted.ends,
+            started_once started fits begun h K b ts s w.finished w.runs now w refl,
           ),
     )
