@@ -1,5 +1,5 @@
 -- What a build has come to once its list and its targets were treated.
-use Rattle.std.proofs.Common.{◌≡◌, ℕ, Bool, List, [], ◌++◌, Option, Some, None, ap, sym, ◌∙◌, subst, inl, inr}
+use Rattle.std.proofs.Common.{◌≡◌, ℕ, Bool, List, [], ◌++◌, Some, None, ap, sym, ◌∙◌, subst, inl, inr}
 use Rattle.std.specs.Map.{lookup}
 use Rattle.carte_name.specs.Names.{name_eq}
 use Rattle.carte_value.specs.Truths.{Truth, Among}

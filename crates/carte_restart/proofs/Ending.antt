@@ -1,19 +1,19 @@
 -- How often jobs were given up.
 use Rattle.std.specs.Prelude.{filter}
-use Rattle.std.proofs.Common.{◌≡◌, ◌⊎◌, ℕ, ◌≤◌, Bool, true, false, cond, List, [], ◌∷◌, length, Option, Some, None, refl, sym, ◌∙◌, subst, inl, inr, arith}
+use Rattle.std.proofs.Common.{◌≡◌, ℕ, Bool, true, false, cond, List, [], ◌∷◌, length, Option, Some, None, refl, sym, ◌∙◌, subst, inl, inr, arith}
 use Rattle.carte_value.specs.Truths.{Among}
 use Rattle.carte_value.proofs.Members.{no_longer}
 use Rattle.carte_effect.specs.Ledger.{Ledger}
 use Rattle.carte_book.specs.Book.{Item, input, rule, Book, content}
 use Rattle.carte_book.specs.Edits.{IsInput}
-use Rattle.carte_book.specs.Needs.{IsRule, needs, IsReachedRule, need}
+use Rattle.carte_book.specs.Needs.{needs, need}
 use Rattle.carte_book.specs.Reason.{IsClean, AllClean}
 use Rattle.carte_book.proofs.Clean.{clean_nothing}
-use Rattle.carte_rebuild.specs.Ends.{GivenUpAtMost, GivesUp, is_rule, rules_needed, times}
+use Rattle.carte_rebuild.specs.Ends.{GivenUpAtMost, GivesUp, is_rule, rules_needed}
 use Rattle.carte_sound.proofs.Reached.{reached_clean}
 use Rattle.carte_bench.specs.Spots.{Spots}
 use Rattle.carte_progress.specs.Standing.{IsDemanded}
-use Rattle.carte_restart.specs.Going.{IsGivenUp, IsTallied}
+use Rattle.carte_restart.specs.Going.{IsTallied}
 
 -- what passes a test is among what was picked by it
 picked : (p : List ℕ → Bool) (ks : List (List ℕ)) (k : List ℕ) → Among ks k → p k ≡ true → Among (filter p ks) k

@@ -1,5 +1,5 @@
 -- What is known of a bench, and of the ledger, after each step of a build.
-use Rattle.std.proofs.Common.{◌≡◌, ℕ, Bool, true, List, [], Option, Some, None, Result, Ok, Err, refl, sym, subst, inl, inr}
+use Rattle.std.proofs.Common.{◌≡◌, ℕ, Bool, true, List, [], Some, None, Ok, Err, sym, subst, inl, inr}
 use Rattle.carte_value.specs.Truths.{Truth, Among}
 use Rattle.carte_effect.specs.declared.look.Stuck.{Stuck}
 use Rattle.carte_effect.specs.declared.outcome.Made.{Made}
@@ -17,7 +17,6 @@ use Rattle.carte_bench.specs.Steps.{FitsOf, GivesOf, IsCore}
 use Rattle.carte_bench.specs.Turns.{TurnedTo}
 use Rattle.carte_progress.specs.Opening.{Opens, EndsKey}
 use Rattle.carte_progress.specs.Progress.{IsAlong}
-use Rattle.carte_progress.specs.Standing.{IsDemanded}
 use Rattle.carte_progress.proofs.Alongs.{Laws, FitAll, along_none, along_opens}
 use Rattle.carte_progress.proofs.Driving.{turn_driven, along_stopped, along_ended, ran_ended}
 use Rattle.carte_progress.proofs.Puts.{job_there}
@@ -33,6 +32,10 @@ going_none started fits begun h K b targets s none = record {
   along = along_none fits begun h K b targets s none;
   tallied = tallied_none started b s none;
 }
+
+-- of the same path and name
+pub opens_same : {J : Type 0} (name : J → List ℕ) (started : J → Bool) (begins : List ℕ → J → Type 0) (b : Book) (s d : Spots J) (path path' : List (List ℕ)) (n : List ℕ) (before : List (List ℕ)) (i : List ℕ) → before ≡ path → i ≡ n → Opens name started begins b s d before path' i → Opens name started begins b s d path path' n
+opens_same name started begins b s d path path' n before i one two opens = subst (λ p. Opens name started begins b s d p path' n) one (subst (λ m. Opens name started begins b s d before path' m) two opens)
 
 module _ {J : Type 0} (name : J → List ℕ) (started : J → Bool) (fits : FitsOf J) (begun : Truth → List ℕ → J → Type 0) (h : How) (K : SomeKept) (b : Book) (targets : List (List ℕ)) (fit : FitAll fits begun h b) (s d : Spots J) (n : List ℕ) (fs : List Finished) (r : Ledger) (going : IsRestarting started fits begun h K b targets s fs r) where
   tallied_opens : (path path' : List (List ℕ)) → Opens name started (λ k j. begun (λ q. None) k j) b s d path path' n → IsTallied started b d (ran_in fs) r

@@ -1,13 +1,12 @@
 -- What stands once a job was given up for a new one, and what is known then.
-use Rattle.std.proofs.Common.{◌≡◌, ℕ, Bool, true, false, List, [], ◌∷◌, Some, None, Result, Ok, Err, refl, sym, ◌∙◌, subst, inl, inr}
-use Rattle.carte_value.specs.Truths.{Truth, Extends, Among}
+use Rattle.std.proofs.Common.{◌≡◌, ℕ, Bool, false, List, ◌∷◌, Some, None, Err, refl, sym, ◌∙◌, subst, inl, inr}
+use Rattle.carte_value.specs.Truths.{Truth, Extends}
 use Rattle.carte_value.proofs.Members.{same_or_not}
 use Rattle.carte_effect.specs.declared.look.Stuck.{Stuck}
-use Rattle.carte_effect.specs.declared.outcome.Made.{Made}
 use Rattle.carte_effect.specs.Ledger.{Ledger}
 use Rattle.carte_book.specs.Book.{Book}
 use Rattle.carte_book.specs.Edits.{IsInput}
-use Rattle.carte_book.specs.Needs.{IsRule, needs}
+use Rattle.carte_book.specs.Needs.{IsRule}
 use Rattle.carte_record.specs.Kept.{SomeKept}
 use Rattle.carte_sound.specs.Held.{How}
 use Rattle.carte_note.specs.declared.finished.Finished.{Finished}

@@ -1,6 +1,5 @@
 -- What a build that began with its first list has come to.
-use Rattle.std.proofs.Common.{◌≡◌, ◌⊎◌, ℕ, List, [], ◌++◌, inl, inr}
-use Rattle.carte_value.specs.Truths.{Among}
+use Rattle.std.proofs.Common.{ℕ, List, ◌++◌, inl, inr}
 use Rattle.carte_value.proofs.Members.{among_append, among_left, among_right}
 use Rattle.carte_book.specs.Book.{Book}
 use Rattle.carte_record.specs.Kept.{SomeKept}

@@ -6,7 +6,7 @@ use Rattle.carte_book.specs.Book.{Item, input, rule, Book, content}
 use Rattle.carte_book.specs.Edits.{IsInput}
 use Rattle.carte_book.specs.Needs as book_needs
 use Rattle.carte_book.specs.Needs.{IsRule, IsReachedRule, Reaches, needs}
-use Rattle.carte_book.specs.Reason.{AllClean, IsClean}
+use Rattle.carte_book.specs.Reason.{AllClean}
 use Rattle.carte_book.proofs.Clean.{clean_nothing}
 use Rattle.carte_record.specs.declared.entry.Entry.{Entry}
 use Rattle.carte_record.specs.Kept.{SomeKept}

@@ -1,7 +1,7 @@
 -- Where each key finds its needs there, no turn stops.
-use Rattle.std.proofs.Common.{◌≡◌, ◌⊎◌, ℕ, ◌<◌, Bool, true, List, [], ◌∷◌, ◌++◌, length, take, get_or, Option, Some, None, Result, Ok, Err, refl, sym, ◌∙◌, subst, inl, inr}
+use Rattle.std.proofs.Common.{◌≡◌, ℕ, ◌<◌, Bool, true, List, [], ◌∷◌, ◌++◌, length, take, get_or, Option, Some, None, Ok, Err, refl, sym, ◌∙◌, subst, inl, inr}
 use Rattle.carte_value.specs.declared.value.Value.{Value}
-use Rattle.carte_value.specs.Truths.{Truth, Extends, Among, HasValue}
+use Rattle.carte_value.specs.Truths.{Among, HasValue}
 use Rattle.carte_value.proofs.Members.{same_or_not, among_append}
 use Rattle.carte_effect.specs.declared.look.Stuck.{Stuck}
 use Rattle.carte_effect.specs.declared.outcome.Made.{Made}
@@ -9,7 +9,6 @@ use Rattle.carte_effect.specs.Ledger.{Ledger}
 use Rattle.carte_effect.specs.Jobs.{outcome_of}
 use Rattle.carte_effect.specs.Sights.{value_seen}
 use Rattle.carte_book.specs.Book.{Book}
-use Rattle.carte_book.specs.Edits.{IsInput}
 use Rattle.carte_book.specs.Needs.{IsRule, needs}
 use Rattle.carte_rebuild.specs.Goes.{AreThere}
 use Rattle.carte_bench.specs.declared.slot.Slot.{Slot}

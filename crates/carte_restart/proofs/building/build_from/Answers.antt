@@ -1,4 +1,4 @@
-use Rattle.std.proofs.Common.{ℕ, List, [], ◌++◌, Some, None, refl, ◌∙◌, sym, subst}
+use Rattle.std.proofs.Common.{ℕ, List, [], ◌++◌, Some, None, refl, sym, subst}
 use Rattle.carte_value.specs.Truths.{Among}
 use Rattle.carte_value.proofs.Members.{among_left, among_right}
 use Rattle.carte_book.specs.Book.{Book, book_view}
@@ -20,14 +20,12 @@ returns-in-None g c =
     let b = book_view c.args.book.now in
     let K = kept_view c.args.kept.now in
     let h = g.R.Rebuilder.how c.args.rebuilder.now in
-    let name = g.R.Job.Job.name in
     let started = g.R.Job.Job.started in
     let fits = g.R.Job.Job.fits in
     let begun = g.R.Rebuilder.begun c.args.rebuilder.now K b in
     let list = c.args.list.now in
     let ts = c.args.targets.now in
     let s = spots_of c.treat_all-2.new.bench in
-    let w = c.treat_all-2.new.work in
     let one = c.in_ok-treat_all.ensures {u = tt} in
     let two = c.in_ok-treat_all-2.ensures {u = tt} in
     let listed = λ (t : List ℕ) (here : Among list t) (held : IsRule b t). one.demanded t (subst (λ (l : List (List ℕ)). Among l t) (sym c.as_slice.ensures) here) held in
@@ -44,21 +42,19 @@ returns-in-None g c =
     let straight = λ (H : List Book) (base : IsBase K b H) (prepared : IsPrepared b [] list) (behind : IsPrepared b list ts).
     let half = one.straight (list ++ ts) within_list H base none idle ([], (λ j nowhere held. absurd nowhere), subst (λ (l : List (List ℕ)). IsPrepared b [] l) (sym c.as_slice.ensures) prepared) in
     (two.straight (list ++ ts) within_targets H base (mid H base) half (list, listed, subst (λ (l : List (List ℕ)). IsPrepared b list l) (sym c.as_slice-2.ensures) behind)).ended in
-    built_all name started fits begun h K b list ts s two.standing w c.in_ok-with_chain-in-None.field-0 ended.chain ended.finished ended.runs demanded c.treat_all-2.new.bench.slots.entries (λ q. refl) going first straight
+    built_all g.R.Job.Job.name started fits begun h K b list ts s two.standing c.treat_all-2.new.work c.in_ok-with_chain-in-None.field-0 ended.chain ended.finished ended.runs demanded c.treat_all-2.new.bench.slots.entries (λ q. refl) going first straight
 
 pub returns : goal.returns
 returns g c =
     let b = book_view c.args.book.now in
     let K = kept_view c.args.kept.now in
     let h = g.R.Rebuilder.how c.args.rebuilder.now in
-    let name = g.R.Job.Job.name in
     let started = g.R.Job.Job.started in
     let fits = g.R.Job.Job.fits in
     let begun = g.R.Rebuilder.begun c.args.rebuilder.now K b in
     let list = c.args.list.now in
     let ts = c.args.targets.now in
     let s = spots_of c.treat_all-2.new.bench in
-    let w = c.treat_all-2.new.work in
     let one = c.in_ok-treat_all.ensures {u = tt} in
     let two = c.in_ok-treat_all-2.ensures {u = tt} in
     let listed = λ (t : List ℕ) (here : Among list t) (held : IsRule b t). one.demanded t (subst (λ (l : List (List ℕ)). Among l t) (sym c.as_slice.ensures) here) held in
@@ -71,4 +67,4 @@ returns g c =
     let asked = rw c.in-Some.is at (c.in_ok-first_reason.ensures {u = tt}) in
     let first = subst (λ (bk : Book). FirstReason (onward bk s) ts (Some c.in-Some.reason)) two.book (subst (λ (l : List (List ℕ)). FirstReason (onward (book_of c.treat_all-2.new.bench) s) l (Some c.in-Some.reason)) c.as_slice-3.ensures asked) in
     let ended = c.in_ok-with_chain-in-Some.ensures {u = tt} in
-    built_refused name started fits begun h K b list ts s two.standing w c.in_ok-with_chain-in-Some.field-0 ended.chain ended.finished ended.runs demanded c.treat_all-2.new.bench.slots.entries (λ q. refl) going c.in-Some.reason first
+    built_refused g.R.Job.Job.name started fits begun h K b list ts s two.standing c.treat_all-2.new.work c.in_ok-with_chain-in-Some.field-0 ended.chain ended.finished ended.runs demanded c.treat_all-2.new.bench.slots.entries (λ q. refl) going c.in-Some.reason first

@@ -3,11 +3,10 @@ use Rattle.carte_book.specs.Book.{book_view}
 use Rattle.carte_record.specs.Kept.{kept_view}
 use Rattle.carte_sound.specs.Treated.{IsTreated}
 use Rattle.carte_bench.specs.Held.{spots_of}
-use Rattle.carte_progress.specs.Opening.{Opens}
 use Rattle.carte_progress.specs.Standing.{IsStanding}
 use Rattle.carte_progress.proofs.Opened.{halted_target, stands_opens, known_opens}
 use Rattle.carte_restart.specs.Straight.{IsAhead}
-use Rattle.carte_restart.proofs.Goings.{going_opens}
+use Rattle.carte_restart.proofs.Goings.{going_opens, opens_same}
 use Rattle.carte_restart.proofs.Straight.{ahead_opens, ahead_next, ahead_end}
 use Rattle.carte_restart.proofs.building.treat.Goals as goal
 
@@ -28,8 +27,7 @@ turns-init g c =
     let path = c.open.new.path.items in
     let n = c.args.target.now in
     let ok = c.in_ok-open.ensures {u = tt} in
-    let copied = subst (λ (i : List ℕ). Opens name started (λ i j. begun (λ q. None) i j) b old new c.new-path.result.items path i) (c.in_ok-name.ensures {u = tt}) ok.opens in
-    let opens = subst (λ (p : List (List ℕ)). Opens name started (λ i j. begun (λ q. None) i j) b old new p path n) c.new-path.ensures.items copied in
+    let opens = opens_same name started (λ i j. begun (λ q. None) i j) b old new [] path n c.new-path.result.items c.in_ok-name.name c.new-path.ensures.items (c.in_ok-name.ensures {u = tt}) ok.opens in
     let known = known_opens name started (λ i j. begun (λ q. None) i j) b old new [] path n opens in
     record {
       book = c.open.ensures.book ∙ c.requires.book;

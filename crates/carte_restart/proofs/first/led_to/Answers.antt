@@ -1,4 +1,4 @@
-use Rattle.std.proofs.Common.{◌<◌, ◌≤◌, ◌+◌, ℕ, List, length, sym, subst, rules, arith}
+use Rattle.std.proofs.Common.{◌<◌, ◌≤◌, ◌+◌, length, sym, subst, rules, arith}
 use Rattle.carte_record.specs.Kept.{kept_view}
 use Rattle.carte_mark.proofs.Putting.{get_there}
 use Rattle.carte_restart.proofs.Leading.{IsLeading, leading_first, leading_next, all_led, led_few}

@@ -2,7 +2,7 @@ use Rattle.std.proofs.Common.{◌<◌, ◌≤◌, [], ◌∷◌, ◌++◌, lengt
 use Rattle.std.proofs.lemmas.List.{take_more}
 use Rattle.carte_record.specs.Kept.{kept_view}
 use Rattle.carte_table.proofs.Fronts.{take_whole}
-use Rattle.carte_restart.specs.Led.{AreNeeded, needs_in}
+use Rattle.carte_restart.specs.Led.{AreNeeded}
 use Rattle.carte_restart.proofs.Leading.{needed_none, needed_more}
 use Rattle.carte_restart.proofs.first.needed.Goals as goal
 

@@ -1,4 +1,3 @@
-use Rattle.std.proofs.Common.{Err}
 use Rattle.carte_bench.specs.Held.{spots_of}
 use Rattle.carte_restart.proofs.Renewing.{has_stopped, renews_put}
 use Rattle.carte_restart.proofs.turns.drive.Goals as goal

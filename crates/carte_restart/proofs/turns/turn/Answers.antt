@@ -1,4 +1,4 @@
-use Rattle.std.proofs.Common.{ℕ, List, [], ◌∷◌, None, Result, Ok, Err, sym, subst}
+use Rattle.std.proofs.Common.{ℕ, List, ◌∷◌, None, Ok, Err, sym, subst}
 use Rattle.std.specs.Prelude.{OnOk}
 use Rattle.carte_effect.specs.Ledger.{Ledger}
 use Rattle.carte_bench.specs.declared.slot.Slot.TheVariants.{Stopped, Done}
@@ -32,11 +32,10 @@ drive-requires-clause-rule g c κs within =
 pub open_stop-requires-after_bounds : goal.open_stop-requires-after_bounds
 open_stop-requires-after_bounds g c κs within =
     let b = book_view c.args.book.now in
-    let K = kept_view c.args.kept.now in
     let name = g.R.Job.Job.name in
     let started = g.R.Job.Job.started in
     let gives = g.R.Job.Job.gives in
-    let begun = g.R.Rebuilder.begun c.args.rebuilder.now K b in
+    let begun = g.R.Rebuilder.begun c.args.rebuilder.now (kept_view c.args.kept.now) b in
     let old = spots_of c.args.bench.now in
     let mid = spots_of c.drive.new.bench in
     let r = c.args.work.now.runs in
@@ -50,11 +49,10 @@ open_stop-requires-after_bounds g c κs within =
 pub returns-in-Ok-clause-standing : goal.returns-in-Ok-clause-standing
 returns-in-Ok-clause-standing g c =
     let b = book_view c.args.book.now in
-    let K = kept_view c.args.kept.now in
     let name = g.R.Job.Job.name in
     let started = g.R.Job.Job.started in
     let gives = g.R.Job.Job.gives in
-    let begun = g.R.Rebuilder.begun c.args.rebuilder.now K b in
+    let begun = g.R.Rebuilder.begun c.args.rebuilder.now (kept_view c.args.kept.now) b in
     let old = spots_of c.args.bench.now in
     let mid = spots_of c.drive.new.bench in
     let r = c.args.work.now.runs in
@@ -69,11 +67,10 @@ returns-in-Ok-clause-standing g c =
 pub returns-in-Ok-clause-fewer : goal.returns-in-Ok-clause-fewer
 returns-in-Ok-clause-fewer g c =
     let b = book_view c.args.book.now in
-    let K = kept_view c.args.kept.now in
     let name = g.R.Job.Job.name in
     let started = g.R.Job.Job.started in
     let gives = g.R.Job.Job.gives in
-    let begun = g.R.Rebuilder.begun c.args.rebuilder.now K b in
+    let begun = g.R.Rebuilder.begun c.args.rebuilder.now (kept_view c.args.kept.now) b in
     let old = spots_of c.args.bench.now in
     let mid = spots_of c.drive.new.bench in
     let r = c.args.work.now.runs in
@@ -88,11 +85,10 @@ returns-in-Ok-clause-fewer g c =
 pub returns-in-Ok-clause-known : goal.returns-in-Ok-clause-known
 returns-in-Ok-clause-known g c =
     let b = book_view c.args.book.now in
-    let K = kept_view c.args.kept.now in
     let name = g.R.Job.Job.name in
     let started = g.R.Job.Job.started in
     let gives = g.R.Job.Job.gives in
-    let begun = g.R.Rebuilder.begun c.args.rebuilder.now K b in
+    let begun = g.R.Rebuilder.begun c.args.rebuilder.now (kept_view c.args.kept.now) b in
     let old = spots_of c.args.bench.now in
     let mid = spots_of c.drive.new.bench in
     let r = c.args.work.now.runs in
@@ -107,11 +103,10 @@ returns-in-Ok-clause-known g c =
 pub returns-in-Ok-clause-goes : goal.returns-in-Ok-clause-goes
 returns-in-Ok-clause-goes g c =
     let b = book_view c.args.book.now in
-    let K = kept_view c.args.kept.now in
     let name = g.R.Job.Job.name in
     let started = g.R.Job.Job.started in
     let gives = g.R.Job.Job.gives in
-    let begun = g.R.Rebuilder.begun c.args.rebuilder.now K b in
+    let begun = g.R.Rebuilder.begun c.args.rebuilder.now (kept_view c.args.kept.now) b in
     let old = spots_of c.args.bench.now in
     let mid = spots_of c.drive.new.bench in
     let r = c.args.work.now.runs in
@@ -120,6 +115,7 @@ returns-in-Ok-clause-goes g c =
     let ks = c.args.path.now.items in
     let m = c.in-Ok.made in
     let turned = subst (λ (bk : Book). TurnedAnew name started gives (λ i j. begun (λ q. None) i j) bk old mid r s k (Ok m)) c.requires.book (rw c.in-Ok.is at (c.in_ok-came.ensures {u = tt}).turned) in
+    let K = kept_view c.args.kept.now in
     let h = g.R.Rebuilder.how c.args.rebuilder.now in
     let fits = g.R.Job.Job.fits in
     let ready = c.requires.standing.chain.0 in
@@ -133,11 +129,10 @@ returns-in-Ok-clause-goes g c =
 pub returns-in-Ok-clause-straight : goal.returns-in-Ok-clause-straight
 returns-in-Ok-clause-straight g c =
     let b = book_view c.args.book.now in
-    let K = kept_view c.args.kept.now in
     let name = g.R.Job.Job.name in
     let started = g.R.Job.Job.started in
     let gives = g.R.Job.Job.gives in
-    let begun = g.R.Rebuilder.begun c.args.rebuilder.now K b in
+    let begun = g.R.Rebuilder.begun c.args.rebuilder.now (kept_view c.args.kept.now) b in
     let old = spots_of c.args.bench.now in
     let mid = spots_of c.drive.new.bench in
     let r = c.args.work.now.runs in
@@ -153,11 +148,10 @@ returns-in-Ok-clause-straight g c =
 pub returns-in_ok-push-in-Err-clause-standing : goal.returns-in_ok-push-in-Err-clause-standing
 returns-in_ok-push-in-Err-clause-standing g c =
     let b = book_view c.args.book.now in
-    let K = kept_view c.args.kept.now in
     let name = g.R.Job.Job.name in
     let started = g.R.Job.Job.started in
     let gives = g.R.Job.Job.gives in
-    let begun = g.R.Rebuilder.begun c.args.rebuilder.now K b in
+    let begun = g.R.Rebuilder.begun c.args.rebuilder.now (kept_view c.args.kept.now) b in
     let old = spots_of c.args.bench.now in
     let mid = spots_of c.drive.new.bench in
     let r = c.args.work.now.runs in
@@ -169,19 +163,17 @@ returns-in_ok-push-in-Err-clause-standing g c =
     let new = spots_of c.open_stop.new.bench in
     let path = c.open_stop.new.path.items in
     let at = name_of stuck in
-    let pushed = c.in_ok-push-in-Err.ensures {u = tt} in
-    let opens = subst (λ (p : List (List ℕ)). OnOk c.open_stop.result (Opens name started (λ i j. begun (λ q. None) i j) b mid new p path at)) pushed c.open_stop.ensures.opens in
+    let opens = subst (λ (p : List (List ℕ)). OnOk c.open_stop.result (Opens name started (λ i j. begun (λ q. None) i j) b mid new p path at)) (c.in_ok-push-in-Err.ensures {u = tt}) c.open_stop.ensures.opens in
     let halted = anew_halts name started gives (λ i j. begun (λ q. None) i j) b old mid r s k stuck anew ks c.requires.standing in
     on_ok_by c.open_stop.result (λ o. stands_opens name b started (λ i j. begun (λ q. None) i j) mid new (k ∷ ks) at halted path o) opens
 
 pub returns-in_ok-push-in-Err-clause-fewer : goal.returns-in_ok-push-in-Err-clause-fewer
 returns-in_ok-push-in-Err-clause-fewer g c =
     let b = book_view c.args.book.now in
-    let K = kept_view c.args.kept.now in
     let name = g.R.Job.Job.name in
     let started = g.R.Job.Job.started in
     let gives = g.R.Job.Job.gives in
-    let begun = g.R.Rebuilder.begun c.args.rebuilder.now K b in
+    let begun = g.R.Rebuilder.begun c.args.rebuilder.now (kept_view c.args.kept.now) b in
     let old = spots_of c.args.bench.now in
     let mid = spots_of c.drive.new.bench in
     let r = c.args.work.now.runs in
@@ -193,20 +185,17 @@ returns-in_ok-push-in-Err-clause-fewer g c =
     let new = spots_of c.open_stop.new.bench in
     let path = c.open_stop.new.path.items in
     let at = name_of stuck in
-    let pushed = c.in_ok-push-in-Err.ensures {u = tt} in
-    let opens = subst (λ (p : List (List ℕ)). OnOk c.open_stop.result (Opens name started (λ i j. begun (λ q. None) i j) b mid new p path at)) pushed c.open_stop.ensures.opens in
-    let put = anew_put name started gives (λ i j. begun (λ q. None) i j) b old mid r s k stuck anew in
-    let known = known_put old mid k (Stopped anew.job at) put in
+    let opens = subst (λ (p : List (List ℕ)). OnOk c.open_stop.result (Opens name started (λ i j. begun (λ q. None) i j) b mid new p path at)) (c.in_ok-push-in-Err.ensures {u = tt}) c.open_stop.ensures.opens in
+    let known = known_put old mid k (Stopped anew.job at) (anew_put name started gives (λ i j. begun (λ q. None) i j) b old mid r s k stuck anew) in
     on_ok_by c.open_stop.result (λ o. opened_fewer name started (λ i j. begun (λ q. None) i j) b old mid new k ks path at known o) opens
 
 pub returns-in_ok-push-in-Err-clause-known : goal.returns-in_ok-push-in-Err-clause-known
 returns-in_ok-push-in-Err-clause-known g c =
     let b = book_view c.args.book.now in
-    let K = kept_view c.args.kept.now in
     let name = g.R.Job.Job.name in
     let started = g.R.Job.Job.started in
     let gives = g.R.Job.Job.gives in
-    let begun = g.R.Rebuilder.begun c.args.rebuilder.now K b in
+    let begun = g.R.Rebuilder.begun c.args.rebuilder.now (kept_view c.args.kept.now) b in
     let old = spots_of c.args.bench.now in
     let mid = spots_of c.drive.new.bench in
     let r = c.args.work.now.runs in
@@ -218,20 +207,17 @@ returns-in_ok-push-in-Err-clause-known g c =
     let new = spots_of c.open_stop.new.bench in
     let path = c.open_stop.new.path.items in
     let at = name_of stuck in
-    let pushed = c.in_ok-push-in-Err.ensures {u = tt} in
-    let opens = subst (λ (p : List (List ℕ)). OnOk c.open_stop.result (Opens name started (λ i j. begun (λ q. None) i j) b mid new p path at)) pushed c.open_stop.ensures.opens in
-    let put = anew_put name started gives (λ i j. begun (λ q. None) i j) b old mid r s k stuck anew in
-    let known = known_put old mid k (Stopped anew.job at) put in
+    let opens = subst (λ (p : List (List ℕ)). OnOk c.open_stop.result (Opens name started (λ i j. begun (λ q. None) i j) b mid new p path at)) (c.in_ok-push-in-Err.ensures {u = tt}) c.open_stop.ensures.opens in
+    let known = known_put old mid k (Stopped anew.job at) (anew_put name started gives (λ i j. begun (λ q. None) i j) b old mid r s k stuck anew) in
     on_ok_by c.open_stop.result (λ o q x is. (let one = known q x is in (known_opens name started (λ i j. begun (λ n. None) i j) b mid new (k ∷ ks) path at o).0 q one.0 one.1)) opens
 
 pub returns-in_ok-push-in-Err-clause-goes : goal.returns-in_ok-push-in-Err-clause-goes
 returns-in_ok-push-in-Err-clause-goes g c =
     let b = book_view c.args.book.now in
-    let K = kept_view c.args.kept.now in
     let name = g.R.Job.Job.name in
     let started = g.R.Job.Job.started in
     let gives = g.R.Job.Job.gives in
-    let begun = g.R.Rebuilder.begun c.args.rebuilder.now K b in
+    let begun = g.R.Rebuilder.begun c.args.rebuilder.now (kept_view c.args.kept.now) b in
     let old = spots_of c.args.bench.now in
     let mid = spots_of c.drive.new.bench in
     let r = c.args.work.now.runs in
@@ -243,8 +229,8 @@ returns-in_ok-push-in-Err-clause-goes g c =
     let new = spots_of c.open_stop.new.bench in
     let path = c.open_stop.new.path.items in
     let at = name_of stuck in
-    let pushed = c.in_ok-push-in-Err.ensures {u = tt} in
-    let opens = subst (λ (p : List (List ℕ)). OnOk c.open_stop.result (Opens name started (λ i j. begun (λ q. None) i j) b mid new p path at)) pushed c.open_stop.ensures.opens in
+    let opens = subst (λ (p : List (List ℕ)). OnOk c.open_stop.result (Opens name started (λ i j. begun (λ q. None) i j) b mid new p path at)) (c.in_ok-push-in-Err.ensures {u = tt}) c.open_stop.ensures.opens in
+    let K = kept_view c.args.kept.now in
     let h = g.R.Rebuilder.how c.args.rebuilder.now in
     let fits = g.R.Job.Job.fits in
     let ready = c.requires.standing.chain.0 in
@@ -259,11 +245,10 @@ returns-in_ok-push-in-Err-clause-goes g c =
 pub returns-in_ok-push-in-Err-clause-straight : goal.returns-in_ok-push-in-Err-clause-straight
 returns-in_ok-push-in-Err-clause-straight g c =
     let b = book_view c.args.book.now in
-    let K = kept_view c.args.kept.now in
     let name = g.R.Job.Job.name in
     let started = g.R.Job.Job.started in
     let gives = g.R.Job.Job.gives in
-    let begun = g.R.Rebuilder.begun c.args.rebuilder.now K b in
+    let begun = g.R.Rebuilder.begun c.args.rebuilder.now (kept_view c.args.kept.now) b in
     let old = spots_of c.args.bench.now in
     let mid = spots_of c.drive.new.bench in
     let r = c.args.work.now.runs in
@@ -272,11 +257,7 @@ returns-in_ok-push-in-Err-clause-straight g c =
     let ks = c.args.path.now.items in
     let stuck = c.in-Err.stuck in
     let anew = subst (λ (bk : Book). TurnedAnew name started gives (λ i j. begun (λ q. None) i j) bk old mid r s k (Err stuck)) c.requires.book (rw c.in-Err.is at (c.in_ok-came.ensures {u = tt}).turned) in
-    let new = spots_of c.open_stop.new.bench in
-    let path = c.open_stop.new.path.items in
-    let at = name_of stuck in
-    let pushed = c.in_ok-push-in-Err.ensures {u = tt} in
-    let opens = subst (λ (p : List (List ℕ)). OnOk c.open_stop.result (Opens name started (λ i j. begun (λ q. None) i j) b mid new p path at)) pushed c.open_stop.ensures.opens in
+    let K = kept_view c.args.kept.now in
     let h = g.R.Rebuilder.how c.args.rebuilder.now in
     let fits = g.R.Job.Job.fits in
     let ready = c.requires.standing.chain.0 in
