@@ -78,7 +78,7 @@ apart k [] all nowhere = nowhere
 apart k (j ∷ js) all (inl same) = let e : false ≡ true = sym all.0 ∙ (ap (name_eq k) (sym same) ∙ name_eq_self k) in cc
 apart k (j ∷ js) all (inr later) = apart k js all.1 later
 
-none_twice : (ks : List (List ℕ)) → IsDistinct name_eq ks → NoneTwice ks
+pub none_twice : (ks : List (List ℕ)) → IsDistinct name_eq ks → NoneTwice ks
 unfolding IsDistinct
 none_twice [] distinct = tt
 none_twice (k ∷ ks) distinct = (apart k ks distinct.0, none_twice ks distinct.1)

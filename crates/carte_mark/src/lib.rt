@@ -32,4 +32,6 @@ mod users;
 mod walk;
 
 pub use base::{Begun, begin};
-pub use marking::mark;
+pub use marking::{listed, mark};
+pub use set::{NameSet, holds};
+pub use walk::put_each;

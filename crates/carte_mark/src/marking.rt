@@ -63,7 +63,8 @@ fn is_to_mark(entries: &Entries, reached: &NameSet, name: &Name) -> bool
     }
 }
 
-fn listed(alloc: Global, marks: Vec<Name>) -> Result<Names, NoMemory>
+/// These names as a list.
+pub fn listed(alloc: Global, marks: Vec<Name>) -> Result<Names, NoMemory>
     ensures { IfOk result (λ names. names ≡ marks.items) }
 {
     let mut names = Names::with_room(alloc, marks.len())?;

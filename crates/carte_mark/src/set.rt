@@ -9,7 +9,7 @@ use indexmap::IndexSet;
 use std::alloc::Global;
 
 /// A set of names, in the order in which they were put there.
-pub(crate) type NameSet = IndexSet<Name, Seeded>;
+pub type NameSet = IndexSet<Name, Seeded>;
 
 /// Puts a name into the set, behind the others where it isn't there.
 pub(crate) fn put(alloc: Global, name: &Name, names: &mut NameSet) -> Result<(), NoMemory>
@@ -35,7 +35,7 @@ pub(crate) fn meets(needs: &Names, names: &NameSet) -> bool
 }
 
 /// Whether the name is in the set.
-pub(crate) fn holds(names: &NameSet, name: &Name) -> bool
+pub fn holds(names: &NameSet, name: &Name) -> bool
     ensures { (result ≡ true) ↔ Among names.now.keys name.now }
 {
     names.contains(name)

@@ -57,7 +57,8 @@ fn put_users(
     }
 }
 
-fn put_each(alloc: Global, keys: &Names, reached: &mut NameSet) -> Result<(), NoMemory>
+/// Puts each of these names into a set, behind the others where it isn't there.
+pub fn put_each(alloc: Global, keys: &Names, reached: &mut NameSet) -> Result<(), NoMemory>
     ensures { OnOk result (reached.new.keys ≡ put_all reached.old.keys keys.now) }
 {
     for key in keys.as_slice() {

@@ -1,0 +1,12 @@
+pub mod Counting
+pub mod Tallying
+pub mod Renewing
+pub mod Goings
+pub mod Straight
+pub mod Ending
+pub mod Leading
+pub mod Picking
+pub mod Chaining
+pub mod Right
+pub mod Restarted
+pub mod Built

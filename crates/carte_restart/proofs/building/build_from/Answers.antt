@@ -1,0 +1,70 @@
+use Rattle.std.proofs.Common.{ℕ, List, [], ◌++◌, Some, None, refl, sym, subst}
+use Rattle.carte_value.specs.Truths.{Among}
+use Rattle.carte_value.proofs.Members.{among_left, among_right}
+use Rattle.carte_book.specs.Book.{Book, book_view}
+use Rattle.carte_book.specs.Needs.{IsRule}
+use Rattle.carte_record.specs.Kept.{kept_view}
+use Rattle.carte_sound.specs.Base.{IsBase}
+use Rattle.carte_bench.specs.Held.{spots_of, book_of}
+use Rattle.carte_bench.specs.Waits.{onward}
+use Rattle.carte_progress.specs.Reasons.{FirstReason}
+use Rattle.carte_restart.specs.Going.{IsRestarting}
+use Rattle.carte_restart.specs.Straight.{IsPrepared, IsStraight}
+use Rattle.carte_restart.proofs.Built.{both_demanded, built_all, built_refused}
+use Rattle.carte_restart.proofs.Goings.{going_none}
+use Rattle.carte_restart.proofs.Straight.{straight_none}
+use Rattle.carte_restart.proofs.building.build_from.Goals as goal
+
+pub returns-in-None : goal.returns-in-None
+returns-in-None g c =
+    let b = book_view c.args.book.now in
+    let K = kept_view c.args.kept.now in
+    let h = g.R.Rebuilder.how c.args.rebuilder.now in
+    let started = g.R.Job.Job.started in
+    let fits = g.R.Job.Job.fits in
+    let begun = g.R.Rebuilder.begun c.args.rebuilder.now K b in
+    let list = c.args.list.now in
+    let ts = c.args.targets.now in
+    let s = spots_of c.treat_all-2.new.bench in
+    let one = c.in_ok-treat_all.ensures {u = tt} in
+    let two = c.in_ok-treat_all-2.ensures {u = tt} in
+    let listed = λ (t : List ℕ) (here : Among list t) (held : IsRule b t). one.demanded t (subst (λ (l : List (List ℕ)). Among l t) (sym c.as_slice.ensures) here) held in
+    let demanded = both_demanded b (spots_of c.treat_all.new.bench) s list ts listed two.known (λ t here held. two.demanded t (subst (λ (l : List (List ℕ)). Among l t) (sym c.as_slice-2.ensures) here) held) in
+    let within_list = λ (t : List ℕ) (here : Among c.as_slice.result.now t). among_left list ts t (subst (λ (l : List (List ℕ)). Among l t) c.as_slice.ensures here) in
+    let within_targets = λ (t : List ℕ) (here : Among c.as_slice-2.result.now t). among_right list ts t (subst (λ (l : List (List ℕ)). Among l t) c.as_slice-2.ensures here) in
+    let none : IsRestarting started fits begun h K b (list ++ ts) (spots_of c.new-bench.result) c.in_ok-work.work.finished c.in_ok-work.work.runs = rw ((c.in_ok-work.ensures {u = tt}).finished, (c.in_ok-work.ensures {u = tt}).runs) (going_none started fits begun h K b (list ++ ts) (spots_of c.new-bench.result) c.new-bench.ensures.empty) in
+    let mid = λ (H : List Book) (base : IsBase K b H). one.goes (list ++ ts) within_list H base none in
+    let going = λ (H : List Book) (base : IsBase K b H). two.goes (list ++ ts) within_targets H base (mid H base) in
+    let asked = rw c.in-None.is at (c.in_ok-first_reason.ensures {u = tt}) in
+    let first = subst (λ (bk : Book). FirstReason (onward bk s) ts (None)) two.book (subst (λ (l : List (List ℕ)). FirstReason (onward (book_of c.treat_all-2.new.bench) s) l (None)) c.as_slice-3.ensures asked) in
+    let ended = c.in_ok-with_chain-in-None.ensures {u = tt} in
+    let idle : IsStraight (spots_of c.new-bench.result) c.in_ok-work.work.runs = rw ((c.in_ok-work.ensures {u = tt}).runs) (straight_none (spots_of c.new-bench.result) c.new-bench.ensures.empty) in
+    let straight = λ (H : List Book) (base : IsBase K b H) (prepared : IsPrepared b [] list) (behind : IsPrepared b list ts).
+    let half = one.straight (list ++ ts) within_list H base none idle ([], (λ j nowhere held. absurd nowhere), subst (λ (l : List (List ℕ)). IsPrepared b [] l) (sym c.as_slice.ensures) prepared) in
+    (two.straight (list ++ ts) within_targets H base (mid H base) half (list, listed, subst (λ (l : List (List ℕ)). IsPrepared b list l) (sym c.as_slice-2.ensures) behind)).ended in
+    built_all g.R.Job.Job.name started fits begun h K b list ts s two.standing c.treat_all-2.new.work c.in_ok-with_chain-in-None.field-0 ended.chain ended.finished ended.runs demanded c.treat_all-2.new.bench.slots.entries (λ q. refl) going first straight
+
+pub returns : goal.returns
+returns g c =
+    let b = book_view c.args.book.now in
+    let K = kept_view c.args.kept.now in
+    let h = g.R.Rebuilder.how c.args.rebuilder.now in
+    let started = g.R.Job.Job.started in
+    let fits = g.R.Job.Job.fits in
+    let begun = g.R.Rebuilder.begun c.args.rebuilder.now K b in
+    let list = c.args.list.now in
+    let ts = c.args.targets.now in
+    let s = spots_of c.treat_all-2.new.bench in
+    let one = c.in_ok-treat_all.ensures {u = tt} in
+    let two = c.in_ok-treat_all-2.ensures {u = tt} in
+    let listed = λ (t : List ℕ) (here : Among list t) (held : IsRule b t). one.demanded t (subst (λ (l : List (List ℕ)). Among l t) (sym c.as_slice.ensures) here) held in
+    let demanded = both_demanded b (spots_of c.treat_all.new.bench) s list ts listed two.known (λ t here held. two.demanded t (subst (λ (l : List (List ℕ)). Among l t) (sym c.as_slice-2.ensures) here) held) in
+    let within_list = λ (t : List ℕ) (here : Among c.as_slice.result.now t). among_left list ts t (subst (λ (l : List (List ℕ)). Among l t) c.as_slice.ensures here) in
+    let within_targets = λ (t : List ℕ) (here : Among c.as_slice-2.result.now t). among_right list ts t (subst (λ (l : List (List ℕ)). Among l t) c.as_slice-2.ensures here) in
+    let none : IsRestarting started fits begun h K b (list ++ ts) (spots_of c.new-bench.result) c.in_ok-work.work.finished c.in_ok-work.work.runs = rw ((c.in_ok-work.ensures {u = tt}).finished, (c.in_ok-work.ensures {u = tt}).runs) (going_none started fits begun h K b (list ++ ts) (spots_of c.new-bench.result) c.new-bench.ensures.empty) in
+    let mid = λ (H : List Book) (base : IsBase K b H). one.goes (list ++ ts) within_list H base none in
+    let going = λ (H : List Book) (base : IsBase K b H). two.goes (list ++ ts) within_targets H base (mid H base) in
+    let asked = rw c.in-Some.is at (c.in_ok-first_reason.ensures {u = tt}) in
+    let first = subst (λ (bk : Book). FirstReason (onward bk s) ts (Some c.in-Some.reason)) two.book (subst (λ (l : List (List ℕ)). FirstReason (onward (book_of c.treat_all-2.new.bench) s) l (Some c.in-Some.reason)) c.as_slice-3.ensures asked) in
+    let ended = c.in_ok-with_chain-in-Some.ensures {u = tt} in
+    built_refused g.R.Job.Job.name started fits begun h K b list ts s two.standing c.treat_all-2.new.work c.in_ok-with_chain-in-Some.field-0 ended.chain ended.finished ended.runs demanded c.treat_all-2.new.bench.slots.entries (λ q. refl) going c.in-Some.reason first

@@ -1,0 +1,6 @@
+pub mod Anew
+pub mod Going
+pub mod Straight
+pub mod Led
+pub mod Chained
+pub mod Ending
