@@ -1,5 +1,5 @@
 -- How often names stand in lists, and what that tells of lengths.
-use Rattle.std.proofs.Common.{◌≡◌, ℕ, ◌+◌, ◌≤◌, Bool, true, false, cond, List, [], ◌∷◌, length, refl, ap, sym, ◌∙◌, subst, arith}
+use Rattle.std.proofs.Common.{◌≡◌, ℕ, ◌+◌, ◌≤◌, Bool, true, false, cond, List, [], ◌∷◌, length, refl, ap, sym, arith}
 use Rattle.carte_name.specs.Names.{name_eq}
 use Rattle.carte_effect.specs.Ledger.{Ledger, given_up}
 use Rattle.carte_table.proofs.Names.{name_eq_is, name_eq_self}
