@@ -1,4 +1,5 @@
 pub mod Sorting
+pub mod Counting
 pub mod Running
 pub mod Marking
 pub mod Succeeding

@@ -1,8 +1,9 @@
 -- What work that is done rightly has made.
 use Rattle.std.proofs.Common.{◌≡◌, ℕ, ◌≤◌, cond, List, [], ◌∷◌, Option, Some, None, map, length, refl, ap, sym, ◌∙◌, subst, inl, inr, arith}
 use Rattle.carte_name.specs.Names.{name_eq}
-use Rattle.carte_value.specs.Truths.{Among, NoneTwice}
+use Rattle.carte_value.specs.Truths.{Among, IsListOf, NoneTwice}
 use Rattle.carte_value.proofs.Members.{name_apart, no_longer, same_or_not}
+use Rattle.carte_effect.specs.Ledger.{given_up as left_open}
 use Rattle.carte_effect.specs.declared.outcome.Made.{Made}
 use Rattle.carte_effect.specs.declared.outcome.Made.TheVariants.{Ran, Reused}
 use Rattle.carte_book.specs.Book.{Book, Item, input, rule, content, clean}
@@ -12,21 +13,23 @@ use Rattle.carte_book.proofs.Clean.{clean_input, clean_nothing}
 use Rattle.carte_record.specs.Kept.{SomeKept}
 use Rattle.carte_table.proofs.Names.{name_eq_self}
 use Rattle.carte_sound.specs.Begun.{AreMarks, begin}
+use Rattle.carte_sound.specs.Chains.{IsRightChain}
 use Rattle.carte_sound.specs.Held.{How, IsHeld}
 use Rattle.carte_sound.specs.Left.{keys_of}
 use Rattle.carte_sound.specs.Treated as treated
-use Rattle.carte_sound.specs.Treated.{IsRun}
+use Rattle.carte_sound.specs.Treated.{IsDoneRestarting, IsRun, IsTreatedRestarting}
 use Rattle.carte_note.specs.declared.finished.Finished.{Finished}
 use Rattle.carte_note.specs.Lists.{finished_of}
 use Rattle.carte_note.specs.Right.{AreRight, IsRightFinished, IsRightMade, finishes_of, has_run, key_of, ran_in}
 use Rattle.carte_rebuild.specs.declared.work.Work.{Work}
-use Rattle.carte_rebuild.specs.Ends.{IsWork, NothingGivenUp}
-use Rattle.carte_engine.specs.Answers.{AreValues, IsLedgerOf, IsSuccess}
+use Rattle.carte_rebuild.specs.Ends.{AllEnded, GivesUp, IsWork, NothingGivenUp}
+use Rattle.carte_engine.specs.Answers.{AreValues, GivesFewUp, HasEnded, HasStarted, IsSuccess, StartsBy}
 use Rattle.carte_engine.specs.Reckoned.{IsReckoned, value_at, value_found, value_made}
 use Rattle.carte_engine.specs.Schedulers.{IsDoneBy, IsServed}
 use Rattle.carte_engine.specs.declared.answer.Built.{Built}
 use Rattle.carte_engine.specs.declared.scheduler.Scheduler.{Scheduler}
-use Rattle.carte_engine.specs.declared.scheduler.Scheduler.TheVariants.{Topological, Suspending}
+use Rattle.carte_engine.specs.declared.scheduler.Scheduler.TheVariants.{Topological, Restarting, Suspending}
+use Rattle.carte_engine.proofs.Counting.{none_given_up}
 use Rattle.carte_engine.proofs.Sorting.{rising_once, same_length, sorted, sorted_list}
 
 module _ (h : How) (M : SomeKept) (b : Book) where
@@ -90,30 +93,47 @@ keys_length (f ∷ fs) = omega (arith, keys_length fs)
 -- a target that is a rule is done
 target_done : (s : Scheduler) (h : How) (M : SomeKept) (b : Book) (targets : List (List ℕ)) (k : List ℕ) → Among targets k → IsRule b k → IsClean b k → IsDoneBy s h M b targets k
 target_done Topological h M b targets k among is_rule is_clean = ((is_rule, target among), is_clean)
+target_done Restarting h M b targets k among is_rule is_clean = (treated.IsTreatedRestarting.target among is_rule, is_clean)
 target_done Suspending h M b targets k among is_rule is_clean = (treated.IsTreated.target among is_rule, is_clean)
 
 served_clean : (s : Scheduler) (b : Book) (targets : List (List ℕ)) → IsServed s b targets → AllClean b targets
 served_clean Topological b targets served = served.1
+served_clean Restarting b targets served = served
 served_clean Suspending b targets served = served
 
--- what was started has ended, and what has ended has run
-ledger_of : (h : How) (M : SomeKept) (b : Book) (targets : List (List ℕ)) (done : List ℕ → Type 0) (w : Work) (built : Built) → IsWork h M b done w → NothingGivenUp w → IsReckoned b targets w built → IsLedgerOf built.ran built.runs
-ledger_of h M b targets done w built work nothing reckoned = rw reckoned.runs (record {
-  started_once = nothing.once;
-  started = λ k. (
-    (λ there. reckoned.ran.each k (subst (λ ks. Among ks k) work.ends (nothing.only k there))),
-    (λ there. nothing.each k (subst (λ ks. Among ks k) (sym work.ends) (reckoned.ran.only k there))),
-  );
-  ended_once = subst NoneTwice (sym work.ends) (ran_once h M b w.finished work.right work.order.once);
-  ended = λ k. (
-    (λ there. reckoned.ran.each k (subst (λ ks. Among ks k) work.ends there)),
-    (λ there. subst (λ ks. Among ks k) (sym work.ends) (reckoned.ran.only k there)),
-  );
+-- what has ended has run
+has_ended : (h : How) (M : SomeKept) (b : Book) (targets : List (List ℕ)) (done : List ℕ → Type 0) (w : Work) (built : Built) → IsWork h M b done w → IsReckoned b targets w built → HasEnded built.ran built.runs
+has_ended h M b targets done w built work reckoned = rw reckoned.runs (record {
+  once = subst NoneTwice (sym work.ends) (ran_once h M b w.finished work.right work.order.once);
+  all = subst (λ ks. IsListOf (Among ks) built.ran) (sym work.ends) reckoned.ran;
 })
 
+-- nothing is given up where each task that was started has ended
+pub starts_once : (h : How) (M : SomeKept) (b : Book) (targets : List (List ℕ)) (done : List ℕ → Type 0) (w : Work) (built : Built) → IsWork h M b done w → NothingGivenUp w → IsReckoned b targets w built
+    → HasStarted built.ran built.runs × (built.given_up ≡ 0)
+starts_once h M b targets done w built work nothing reckoned =
+    let fewer : length w.runs.starts ≤ length w.runs.ends = no_longer w.runs.starts w.runs.ends nothing.once nothing.only in
+    let ran : IsListOf (Among w.runs.ends) built.ran = subst (λ ks. IsListOf (Among ks) built.ran) (sym work.ends) reckoned.ran in
+    (rw reckoned.runs (record {
+      once = nothing.once;
+      all = record {
+        rising = ran.rising;
+        only = λ k there. nothing.each k (ran.only k there);
+        each = λ k there. ran.each k (nothing.only k there);
+      };
+    }), omega (arith, reckoned.given_up, fewer))
+
+-- where rules are begun anew the ledger of the work tells how few
+pub gives_few : (h : How) (M : SomeKept) (b : Book) (targets : List (List ℕ)) (w : Work) (built : Built) → GivesUp b targets (IsTreatedRestarting h M b targets) w.runs
+    → (IsRightChain M b targets → AllEnded w.runs) → IsReckoned b targets w built → GivesFewUp h M b targets built
+gives_few h M b targets w built few straight reckoned = record {
+  few = subst (GivesUp b targets (IsTreatedRestarting h M b targets)) (sym reckoned.runs) few;
+  none = λ right. reckoned.given_up ∙ none_given_up w.runs (straight right);
+}
+
 pub succeeds : (s : Scheduler) (h : How) (K : SomeKept) (b : Book) (targets marks : List (List ℕ)) (w : Work) (built : Built) → AreMarks K b marks → IsServed s b targets
-    → IsWork h (begin K b marks) b (IsDoneBy s h (begin K b marks) b targets) w → NothingGivenUp w → IsReckoned b targets w built → IsSuccess s h K b targets built
-succeeds s h K b targets marks w built marked served work nothing reckoned =
+    → IsWork h (begin K b marks) b (IsDoneBy s h (begin K b marks) b targets) w → IsReckoned b targets w built → StartsBy s h (begin K b marks) b targets built → IsSuccess s h K b targets built
+succeeds s h K b targets marks w built marked served work reckoned starts =
     let M = begin K b marks in
     let fs = w.finished in
     let keys = keys_of (finishes_of fs) in
@@ -121,7 +141,6 @@ succeeds s h K b targets marks w built marked served work nothing reckoned =
     let each : (k : List ℕ) → Among targets k → IsClean b k → clean b k ≡ Some (value_found b fs k) = λ k among is_clean. value_is h M b fs k work.right (λ is_rule. work.order.each k (target_done s h M b targets k among is_rule is_clean)) is_clean in
     let fewer : length built.ran ≤ length keys = no_longer built.ran keys (rising_once built.ran reckoned.ran.rising) (λ k there. (ran_only h M b fs k work.right (reckoned.ran.only k there)).0) in
     let all : length keys ≡ length (sorted keys) = same_length keys (sorted keys) work.order.once (rising_once (sorted keys) done.rising) done.each done.only in
-    let ended : length w.runs.starts ≤ length w.runs.ends = no_longer w.runs.starts w.runs.ends nothing.once nothing.only in
     record {
       served = served;
       values = subst (AreValues (clean b) targets) (sym reckoned.values) (values_are h M b fs targets each (served_clean s b targets served));
@@ -139,6 +158,7 @@ succeeds s h K b targets marks w built marked served work nothing reckoned =
         each = λ k is_done. done.each k (work.order.each k is_done);
       };
       count = omega (arith, reckoned.reused, fewer, all, keys_length fs);
-      none_given_up = omega (arith, reckoned.given_up, ended);
-      ledger = ledger_of h M b targets (IsDoneBy s h M b targets) w built work nothing reckoned;
+      ended = has_ended h M b targets (IsDoneBy s h M b targets) w built work reckoned;
+      started = starts;
+      given_up = reckoned.given_up ∙ sym (ap left_open reckoned.runs);
     }

@@ -2,28 +2,31 @@
 use Rattle.std.specs.Prelude.{ℕ, ◌≡◌, ◌+◌, List, [], ◌∷◌, ◌++◌, length, Some}
 use Rattle.carte_value.specs.declared.value.Value.{Value}
 use Rattle.carte_value.specs.Truths.{Among, IsListOf, NoneTwice, Truth}
-use Rattle.carte_effect.specs.Ledger.{Ledger}
+use Rattle.carte_effect.specs.Ledger.{Ledger, given_up as left_open}
 use Rattle.carte_book.specs.Book.{Book, clean}
 use Rattle.carte_record.specs.declared.batch.Batch.{Batch}
 use Rattle.carte_record.specs.Kept.{SomeKept}
 use Rattle.carte_sound.specs.Base.{HasDistinctDigests}
 use Rattle.carte_sound.specs.Begun.{AreMarks, begin}
+use Rattle.carte_sound.specs.Chains.{IsRightChain}
 use Rattle.carte_sound.specs.Held.{How}
-use Rattle.carte_sound.specs.LeadsTo.{LeadsInOrder, LeadsRefused, LeadsSuspending}
+use Rattle.carte_sound.specs.LeadsTo.{LeadsInOrder, LeadsRefused, LeadsRestarting, LeadsSuspending}
 use Rattle.carte_sound.specs.Sound.{IsSound}
-use Rattle.carte_sound.specs.Treated.{IsRun}
+use Rattle.carte_sound.specs.Treated.{IsRun, IsTreatedRestarting}
+use Rattle.carte_rebuild.specs.Ends.{GivesUp}
 use Rattle.carte_engine.specs.declared.answer.Answer.{Answer}
 use Rattle.carte_engine.specs.declared.answer.Answer.TheVariants as answer
 use Rattle.carte_engine.specs.declared.answer.Built.{Built}
 use Rattle.carte_engine.specs.declared.answer.Plan.{Plan}
 use Rattle.carte_engine.specs.declared.scheduler.Scheduler.{Scheduler}
-use Rattle.carte_engine.specs.declared.scheduler.Scheduler.TheVariants.{Topological, Suspending}
+use Rattle.carte_engine.specs.declared.scheduler.Scheduler.TheVariants.{Topological, Restarting, Suspending}
 use Rattle.carte_engine.specs.Schedulers.{IsDoneBy, IsServed, IsRefusedFor}
 
 -- the batches that a build with such an answer may commit
 abbrev pub Leads : Scheduler → How → SomeKept → Book → List (List ℕ) → Answer → Batch → Type 0
 Leads Topological h K b targets (answer.Built built) B = LeadsInOrder h K b targets B
 Leads Topological h K b targets (answer.Refused reason) B = LeadsRefused h K b B
+Leads Restarting h K b targets a B = LeadsRestarting h K b targets B
 Leads Suspending h K b targets a B = LeadsSuspending h K b targets B
 
 -- these are the names' values, in their order
@@ -33,14 +36,28 @@ AreValues t [] (v ∷ vs) = ⊥
 AreValues t (k ∷ ks) [] = ⊥
 AreValues t (k ∷ ks) (v ∷ vs) = (t k ≡ Some v) × AreValues t ks vs
 
--- the task of each of these was started once and ended once, and no other was
-pub record IsLedgerOf (ran : List (List ℕ)) (r : Ledger) : Type 0 where
-  pub started_once : NoneTwice r.starts
-  pub started : (k : List ℕ) → (Among r.starts k → Among ran k) × (Among ran k → Among r.starts k)
-  pub ended_once : NoneTwice r.ends
-  pub ended : (k : List ℕ) → (Among r.ends k → Among ran k) × (Among ran k → Among r.ends k)
+-- the tasks of just these rules have ended, each once
+pub record HasEnded (ran : List (List ℕ)) (r : Ledger) : Type 0 where
+  pub once : NoneTwice r.ends
+  pub all : IsListOf (Among r.ends) ran
 
--- Each target has a clean value, and these are they. Exactly the rules that are done and not held ran, which the ledger tells too, and the others were reused.
+-- and those of just these were started, each once
+pub record HasStarted (ran : List (List ℕ)) (r : Ledger) : Type 0 where
+  pub once : NoneTwice r.starts
+  pub all : IsListOf (Among r.starts) ran
+
+-- Over what a build begins with, where rules are begun anew: of each rule few starts were in vain, and none at all where the kept chain is right.
+pub record GivesFewUp (h : How) (M : SomeKept) (b : Book) (targets : List (List ℕ)) (built : Built) : Type 0 where
+  pub few : GivesUp b targets (IsTreatedRestarting h M b targets) built.runs
+  pub none : IsRightChain M b targets → built.given_up ≡ 0
+
+-- which tasks were started: those that ended alone, but where rules are begun anew
+abbrev pub StartsBy : Scheduler → How → SomeKept → Book → List (List ℕ) → Built → Type 0
+StartsBy Topological h M b targets built = HasStarted built.ran built.runs × (built.given_up ≡ 0)
+StartsBy Restarting h M b targets built = GivesFewUp h M b targets built
+StartsBy Suspending h M b targets built = HasStarted built.ran built.runs × (built.given_up ≡ 0)
+
+-- Each target has a clean value, and these are they. Exactly the rules that are done and not held ran, which the build's ledger tells too, and the others were reused.
 pub record IsSuccess (s : Scheduler) (h : How) (K : SomeKept) (b : Book) (targets : List (List ℕ)) (built : Built) : Type 0 where
   pub served : IsServed s b targets
   pub values : AreValues (clean b) targets built.values
@@ -50,8 +67,9 @@ pub record IsSuccess (s : Scheduler) (h : How) (K : SomeKept) (b : Book) (target
   pub done : List (List ℕ)
   pub all_done : IsListOf (IsDoneBy s h (begin K b marks) b targets) done
   pub count : length built.ran + built.reused ≡ length done
-  pub none_given_up : built.given_up ≡ 0
-  pub ledger : IsLedgerOf built.ran built.runs
+  pub ended : HasEnded built.ran built.runs
+  pub started : StartsBy s h (begin K b marks) b targets built
+  pub given_up : built.given_up ≡ left_open built.runs
 
 abbrev pub IsAnswer : Scheduler → How → SomeKept → Book → List (List ℕ) → Answer → Type 0
 IsAnswer s h K b targets (answer.Built built) = IsSuccess s h K b targets built

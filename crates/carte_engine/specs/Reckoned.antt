@@ -9,18 +9,24 @@ use Rattle.carte_book.specs.Book.{Book, Item, input, rule, content}
 use Rattle.carte_note.specs.declared.finished.Finished.{Finished}
 use Rattle.carte_note.specs.Lists.{finished_of}
 use Rattle.carte_note.specs.Right.{ran_in}
+use Rattle.carte_record.specs.declared.batch.Batch.{Batch}
 use Rattle.carte_record.specs.Kept.{SomeKept}
 use Rattle.carte_rebuild.specs.declared.work.Work.{Work}
 use Rattle.carte_rebuild.specs.declared.work.WorkEnd.{WorkEnd}
-use Rattle.carte_rebuild.specs.Ends.{EndsInOrder, EndsSuspending}
+use Rattle.carte_rebuild.specs.Ends.{EndsInOrder, EndsRestarting, EndsSuspending, IsNewChain}
+use Rattle.carte_sound.specs.Begun.{begin}
 use Rattle.carte_sound.specs.Held.{How}
+use Rattle.carte_sound.specs.LeadsTo.{LeadsRestarting}
+use Rattle.carte_sound.specs.Treated.{IsDoneRestarting}
+use Rattle.carte_plan.specs.Planned.{IsBuilt, Plans}
 use Rattle.carte_engine.specs.declared.answer.Built.{Built}
 use Rattle.carte_engine.specs.declared.scheduler.Scheduler.{Scheduler}
-use Rattle.carte_engine.specs.declared.scheduler.Scheduler.TheVariants.{Topological, Suspending}
+use Rattle.carte_engine.specs.declared.scheduler.Scheduler.TheVariants.{Topological, Restarting, Suspending}
 
 -- how a scheduler comes to its end
 abbrev pub EndsBy : Scheduler → How → SomeKept → Book → List (List ℕ) → WorkEnd → Type 0
 EndsBy Topological h M b targets end = EndsInOrder h M b targets end
+EndsBy Restarting h M b targets end = EndsRestarting h M b targets end
 EndsBy Suspending h M b targets end = EndsSuspending h M b targets end
 
 abbrev pub value_made : Option Finished → Value
@@ -43,3 +49,8 @@ pub record IsReckoned (b : Book) (targets : List (List ℕ)) (w : Work) (built :
   pub reused : built.reused ≡ length w.finished - length built.ran
   pub given_up : built.given_up ≡ left_open w.runs
   pub runs : built.runs ≡ w.runs
+
+-- The batch of work that was done over M: that of its finished keys, and with the new chain where the work has one.
+pub record IsBatchOf (h : How) (K M : SomeKept) (b : Book) (marks : List (List ℕ)) (w : Work) (B : Batch) : Type 0 where
+  pub plain : w.chain ≡ None → Plans h K b marks w.finished B
+  pub chained : (targets : List (List ℕ)) → IsNewChain M w → IsBuilt h K b marks (IsDoneRestarting h (begin K b marks) b targets) w.finished → LeadsRestarting h K b targets B

@@ -23,7 +23,7 @@ pub fn plan_is_sound()
 {}
 
 /// Behind a build that was served each rule that its targets reach is kept with its clean value; under deep traces, where
-/// a rule waits for what it needs, each rule that was done is.
+/// rules aren't ordered before any is worked out, each rule that was done is.
 pub fn plan_keeps()
     ensures { (s : Scheduler) (h : How) (K : SomeKept) (H : List Book) (b : Book) (targets : List (List ℕ)) (built : Built) (B : Batch)
         → IsSound K H → HasDistinctDigests (H ++ b ∷ []) → IsServed s b targets → Leads s h K b targets (built_answer built) B → KeepsBy s h K (apply B K) b targets }

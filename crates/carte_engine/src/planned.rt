@@ -8,15 +8,16 @@ ghost use Rattle.carte_record.specs.Bodies.{IsUnmarked};
 ghost use Rattle.carte_record.specs.Kept.{SomeKept, kept_view};
 ghost use Rattle.carte_engine.specs.declared.scheduler.Scheduler.{Scheduler as SomeScheduler};
 ghost use Rattle.carte_engine.specs.Answers.{IsPlan, Under};
-ghost use Rattle.carte_engine.specs.Reckoned.{EndsBy};
+ghost use Rattle.carte_note.specs.Notes.{AreUnmarked};
+ghost use Rattle.carte_engine.specs.Reckoned.{EndsBy, IsBatchOf};
 
 use crate::reckon::reckon;
 use crate::{Answer, Plan, Scheduler};
 use carte_book::Book;
 use carte_mark::Begun;
-use carte_plan::plan;
-use carte_rebuild::{Rebuilder, WorkEnd};
-use carte_record::Kept;
+use carte_plan::{plan, plan_chained};
+use carte_rebuild::{Rebuilder, Work, WorkEnd};
+use carte_record::{Batch, Kept};
 use carte_value::{Digest, Names, NoMemory};
 use std::alloc::Global;
 
@@ -53,6 +54,7 @@ fn run<R: Rebuilder>(
 {
     match scheduler {
         Scheduler::Topological => carte_topo::build(alloc, rebuilder, kept, book, targets),
+        Scheduler::Restarting => carte_restart::build(alloc, rebuilder, kept, book, targets),
         Scheduler::Suspending => carte_suspend::build(alloc, rebuilder, kept, book, targets),
     }
 }
@@ -75,7 +77,7 @@ fn planned<R: Rebuilder>(
 {
     match end {
         WorkEnd::All(work) => {
-            let batch = plan(alloc, rebuilder, begun, base, rules, book, &work.finished)?;
+            let batch = batch_of(alloc, rebuilder, begun, base, rules, book, &work)?;
             let built = reckon(alloc, book, targets, work)?;
             Ok(Plan {
                 batch,
@@ -83,11 +85,33 @@ fn planned<R: Rebuilder>(
             })
         }
         WorkEnd::Refused(work, reason) => {
-            let batch = plan(alloc, rebuilder, begun, base, rules, book, &work.finished)?;
+            let batch = batch_of(alloc, rebuilder, begun, base, rules, book, &work)?;
             Ok(Plan {
                 batch,
                 answer: Answer::Refused(reason),
             })
         }
+    }
+}
+
+// The batch of the work, with its new chain where it has one.
+fn batch_of<R: Rebuilder>(
+    alloc: Global,
+    rebuilder: &R,
+    begun: &Begun,
+    base: &Kept,
+    rules: Digest,
+    book: &Book,
+    work: &Work,
+) -> Result<Batch, NoMemory>
+    requires { rules ≡ rules_digest_of (book_view book.now) }
+    ensures unmarked { IfOk result (λ batch. AreUnmarked batch.entries) }
+    ensures brings { let h = R.how rebuilder.now in let b = book_view book.now in let M = kept_view base.now in (K : SomeKept) → BeginsWith K b begun.now M
+        → IfOk result (IsBatchOf h K M b begun.now.marks work.now) }
+{
+    let finished = &work.finished;
+    match &work.chain {
+        Some(chain) => plan_chained(alloc, rebuilder, begun, base, rules, book, finished, chain),
+        None => plan(alloc, rebuilder, begun, base, rules, book, finished),
     }
 }

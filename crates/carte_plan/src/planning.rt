@@ -3,9 +3,10 @@ ghost use Rattle.carte_book.specs.Book.{book_view};
 ghost use Rattle.carte_book.specs.Digest.{rules_digest_of};
 ghost use Rattle.carte_record.specs.declared.start.Start.TheVariants.{GoOn, Anew};
 ghost use Rattle.carte_record.specs.Kept.{SomeKept, kept_view};
-ghost use Rattle.carte_sound.specs.LeadsTo.{LeadsInOrder, LeadsRefused, LeadsSuspending, marks_left};
+ghost use Rattle.carte_sound.specs.LeadsTo.{LeadsInOrder, LeadsRefused, LeadsRestarting, LeadsSuspending, chain_behind, marks_left};
 ghost use Rattle.carte_sound.specs.Begun.{begin};
-ghost use Rattle.carte_sound.specs.Treated.{IsDoneInOrder, IsDoneSuspending};
+ghost use Rattle.carte_sound.specs.Treated.{IsDoneInOrder, IsDoneRestarting, IsDoneSuspending};
+ghost use Rattle.carte_sound.specs.Left.{keys_of};
 ghost use Rattle.carte_note.specs.Lists.{finished_of};
 ghost use Rattle.carte_note.specs.Notes.{AreUnmarked};
 ghost use Rattle.carte_note.specs.Right.{finishes_of};
@@ -39,6 +40,24 @@ pub fn plan<R: Rebuilder>(
     ensures plans { let b = book_view book.now in let h = R.how rebuilder.now in (K : SomeKept) → BeginsWith K b begun.now (kept_view base.now) → IfOk result (Plans h K b begun.now.marks finished.now) }
 {
     made(alloc, rebuilder, begun, base, rules, book, finished)
+}
+
+/// The same with a new chain, which is that of a build that begins rules anew: a stub, which has never memory.
+pub fn plan_chained<R: Rebuilder>(
+    alloc: Global,
+    rebuilder: &R,
+    begun: &Begun,
+    base: &Kept,
+    rules: Digest,
+    book: &Book,
+    finished: &FinishedList,
+    chain: &Names,
+) -> Result<Batch, NoMemory>
+    requires { rules ≡ rules_digest_of (book_view book.now) }
+    ensures unmarked { IfOk result (λ batch. AreUnmarked batch.entries) }
+    ensures restarting { let b = book_view book.now in let h = R.how rebuilder.now in (K : SomeKept) (targets : List (List ℕ)) → BeginsWith K b begun.now (kept_view base.now) → chain.now ≡ chain_behind (keys_of (finishes_of finished.now)) (kept_view base.now).chain → IsBuilt h K b begun.now.marks (IsDoneRestarting h (begin K b begun.now.marks) b targets) finished.now → IfOk result (LeadsRestarting h K b targets) }
+{
+    Err(NoMemory)
 }
 
 fn made<R: Rebuilder>(

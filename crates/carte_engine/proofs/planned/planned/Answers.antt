@@ -15,7 +15,7 @@ returns-in_ok-built-in-All-clause-plans g c s K begins ends H sound distinct =
     let b = book_view c.args.book.now in
     let end = subst (EndsBy s h M b c.args.targets.now) c.in-All.is ends in
     all_by h K b c.args.targets.now c.args.begun.now M begins H sound distinct
-    s c.in-All.work c.in_ok-batch-in-All.batch c.in_ok-built-in-All.built end (c.in_ok-batch-in-All.ensures.plans K begins) (c.in_ok-built-in-All.ensures {u = tt})
+    s c.in-All.work c.in_ok-batch-in-All.batch c.in_ok-built-in-All.built end (c.in_ok-batch-in-All.ensures.brings K begins) (c.in_ok-built-in-All.ensures {u = tt})
 
 pub returns-in_ok-batch-in-Refused-clause-unmarked : goal.returns-in_ok-batch-in-Refused-clause-unmarked
 returns-in_ok-batch-in-Refused-clause-unmarked g c = each_unmarked _ c.in_ok-batch-in-Refused.ensures.unmarked
@@ -27,4 +27,4 @@ returns-in_ok-batch-in-Refused-clause-plans g c s K begins ends H sound distinct
     let b = book_view c.args.book.now in
     let end = subst (EndsBy s h M b c.args.targets.now) c.in-Refused.is ends in
     refused_by h K b c.args.targets.now c.args.begun.now M begins H sound distinct
-    s c.in-Refused.work c.in-Refused.reason c.in_ok-batch-in-Refused.batch end (c.in_ok-batch-in-Refused.ensures.plans K begins)
+    s c.in-Refused.work c.in-Refused.reason c.in_ok-batch-in-Refused.batch end (c.in_ok-batch-in-Refused.ensures.brings K begins)

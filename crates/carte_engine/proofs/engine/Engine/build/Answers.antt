@@ -1,6 +1,5 @@
-use Rattle.std.proofs.Common.{Ok, Err, refl, ap, sym, subst, ◌∙◌, inl, inr}
+use Rattle.std.proofs.Common.{Ok, Err, refl, ap, subst, ◌∙◌, inl, inr}
 use Rattle.std.proofs.lemmas.Result.{err_from_is_err_and}
-use Rattle.carte_book.specs.Book.{book_view}
 use Rattle.carte_state.specs.Around.{over_disk}
 use Rattle.carte_state.specs.Applying.{Applies}
 use Rattle.carte_state.specs.States.{Stand}

@@ -1,4 +1,4 @@
-use Rattle.std.proofs.Common.{◌≡◌, true, false, ap, ◌∙◌, subst, rules}
+use Rattle.std.proofs.Common.{ap, ◌∙◌, subst, rules}
 use Rattle.carte_book.specs.Book.{book_view}
 use Rattle.carte_record.specs.Folds.{with_marks}
 use Rattle.carte_record.specs.Kept.{kept_view}

@@ -1,0 +1,18 @@
+use Rattle.carte_book.specs.Book.{book_view}
+use Rattle.carte_record.specs.Kept.{kept_view}
+use Rattle.carte_engine.proofs.Planning.{chained_batch, plain_batch}
+use Rattle.carte_engine.proofs.planned.batch_of.Goals as goal
+
+pub returns-in-Some-clause-brings : goal.returns-in-Some-clause-brings
+returns-in-Some-clause-brings g c K begins =
+    let h = g.R.Rebuilder.how c.args.rebuilder.now in
+    let M = kept_view c.args.base.now in
+    let b = book_view c.args.book.now in
+    chained_batch h K M b c.args.begun.now.marks c.args.work.now c.in-Some.chain c.plan_chained.result c.in-Some.is (λ targets. c.plan_chained.ensures.restarting K targets begins)
+
+pub returns-in-None-clause-brings : goal.returns-in-None-clause-brings
+returns-in-None-clause-brings g c K begins =
+    let h = g.R.Rebuilder.how c.args.rebuilder.now in
+    let M = kept_view c.args.base.now in
+    let b = book_view c.args.book.now in
+    plain_batch h K M b c.args.begun.now.marks c.args.work.now c.plan.result c.in-None.is (c.plan.ensures.plans K begins)
