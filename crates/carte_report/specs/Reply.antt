@@ -28,3 +28,7 @@ counts_line ran given_up reused = codes "ran " ++ (decimal ran ++ (codes ", give
 -- the targets with their values, the rules that ran where they are to be listed, and the counts
 abbrev pub reply : List (List ℕ) → List Value → Bool → List (List ℕ) → ℕ → ℕ → List ℕ
 reply targets values list ran given_up reused = target_lines targets values ++ (listed_lines list ran ++ counts_line (length ran) given_up reused)
+
+-- before it, where the book was generated: how many keys that has, and how many of them are inputs
+abbrev pub keys_line : ℕ → ℕ → List ℕ
+keys_line keys inputs = codes "keys " ++ (decimal keys ++ (codes ", inputs " ++ (decimal inputs ++ 10 ∷ [])))

@@ -1,5 +1,5 @@
 //! What the program says: the statuses with their numbers, the error lines, the reply of a build, the
-//! replies to the lines of a session, and the lines of an explanation.
+//! line before that of a generated book, the replies to the lines of a session, and the lines of an explanation.
 //!
 //! Every text that a user sees stands here, so that its wording is found in one place and nothing else of the program
 //! is stated by bytes. Each is a function of what it tells (`specs/Texts`, `specs/Reply`): a status, or the targets with
@@ -23,6 +23,6 @@ mod status;
 mod texts;
 
 pub use lines::{cleaned_line, not_set_line, refused_line, set_line, stray_line, why_line};
-pub use replies::reply;
+pub use replies::{keys_line, reply};
 pub use status::Status;
 pub use texts::{error_line, memory_line};

@@ -1,9 +1,19 @@
 ghost use Rattle.std.specs.Prelude.{◌≡◌, ◌++◌, ◌∷◌, [], codes, IfOk, OnOk, string_bytes};
 ghost use Rattle.std.specs.Fmt.{decimal};
-ghost use Rattle.carte_report.specs.Reply.{reply, target_line, target_lines, ran_lines, listed_lines, counts_line};
+ghost use Rattle.carte_report.specs.Reply.{keys_line, reply, target_line, target_lines, ran_lines, listed_lines, counts_line};
 
+use crate::pieces::{between, number_after};
 use carte_value::{Name, Names, NoMemory, Value, Values};
 use std::alloc::Global;
+
+/// The line before the reply of a build of a generated book: how many keys that has, and how many of them are inputs.
+pub fn keys_line(alloc: Global, keys: u64, inputs: u64) -> Result<String, NoMemory>
+    ensures { IfOk result (λ text. string_bytes text ≡ keys_line keys inputs) }
+{
+    let keys = number_after(alloc, "keys ", keys)?;
+    let inputs = number_after(alloc, ", inputs ", inputs)?;
+    between(alloc, keys.as_str(), inputs.as_str(), "\n")
+}
 
 /// The reply of a build: the targets with their values, the rules that ran where they are to be listed, and the counts.
 pub fn reply(

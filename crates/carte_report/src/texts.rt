@@ -65,6 +65,7 @@ fn words_fault_text(alloc: Global, fault: &WordsFault) -> Result<String, NoMemor
         WordsFault::Words => plain(alloc, "the words are no command"),
         WordsFault::NoTarget => plain(alloc, "no target"),
         WordsFault::TargetsNotTaken => plain(alloc, "targets not taken"),
+        WordsFault::SeedAndCount => plain(alloc, "generate takes a seed and a count"),
         WordsFault::BadTarget(word) => quoted_after(alloc, "bad target ", word.text()),
         WordsFault::NoMemory => plain(alloc, "out of memory"),
     }

@@ -1,6 +1,7 @@
 mod Rows
 mod Parses
 mod Naming
+mod Numerals
 mod Cutting
 mod Trims
 mod Commands

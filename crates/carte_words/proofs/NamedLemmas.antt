@@ -1,19 +1,25 @@
--- What is read of words and lines has names of the kind alone.
-use Rattle.std.proofs.Common.{◌≡◌, if◌then◌else◌, Bool, true, false, IsTrue, List, [], ◌∷◌, Option, Some, None, Result, Ok, Err, IfOk, IfSome, codes, unwrap_or, refl, sym, subst}
+-- What is read of words and lines has names of the kind alone, and a generated book a count that it may have.
+use Rattle.std.proofs.Common.{◌≡◌, ◌≤◌, ◌&&◌, ℕ, nat_le, arith, if◌then◌else◌, Bool, true, false, IsTrue, List, [], ◌∷◌, Option, Some, None, Result, Ok, Err, IfOk, IfSome, codes, unwrap_or, refl, sym, subst}
 use Rattle.carte_name.specs.Kinds.{is_text_of, is_name_of, name_of}
 use Rattle.carte_name.specs.declared.NoMemory.{NoMemory}
 use Rattle.carte_name.specs.declared.kind.Kind.{Kind}
 use Rattle.carte_name.specs.declared.kind.Kind.TheVariants.{Rules, Sheet}
+use Rattle.std.proofs.lemmas.Bool.{leb-true}
 use Rattle.clap.specs.Words.{Row, Text, first_of, all_of}
+use Rattle.std.specs.Str.Parse.{digits_value}
 use Rattle.carte_words.specs.declared.choices.Choices.{Choices}
+use Rattle.carte_words.specs.declared.targets.Aims.{Aims}
 use Rattle.carte_words.specs.declared.fault.WordsFault.{WordsFault}
 use Rattle.carte_words.specs.declared.fault.WordsFault.TheVariants.{BadTarget}
 use Rattle.carte_words.specs.declared.line.Line.{Line}
 use Rattle.carte_words.specs.declared.line.Line.TheVariants.{Set, Build, Explain, Clean, Nothing}
+use Rattle.carte_words.specs.declared.words.Command.{Command}
+use Rattle.carte_words.specs.declared.words.Command.TheVariants as command
 use Rattle.carte_words.specs.declared.words.Words.{Words as Asked}
+use Rattle.carte_words.specs.Numbers.{is_numeral, seed_in, count_in}
 use Rattle.carte_words.specs.Lines.{in_front, names_of, Follows, Says, IsMeant}
 use Rattle.carte_words.specs.Cuts.{words_in, word_of, behind}
-use Rattle.carte_words.specs.Words.{◌>>=◌, or_words, put_first, names_in, some_in, none_in, takes_targets, targets_of, choices_of, words_with, chosen_of, meaning_of, Gives}
+use Rattle.carte_words.specs.Words.{◌>>=◌, or_words, put_first, names_in, aimed, some_targets, no_targets, numbered, seed_and_count, aims_for, aims_of, choices_of, words_with, chosen_of, meaning_of, Gives, IsCounted}
 use Rattle.carte_words.specs.Named.{AllNamed, LineNamed}
 
 is_named : (kind : Kind) (t : Text) → IsTrue (is_text_of kind t) → IsTrue (is_name_of kind (name_of kind t))
@@ -65,35 +71,95 @@ targets_named kind (t ∷ ts) ks e = go (is_text_of kind t) refl (names_in kind 
     go true is (Err fault) at same more = cc
     go false is o at same more = cc
 
-some_named : (kind : Kind) (ts ks : List Text) → some_in kind ts ≡ Ok ks → AllNamed kind ks
-some_named kind [] ks e = cc
-some_named kind (t ∷ ts) ks e = targets_named kind (t ∷ ts) ks e
+module _ (kind : Kind) where
+  abbrev Fit : Aims → Type 0
+  Fit aims = AllNamed kind aims.targets
 
-none_named : (kind : Kind) (ts ks : List Text) → none_in ts ≡ Ok ks → AllNamed kind ks
-none_named kind [] ks e = let none : [] ≡ ks = cc in subst (AllNamed kind) none tt
-none_named kind (t ∷ ts) ks e = cc
+  some_named : (ts : List Text) (a : Aims) → some_targets kind ts ≡ Ok a → Fit a
+  some_named [] a e = cc
+  some_named (t ∷ ts) a e =
+      let ks = bound_ok (names_in kind (t ∷ ts)) (λ ks. Ok (aimed ks)) a e in
+      let is : aimed ks.0 ≡ a = cc (ks.2) in
+      subst Fit is (targets_named kind (t ∷ ts) ks.0 ks.1)
 
-chosen_targets : (c : Choices) (ts ks : List Text) → targets_of c ts ≡ Ok ks → AllNamed c.kind ks
-chosen_targets c ts ks e = go (takes_targets c.command) e
+  none_named : (ts : List Text) (a : Aims) → no_targets ts ≡ Ok a → Fit a
+  none_named [] a e = let is : aimed [] ≡ a = cc in subst Fit is tt
+  none_named (t ∷ ts) a e = cc
+
+  numbered_named : (s n : Option ℕ) (a : Aims) → numbered s n ≡ Ok a → Fit a
+  numbered_named (Some s) (Some n) a e = let is : record { targets = []; seed = s; count = n } ≡ a = cc in subst Fit is tt
+  numbered_named (Some s) None a e = cc
+  numbered_named None n a e = cc
+
+  counting_named : (ts : List Text) (a : Aims) → seed_and_count ts ≡ Ok a → Fit a
+  counting_named (s ∷ n ∷ []) a e = numbered_named (seed_in s) (count_in n) a e
+  counting_named [] a e = cc
+  counting_named (s ∷ []) a e = cc
+  counting_named (s ∷ n ∷ t ∷ ts) a e = cc
+
+  aims_named : (to : Command) (ts : List Text) (a : Aims) → aims_for to kind ts ≡ Ok a → Fit a
+  aims_named command.Build ts a e = some_named ts a e
+  aims_named command.Session ts a e = none_named ts a e
+  aims_named command.Explain ts a e = some_named ts a e
+  aims_named command.Clean ts a e = none_named ts a e
+  aims_named command.Generate ts a e = counting_named ts a e
+
+-- ---- counts
+
+count_within : (t : Text) (n : ℕ) → count_in t ≡ Some n → (2 ≤ n) × (n ≤ 65536)
+count_within t n e = go (is_numeral t) (nat_le 2 (digits_value 10 t)) refl (nat_le (digits_value 10 t) 65536) refl e
   where
-    go : (b : Bool) → (if b then some_in c.kind ts else none_in ts) ≡ Ok ks → AllNamed c.kind ks
-    go true e = some_named c.kind ts ks e
-    go false e = none_named c.kind ts ks e
+    go : (b low : Bool) → nat_le 2 (digits_value 10 t) ≡ low → (high : Bool) → nat_le (digits_value 10 t) 65536 ≡ high → (if b && (low && high) then Some (digits_value 10 t) else None) ≡ Some n
+        → (2 ≤ n) × (n ≤ 65536)
+    go true true least true most e = let is : digits_value 10 t ≡ n = cc in (omega (arith, leb-true _ _ least, is), omega (arith, leb-true _ _ most, is))
+    go true true least false most e = cc
+    go true false least high most e = cc
+    go false low least high most e = cc
 
-chosen_named : (rows : List Row) (book state : Text) (w : Asked) → chosen_of rows book state ≡ Ok w → AllNamed w.kind w.targets
-chosen_named rows book state w e =
-    let ts = unwrap_or (all_of (codes "target") rows) [] in
-    let c = bound_ok (or_words (choices_of rows book)) (λ c. targets_of c ts >>= (λ ks. Ok (words_with book state c ks))) w e in
-    let ks = bound_ok (targets_of c.0 ts) (λ ks. Ok (words_with book state c.0 ks)) w c.2 in
-    let is : words_with book state c.0 ks.0 ≡ w = cc (ks.2) in
-    subst (λ (x : Asked). AllNamed x.kind x.targets) is (chosen_targets c.0 ts ks.0 ks.1)
+numbered_within : (s n : Option ℕ) (a : Aims) → ((m : ℕ) → n ≡ Some m → (2 ≤ m) × (m ≤ 65536)) → numbered s n ≡ Ok a → (2 ≤ a.count) × (a.count ≤ 65536)
+numbered_within (Some s) (Some n) a within e =
+    let is : record { targets = []; seed = s; count = n } ≡ a = cc in
+    subst (λ (x : Aims). (2 ≤ x.count) × (x.count ≤ 65536)) is (within n refl)
+numbered_within (Some s) None a within e = cc
+numbered_within None n a within e = cc
 
-meaning_named : (rows : List Row) (w : Asked) → meaning_of rows ≡ Ok w → AllNamed w.kind w.targets
-meaning_named rows w e =
-    let book = bound_ok (or_words (first_of (codes "book") rows)) (λ book. or_words (first_of (codes "state") rows) >>= (λ state. chosen_of rows book state)) w e in
-    let state = bound_ok (or_words (first_of (codes "state") rows)) (λ state. chosen_of rows book.0 state) w book.2 in
-    chosen_named rows book.0 state.0 w state.2
+counting_within : (ts : List Text) (a : Aims) → seed_and_count ts ≡ Ok a → (2 ≤ a.count) × (a.count ≤ 65536)
+counting_within (s ∷ n ∷ []) a e = numbered_within (seed_in s) (count_in n) a (count_within n) e
+counting_within [] a e = cc
+counting_within (s ∷ []) a e = cc
+counting_within (s ∷ n ∷ t ∷ ts) a e = cc
+
+aims_within : (to : Command) (kind : Kind) (ts : List Text) (a : Aims) → aims_for to kind ts ≡ Ok a → to ≡ command.Generate → (2 ≤ a.count) × (a.count ≤ 65536)
+aims_within command.Build kind ts a e is = cc
+aims_within command.Session kind ts a e is = cc
+aims_within command.Explain kind ts a e is = cc
+aims_within command.Clean kind ts a e is = cc
+aims_within command.Generate kind ts a e is = counting_within ts a e
+
+-- ---- all of it
+
+-- what has P with any aims that a command takes, has P where words mean it
+module _ (P : Asked → Type 0) (have : (book state : Text) (c : Choices) (ts : List Text) (a : Aims) → aims_of c ts ≡ Ok a → P (words_with book state c a)) where
+  of_chosen : (rows : List Row) (book state : Text) (w : Asked) → chosen_of rows book state ≡ Ok w → P w
+  of_chosen rows book state w e =
+      let ts = unwrap_or (all_of (codes "target") rows) [] in
+      let c = bound_ok (or_words (choices_of rows book)) (λ c. aims_of c ts >>= (λ a. Ok (words_with book state c a))) w e in
+      let a = bound_ok (aims_of c.0 ts) (λ a. Ok (words_with book state c.0 a)) w c.2 in
+      let is : words_with book state c.0 a.0 ≡ w = cc (a.2) in
+      subst P is (have book state c.0 ts a.0 a.1)
+
+  of_meaning : (rows : List Row) (w : Asked) → meaning_of rows ≡ Ok w → P w
+  of_meaning rows w e =
+      let book = bound_ok (or_words (first_of (codes "book") rows)) (λ book. or_words (first_of (codes "state") rows) >>= (λ state. chosen_of rows book state)) w e in
+      let state = bound_ok (or_words (first_of (codes "state") rows)) (λ state. chosen_of rows book.0 state) w book.2 in
+      of_chosen rows book.0 state.0 w state.2
+
+  of_words : (rows : List Row) (r : Result Asked WordsFault) → Gives (meaning_of rows) r → IfOk r P
+  of_words rows (Ok w) h = of_meaning rows w h
+  of_words rows (Err fault) h = tt
 
 pub words_named : (rows : List Row) (r : Result Asked WordsFault) → Gives (meaning_of rows) r → IfOk r (λ w. AllNamed w.kind w.targets)
-words_named rows (Ok w) h = meaning_named rows w h
-words_named rows (Err fault) h = tt
+words_named rows r h = of_words (λ w. AllNamed w.kind w.targets) (λ book state c ts a e. aims_named c.kind c.command ts a e) rows r h
+
+pub words_counted : (rows : List Row) (r : Result Asked WordsFault) → Gives (meaning_of rows) r → IfOk r IsCounted
+words_counted rows r h = of_words IsCounted (λ book state c ts a e is. aims_within c.command c.kind ts a e is) rows r h

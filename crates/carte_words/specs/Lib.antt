@@ -1,5 +1,6 @@
 pub mod Arguments
 pub mod Tables
+pub mod Numbers
 pub mod Words
 pub mod Parsed
 pub mod Cuts

@@ -15,7 +15,8 @@ command_named t =
     if bytes_eq t (codes "build") then Some command.Build else
     (if bytes_eq t (codes "session") then Some command.Session else
     (if bytes_eq t (codes "explain") then Some command.Explain else
-    (if bytes_eq t (codes "clean") then Some command.Clean else None)))
+    (if bytes_eq t (codes "clean") then Some command.Clean else
+    (if bytes_eq t (codes "generate") then Some command.Generate else None))))
 
 abbrev pub scheduler_named : List ℕ → Option Scheduler4
 scheduler_named t =

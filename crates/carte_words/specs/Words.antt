@@ -1,15 +1,18 @@
 -- What words ask for, or the first fault why they ask for nothing.
-use Rattle.std.specs.Prelude.{◌≡◌, Bool, true, false, List, [], ◌∷◌, codes, Option, Some, None, Result, Ok, Err, option_and_then, unwrap_or, bytes_eq, if◌then◌else◌}
+use Rattle.std.specs.Prelude.{◌≡◌, ◌≤◌, ℕ, Bool, false, List, [], ◌∷◌, codes, Option, Some, None, Result, Ok, Err, option_and_then, unwrap_or, bytes_eq, if◌then◌else◌}
 use Rattle.clap.specs.Words.{Kinds, Row, Text, first_of, all_of}
 use Rattle.carte_name.specs.Kinds.{is_text_of, name_of}
 use Rattle.carte_name.specs.declared.kind.Kind.{Kind}
+use Rattle.carte_name.specs.declared.kind.Kind.TheVariants.{Rules}
 use Rattle.carte_words.specs.declared.words.Command.{Command}
 use Rattle.carte_words.specs.declared.words.Command.TheVariants as command
 use Rattle.carte_words.specs.declared.words.Words.{Words as Asked}
 use Rattle.carte_words.specs.declared.choices.Choices.{Choices}
+use Rattle.carte_words.specs.declared.targets.Aims.{Aims}
 use Rattle.carte_words.specs.declared.fault.WordsFault.{WordsFault}
-use Rattle.carte_words.specs.declared.fault.WordsFault.TheVariants.{Words, NoTarget, TargetsNotTaken, BadTarget, NoMemory}
+use Rattle.carte_words.specs.declared.fault.WordsFault.TheVariants.{Words, NoTarget, TargetsNotTaken, SeedAndCount, BadTarget, NoMemory}
 use Rattle.carte_words.specs.Arguments.{faults_of, values_of}
+use Rattle.carte_words.specs.Numbers.{seed_in, count_in}
 use Rattle.carte_words.specs.Tables.{command_named, scheduler_named, rebuilder_named, kind_named, kind_by_ending}
 
 -- a fault is the end, and else it goes on
@@ -33,12 +36,17 @@ abbrev pub kind_of : Option Text → Text → Option Kind
 kind_of (Some t) book = kind_named t
 kind_of None book = Some (kind_by_ending book)
 
--- what is chosen besides the files and the targets
+-- a generated book is a rule file
+abbrev pub kind_for : Command → Kind → Kind
+kind_for command.Generate k = Rules
+kind_for c k = k
+
+-- what is chosen besides the files and what stands behind them
 abbrev pub choices_of : List Row → Text → Option Choices
 choices_of rows book =
     option_and_then (λ c. option_and_then (λ k. option_and_then (λ s. option_and_then (λ r. Some (record {
       command = c;
-      kind = k;
+      kind = kind_for c k;
       scheduler = s;
       rebuilder = r;
       list = is_set (first_of (codes "list") rows);
@@ -48,13 +56,7 @@ choices_of rows book =
     (kind_of (first_of (codes "kind") rows) book))
     (option_and_then command_named (first_of (codes "command") rows))
 
--- ---- the targets
-
-abbrev pub takes_targets : Command → Bool
-takes_targets command.Build = true
-takes_targets command.Session = false
-takes_targets command.Explain = true
-takes_targets command.Clean = false
+-- ---- what stands behind the files
 
 abbrev pub name_in : Kind → Text → Result Text WordsFault
 name_in kind t = if is_text_of kind t then Ok (name_of kind t) else Err (BadTarget t)
@@ -68,22 +70,40 @@ abbrev pub names_in : Kind → List Text → Result (List Text) WordsFault
 names_in kind [] = Ok []
 names_in kind (t ∷ ts) = name_in kind t >>= (λ k. put_first k (names_in kind ts))
 
--- one or more
-abbrev pub some_in : Kind → List Text → Result (List Text) WordsFault
-some_in kind [] = Err NoTarget
-some_in kind (t ∷ ts) = names_in kind (t ∷ ts)
+abbrev pub aimed : List Text → Aims
+aimed ks = record { targets = ks; seed = 0; count = 0 }
 
-abbrev pub none_in : List Text → Result (List Text) WordsFault
-none_in [] = Ok []
-none_in (t ∷ ts) = Err TargetsNotTaken
+-- one target or more
+abbrev pub some_targets : Kind → List Text → Result Aims WordsFault
+some_targets kind [] = Err NoTarget
+some_targets kind (t ∷ ts) = names_in kind (t ∷ ts) >>= (λ ks. Ok (aimed ks))
 
-abbrev pub targets_of : Choices → List Text → Result (List Text) WordsFault
-targets_of c ts = if takes_targets c.command then some_in c.kind ts else none_in ts
+abbrev pub no_targets : List Text → Result Aims WordsFault
+no_targets [] = Ok (aimed [])
+no_targets (t ∷ ts) = Err TargetsNotTaken
+
+abbrev pub numbered : Option ℕ → Option ℕ → Result Aims WordsFault
+numbered (Some seed) (Some count) = Ok (record { targets = []; seed = seed; count = count })
+numbered s n = Err SeedAndCount
+
+abbrev pub seed_and_count : List Text → Result Aims WordsFault
+seed_and_count (s ∷ n ∷ []) = numbered (seed_in s) (count_in n)
+seed_and_count ts = Err SeedAndCount
+
+abbrev pub aims_for : Command → Kind → List Text → Result Aims WordsFault
+aims_for command.Build kind ts = some_targets kind ts
+aims_for command.Session kind ts = no_targets ts
+aims_for command.Explain kind ts = some_targets kind ts
+aims_for command.Clean kind ts = no_targets ts
+aims_for command.Generate kind ts = seed_and_count ts
+
+abbrev pub aims_of : Choices → List Text → Result Aims WordsFault
+aims_of c ts = aims_for c.command c.kind ts
 
 -- ---- all of it
 
-abbrev pub words_with : Text → Text → Choices → List Text → Asked
-words_with book state c targets = record {
+abbrev pub words_with : Text → Text → Choices → Aims → Asked
+words_with book state c aims = record {
   command = c.command;
   book = book;
   state = state;
@@ -91,12 +111,14 @@ words_with book state c targets = record {
   scheduler = c.scheduler;
   rebuilder = c.rebuilder;
   list = c.list;
-  targets = targets;
+  targets = aims.targets;
+  seed = aims.seed;
+  count = aims.count;
 }
 
 abbrev pub chosen_of : List Row → Text → Text → Result Asked WordsFault
 chosen_of rows book state = or_words (choices_of rows book) >>= (λ c.
-    targets_of c (unwrap_or (all_of (codes "target") rows) []) >>= (λ ts. Ok (words_with book state c ts)))
+    aims_of c (unwrap_or (all_of (codes "target") rows) []) >>= (λ aims. Ok (words_with book state c aims)))
 
 abbrev pub meaning_of : List Row → Result Asked WordsFault
 meaning_of rows = or_words (first_of (codes "book") rows) >>= (λ book.
@@ -108,6 +130,10 @@ taken_of (fault ∷ faults) rows = Err Words
 
 abbrev pub words_of : List Text → Result Asked WordsFault
 words_of words = taken_of (faults_of words) (values_of words)
+
+-- a generated book has two keys at least, and as many as a book may have at most
+abbrev pub IsCounted : Asked → Type 0
+IsCounted w = w.command ≡ command.Generate → (2 ≤ w.count) × (w.count ≤ 65536)
 
 -- ---- what readers answer
 

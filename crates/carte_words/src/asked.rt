@@ -1,11 +1,11 @@
 ghost use Rattle.std.specs.Prelude.{◌≡◌, IfOk};
 ghost use Rattle.clap.specs.Words.{first_of, found_of, rows_of};
 ghost use Rattle.carte_words.specs.Named.{AllNamed};
-ghost use Rattle.carte_words.specs.Words.{words_of, meaning_of, chosen_of, or_words, Gives};
+ghost use Rattle.carte_words.specs.Words.{words_of, meaning_of, chosen_of, or_words, Gives, IsCounted};
 
 use crate::choices::{choose, value_at};
 use crate::parse::parse;
-use crate::targets::read_targets;
+use crate::targets::{Aims, read_aims};
 use crate::{Word, Words, WordsFault};
 use clap::ArgMatches;
 use std::alloc::Global;
@@ -13,16 +13,18 @@ use std::alloc::Global;
 /// What the words of the command line ask for, without the program's name:
 /// `COMMAND BOOK STATE [options] [TARGET..]`, where options may stand between and behind the targets, too.
 ///
-/// The commands are `build` and `explain`, which take targets, and `session` and `clean`, which take none. The options, each
-/// at most once, are
+/// The commands are `build` and `explain`, which take targets, `session` and `clean`, which take none, and `generate`, which
+/// takes a seed and a count in their place: two numbers in digits, the seed of 64 bits, the count from 2 to 65,536. The
+/// options, each at most once, are
 /// `--scheduler topological` or `suspending` (the default), `--rebuilder dirty`, `verifying` (the default),
 /// `constructive` or `deep`, `--kind rules` or `sheet`, and `--list`. Without `--kind` a book is a sheet where its
-/// word ends with `.csv`, and else a rule file. Behind `--` every word is a target.
+/// word ends with `.csv`, and else a rule file; a generated one is a rule file. Behind `--` every word is a target.
 ///
-/// The fault is the first of these: `Words`; `NoTarget`; `TargetsNotTaken`; `BadTarget`.
+/// The fault is the first of these: `Words`; `NoTarget`; `TargetsNotTaken`; `SeedAndCount`; `BadTarget`.
 pub fn read_words(alloc: Global, words: &[Word]) -> Result<Words, WordsFault>
     ensures words { Gives (words_of words.now) result }
     ensures names { IfOk result (λ w. AllNamed w.kind w.targets) }
+    ensures count { IfOk result (λ w. IsCounted w) }
 {
     let matches = parse(alloc, words)?;
     read_matches(alloc, &matches)
@@ -47,7 +49,11 @@ fn read_chosen(
     let Some(choices) = choose(matches, book.text()) else {
         return Err(WordsFault::Words);
     };
-    let targets = read_targets(alloc, matches, choices)?;
+    let Aims {
+        targets,
+        seed,
+        count,
+    } = read_aims(alloc, matches, choices)?;
     Ok(Words {
         command: choices.command,
         book,
@@ -57,6 +63,8 @@ fn read_chosen(
         rebuilder: choices.rebuilder,
         list: choices.list,
         targets,
+        seed,
+        count,
     })
 }
 

@@ -1,6 +1,6 @@
 ghost use Rattle.std.specs.Prelude.{◌≡◌, codes, option_and_then, option_map, option_copied};
 ghost use Rattle.clap.specs.Words.{first_of, found_of, rows_of};
-ghost use Rattle.carte_words.specs.Words.{choices_of, is_set, kind_of};
+ghost use Rattle.carte_words.specs.Words.{choices_of, is_set, kind_for, kind_of};
 ghost use Rattle.carte_words.specs.Tables.{command_named, scheduler_named, rebuilder_named};
 
 use crate::{Command, Rebuilder4, Scheduler4, tables};
@@ -27,7 +27,7 @@ pub(crate) fn choose(matches: &ArgMatches, book: &str) -> Option<Choices>
     let rebuilder = rebuilder_at(matches)?;
     Some(Choices {
         command,
-        kind,
+        kind: kind_for(command, kind),
         scheduler,
         rebuilder,
         list: is_set(value_at(matches, "list")),
@@ -66,6 +66,16 @@ fn kind_of(said: Option<&str>, book: &str) -> Option<Kind>
     match said {
         Some(text) => tables::kind_named(text),
         None => Some(tables::kind_by_ending(book)),
+    }
+}
+
+// A generated book is a rule file, whatever is said of its kind.
+fn kind_for(command: Command, kind: Kind) -> Kind
+    ensures { result ≡ kind_for command kind }
+{
+    match command {
+        Command::Generate => Kind::Rules,
+        Command::Build | Command::Session | Command::Explain | Command::Clean => kind,
     }
 }
 

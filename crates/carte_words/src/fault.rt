@@ -13,8 +13,10 @@ pub enum WordsFault {
     Words,
     /// There is no key to build.
     NoTarget,
-    /// There are keys where `clean` takes none.
+    /// There are keys where the command takes none.
     TargetsNotTaken,
+    /// There are no two numbers, of which the first may be the seed of a generated book and the second its count of keys.
+    SeedAndCount,
     /// The first target that is no name of the book's kind.
     BadTarget(Word),
     /// There was no memory for them. It may come in place of any answer.

@@ -20,6 +20,7 @@ mod cuts;
 mod fault;
 mod laws;
 mod line;
+mod numbers;
 mod parse;
 mod script;
 mod tables;

@@ -13,6 +13,7 @@ pub(crate) fn command_named(text: &str) -> Option<Command>
         "session" => Some(Command::Session),
         "explain" => Some(Command::Explain),
         "clean" => Some(Command::Clean),
+        "generate" => Some(Command::Generate),
         _ => None,
     }
 }

@@ -12,6 +12,8 @@ pub enum Command {
     Explain,
     /// To empty the state.
     Clean,
+    /// The last key of a generated book.
+    Generate,
 }
 
 /// The order in which rules are run.
@@ -51,4 +53,8 @@ pub struct Words {
     pub list: bool,
     /// The keys that are to be built, or explained, in their order.
     pub targets: Names,
+    /// What a generated book is drawn from, and 0 where none is asked for.
+    pub seed: u64,
+    /// How many keys it has.
+    pub count: u64,
 }

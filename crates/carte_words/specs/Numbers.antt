@@ -1,0 +1,20 @@
+-- The seed and the count of a generated book, in digits.
+use Rattle.std.specs.Prelude.{ℕ, ◌&&◌, nat_le, Bool, List, length, Option, Some, None, if◌then◌else◌}
+use Rattle.std.specs.Str.{all_ascii_digits}
+use Rattle.std.specs.Str.Parse.{digits_value}
+
+-- one digit or more, and nothing else
+abbrev pub is_numeral : List ℕ → Bool
+is_numeral t = nat_le 1 (length t) && all_ascii_digits t
+
+-- the number that digits write, where it isn't below the least or above the most
+abbrev pub number_within : ℕ → ℕ → List ℕ → Option ℕ
+number_within least most t = if is_numeral t && (nat_le least (digits_value 10 t) && nat_le (digits_value 10 t) most) then Some (digits_value 10 t) else None
+
+-- a seed has 64 bits
+abbrev pub seed_in : List ℕ → Option ℕ
+seed_in t = number_within 0 18446744073709551615 t
+
+-- as many keys as a book may have, and two at least, so that one is a rule
+abbrev pub count_in : List ℕ → Option ℕ
+count_in t = number_within 2 65536 t
