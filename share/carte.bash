@@ -6,7 +6,7 @@ _carte() {
   [ "$before" != '=' ] || before=${COMP_WORDS[COMP_CWORD - 2]}
   [ "$word" != '=' ] || word=
   case $before in
-    --scheduler) COMPREPLY=($(compgen -W "topological suspending" -- "$word")) && return ;;
+    --scheduler) COMPREPLY=($(compgen -W "topological restarting suspending" -- "$word")) && return ;;
     --rebuilder) COMPREPLY=($(compgen -W "dirty verifying constructive deep" -- "$word")) && return ;;
     --kind) COMPREPLY=($(compgen -W "rules sheet" -- "$word")) && return ;;
   esac

@@ -6,10 +6,11 @@ use Rattle.carte_words.specs.declared.words.Scheduler4.TheVariants as word
 use Rattle.carte_words.specs.declared.words.Rebuilder4.{Rebuilder4}
 use Rattle.carte_words.specs.declared.words.Rebuilder4.TheVariants as rebuilder
 use Rattle.carte_engine.specs.declared.scheduler.Scheduler.{Scheduler}
-use Rattle.carte_engine.specs.declared.scheduler.Scheduler.TheVariants.{Topological, Suspending}
+use Rattle.carte_engine.specs.declared.scheduler.Scheduler.TheVariants.{Topological, Restarting, Suspending}
 
 abbrev pub scheduler_of : Scheduler4 → Scheduler
 scheduler_of word.Topological = Topological
+scheduler_of word.Restarting = Restarting
 scheduler_of word.Suspending = Suspending
 
 abbrev pub how_of : Rebuilder4 → How

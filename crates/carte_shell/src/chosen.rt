@@ -91,6 +91,7 @@ fn scheduler_of(word: Scheduler4) -> Scheduler
 {
     match word {
         Scheduler4::Topological => Scheduler::Topological,
+        Scheduler4::Restarting => Scheduler::Restarting,
         Scheduler4::Suspending => Scheduler::Suspending,
     }
 }

@@ -1,6 +1,5 @@
 pub mod Unique
 pub mod Putting
-pub mod Keeping
 pub mod Clearing
 pub mod Books
 pub mod Lacking

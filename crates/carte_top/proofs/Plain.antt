@@ -26,9 +26,10 @@ use Rattle.carte_record.specs.Kept.{SomeKept, nothing_kept}
 use Rattle.carte_rules.specs.Reading.{BookOf}
 use Rattle.carte_sound.specs.Base.{HasDistinctDigests, SameRules}
 use Rattle.carte_sound.specs.Held.{How}
-use Rattle.carte_sound.specs.LeadsTo.{LeadsTo, chain_stays, empty_batch}
+use Rattle.carte_sound.specs.LeadsTo.{Chaining, LeadsTo, chain_behind, chain_stays, empty_batch}
 use Rattle.carte_sound.specs.Left.{Finishes, keys_of}
-use Rattle.carte_sound.specs.Treated.{IsDoneInOrder, IsDoneSuspending, IsTreated, target, need}
+use Rattle.carte_sound.specs.Treated as treated
+use Rattle.carte_sound.specs.Treated.{IsDoneInOrder, IsDoneRestarting, IsDoneSuspending, IsTreated, IsTreatedRestarting}
 use Rattle.carte_sound.proofs.Histories.{nothing_sound}
 use Rattle.carte_state.specs.Folding.{Keeps}
 use Rattle.carte_words.specs.declared.words.Command.{Command}
@@ -37,7 +38,7 @@ use Rattle.carte_engine.specs.Schedulers.{IsServed}
 use Rattle.carte_engine.specs.declared.answer.Answer.{Answer}
 use Rattle.carte_engine.specs.declared.answer.Answer.TheVariants as answer
 use Rattle.carte_engine.specs.declared.scheduler.Scheduler.{Scheduler}
-use Rattle.carte_engine.specs.declared.scheduler.Scheduler.TheVariants.{Topological, Suspending}
+use Rattle.carte_engine.specs.declared.scheduler.Scheduler.TheVariants.{Topological, Restarting, Suspending}
 use Rattle.carte_report.specs.declared.status.Status.TheVariants.{Done}
 use Rattle.carte_top.specs.Chosen.{BookOfKind, how_of, scheduler_of}
 use Rattle.carte_top.specs.Due.{AllFit, IsDue, IsDueFor, IsFound, IsPlanned}
@@ -45,8 +46,13 @@ use Rattle.carte_top.specs.Plain.{AsksPlainly, PlainIsDue, plain_book, told_disk
 
 module _ (b : Book) (none : (k : List ℕ) → ¬ (IsRule b k)) where
   none_treated : (h : How) (K : SomeKept) (targets : List (List ℕ)) (k : List ℕ) → IsTreated h K b targets k → ⊥
-  none_treated h K targets k (target among is) = none k is
-  none_treated h K targets k (need treated followed among is) = none k is
+  none_treated h K targets k (treated.IsTreated.target among is) = none k is
+  none_treated h K targets k (treated.IsTreated.need before followed among is) = none k is
+
+  none_restarted : (h : How) (K : SomeKept) (targets : List (List ℕ)) (k : List ℕ) → IsTreatedRestarting h K b targets k → ⊥
+  none_restarted h K targets k (treated.IsTreatedRestarting.target among is) = none k is
+  none_restarted h K targets k (treated.IsTreatedRestarting.led led is) = none k is
+  none_restarted h K targets k (treated.IsTreatedRestarting.need before followed among is) = none k is
 
   none_leads : (path : List (List ℕ)) → LeadsToDynamic b path → ⊥
   none_leads [] leads = leads
@@ -59,6 +65,7 @@ module _ (b : Book) (none : (k : List ℕ) → ¬ (IsRule b k)) where
 
   pub plain_served : (s : Scheduler) (targets : List (List ℕ)) → AllClean b targets → IsServed s b targets
   plain_served Topological targets all = (no_path targets, all)
+  plain_served Restarting targets all = all
   plain_served Suspending targets all = all
 
   -- nothing is finished, and so nothing is brought
@@ -66,14 +73,15 @@ module _ (b : Book) (none : (k : List ℕ) → ¬ (IsRule b k)) where
   nothing_finished [] only = refl
   nothing_finished (f ∷ fs) only = absurd (only f.0 (inl refl))
 
-  brings_nothing : (h : How) (done : SomeKept → List ℕ → Type 0) (B : Batch) → ((M : SomeKept) (k : List ℕ) → ¬ (done M k)) → LeadsTo h done chain_stays nothing_kept b B → B ≡ empty_batch
-  brings_nothing h done B never (inl brings) = absurd (brings.something refl (nothing_finished brings.finished (λ k among. never _ k (brings.order.only k among))))
-  brings_nothing h done B never (inr nothing) = nothing.empty
+  brings_nothing : (h : How) (done : SomeKept → List ℕ → Type 0) (chained : Chaining) (B : Batch) → ((M : SomeKept) (k : List ℕ) → ¬ (done M k)) → LeadsTo h done chained nothing_kept b B → B ≡ empty_batch
+  brings_nothing h done chained B never (inl brings) = absurd (brings.something refl (nothing_finished brings.finished (λ k among. never _ k (brings.order.only k among))))
+  brings_nothing h done chained B never (inr nothing) = nothing.empty
 
   pub plain_leads : (s : Scheduler) (h : How) (targets : List (List ℕ)) (a : Answer) (B : Batch) → Leads s h nothing_kept b targets a B → B ≡ empty_batch
-  plain_leads Topological h targets (answer.Built built) B leads = brings_nothing h (λ M k. IsDoneInOrder b targets k) B (λ M k done. none k done.0.0) leads
-  plain_leads Topological h targets (answer.Refused reason) B leads = brings_nothing h (λ M k. ⊥) B (λ M k never. never) leads
-  plain_leads Suspending h targets a B leads = brings_nothing h (λ M k. IsDoneSuspending h M b targets k) B (λ M k done. none_treated h M targets k done.0) leads
+  plain_leads Topological h targets (answer.Built built) B leads = brings_nothing h (λ M k. IsDoneInOrder b targets k) chain_stays B (λ M k done. none k done.0.0) leads
+  plain_leads Topological h targets (answer.Refused reason) B leads = brings_nothing h (λ M k. ⊥) chain_stays B (λ M k never. never) leads
+  plain_leads Restarting h targets a B leads = brings_nothing h (λ M k. IsDoneRestarting h M b targets k) chain_behind B (λ M k done. none_restarted h M targets k done.0) leads
+  plain_leads Suspending h targets a B leads = brings_nothing h (λ M k. IsDoneSuspending h M b targets k) chain_stays B (λ M k done. none_treated h M targets k done.0) leads
 
 -- ---- the book with one input
 

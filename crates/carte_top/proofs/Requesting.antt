@@ -35,6 +35,7 @@ use Rattle.carte_shell.specs.Explained.{AreWhys, Explained as IsExplained}
 use Rattle.carte_shell.specs.Replies.{Said, build_reply}
 use Rattle.carte_shell.specs.Scenes.{Scene}
 use Rattle.carte_shell.specs.declared.choices.Choices.{Choices}
+use Rattle.carte_engine.proofs.Keeping.{plan_keeps}
 use Rattle.carte_top.specs.Around.{OverSource, OverDisk, OverSink, IsUntouched, TakesAll, TakesFront}
 use Rattle.carte_top.specs.Chosen.{choices_of, scheduler_of, how_of}
 use Rattle.carte_top.specs.Found.{Answers, Clears, Commits, EndsWith, Explains, FitsIn, Found, GrowsBy, Halts, HasBook, Holds, IsClearing, IsCut, IsNeeded, IsOver, IsPut, Overfills, Replies, calls_into}
@@ -43,7 +44,6 @@ use Rattle.carte_top.specs.Running.{Builds, Cleans, LoadedOr, Opens, Prints, Rea
 use Rattle.carte_top.specs.Sound.{IsStation, MayBuild, StaysAt}
 use Rattle.carte_top.proofs.Books.{holds_so}
 use Rattle.carte_top.proofs.Clearing.{is_clearing}
-use Rattle.carte_top.proofs.Keeping.{keeps_by}
 use Rattle.carte_top.proofs.Putting.{kept_on, keeps_loaded, needed_in, put_in, stays_kept, stays_with}
 use Rattle.carte_top.proofs.Serving.{obeyed_faults}
 
@@ -308,7 +308,7 @@ module _ (limit : ℕ) (w : Asked) (s : OverSource) (d : OverDisk) (k : OverSink
       commits = record { batch = B; answers = answers (answer.Built built) B plans; put = put limit (choices_of w) b d m m' opens last B puts };
       keeps = λ H sound distinct.
           let p = answers (answer.Built built) B plans H sound distinct in
-          keeps_by (scheduler_of w.scheduler) (how_of w.rebuilder) (kept_in m.stand) H b w.targets B built sound distinct p.leads p.right;
+          plan_keeps (scheduler_of w.scheduler) (how_of w.rebuilder) (kept_in m.stand) H b w.targets built B sound distinct p.right.served p.leads;
       takes = λ told. subst (Takes k)
           (ap (λ (q : Said). q.text) is ∙ ap (λ (y : Choices). reply w.targets built.values y.list built.ran built.given_up built.reused) opens.choices) (takes told);
     }

@@ -12,13 +12,13 @@ use Rattle.carte_words.specs.Words.{words_of}
 use Rattle.carte_words.specs.declared.words.Command.{Command}
 use Rattle.carte_words.specs.declared.words.Command.TheVariants as command
 use Rattle.carte_words.specs.declared.words.Words.{Words as Asked}
+use Rattle.carte_engine.proofs.Keeping.{plan_sound}
 use Rattle.carte_top.specs.Around.{OverSource, OverDisk}
 use Rattle.carte_top.specs.Chosen.{scheduler_of, how_of}
 use Rattle.carte_top.specs.Found.{IsClearing}
 use Rattle.carte_top.specs.Outcome.{IsSpared}
 use Rattle.carte_top.specs.Running.{SessionStaysOver}
 use Rattle.carte_top.specs.Sound.{AreRead, AreReadFor, IsSoundRun, IsStation, KeepsOn, KeepsSound, MayBuild, StaysAt, StaysSound, Visits}
-use Rattle.carte_top.proofs.Keeping.{lead_sound}
 use Rattle.carte_top.proofs.Putting.{stays_kept}
 
 -- where nothing was written to the disk
@@ -40,7 +40,7 @@ built_sound limit w b d stays told settled H (K, keeps, sound) distinct =
     at file (inl there) = (K, there, behind_sound K H (b ∷ []) sound)
     at file (inr (B, may, there)) =
         let leads = may H sound distinct in
-        (apply B K, there, lead_sound (how_of w.rebuilder) K H b w.targets B sound distinct (scheduler_of w.scheduler) leads.0 leads.1.leads)
+        (apply B K, there, plan_sound (scheduler_of w.scheduler) (how_of w.rebuilder) K H b w.targets leads.0 B sound distinct leads.1.leads)
 
 -- under a clearing
 cleaned_sound : (limit : ℕ) (d : OverDisk) → StaysAt limit IsClearing d → StaysSound limit [] d

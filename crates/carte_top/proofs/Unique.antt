@@ -16,7 +16,7 @@ use Rattle.carte_words.specs.Words.{words_of}
 use Rattle.carte_words.specs.declared.words.Words.{Words as Asked}
 use Rattle.carte_engine.specs.Schedulers.{IsServed, IsRefusedFor}
 use Rattle.carte_engine.specs.declared.scheduler.Scheduler.{Scheduler}
-use Rattle.carte_engine.specs.declared.scheduler.Scheduler.TheVariants.{Topological, Suspending}
+use Rattle.carte_engine.specs.declared.scheduler.Scheduler.TheVariants.{Topological, Restarting, Suspending}
 use Rattle.carte_top.specs.Chosen.{BookOfKind}
 use Rattle.carte_top.specs.Found.{IsNeeded}
 
@@ -32,10 +32,12 @@ one_of_kind kind bytes b c one other = let same : Ok b ≡ Ok c = one_outcome ki
 
 pub one_refusal : (s : Scheduler) (b : Book) (targets : List (List ℕ)) (r q : Reason) → IsRefusedFor s b targets r → IsRefusedFor s b targets q → r ≡ q
 one_refusal Topological b targets r q one other = one_order_reason b targets r q one other
+one_refusal Restarting b targets r q one other = one_reason b targets r q one other
 one_refusal Suspending b targets r q one other = one_reason b targets r q one other
 
 pub served_or_refused : (s : Scheduler) (b : Book) (targets : List (List ℕ)) (r : Reason) → IsServed s b targets → IsRefusedFor s b targets r → ⊥
 served_or_refused Topological b targets r served refused = no_order_reason b targets r refused served.0 served.1
+served_or_refused Restarting b targets r served refused = no_reason b targets r refused served
 served_or_refused Suspending b targets r served refused = no_reason b targets r refused served
 
 pub one_needed : (limit : ℕ) (file : List ℕ) (K : SomeKept) (B : Batch) (m n : ℕ) → Keeps limit K file → IsNeeded limit file B m → IsNeeded limit file B n → m ≡ n

@@ -21,7 +21,8 @@ command_named t =
 abbrev pub scheduler_named : List ℕ → Option Scheduler4
 scheduler_named t =
     if bytes_eq t (codes "topological") then Some scheduler.Topological else
-    (if bytes_eq t (codes "suspending") then Some scheduler.Suspending else None)
+    (if bytes_eq t (codes "restarting") then Some scheduler.Restarting else
+    (if bytes_eq t (codes "suspending") then Some scheduler.Suspending else None))
 
 abbrev pub rebuilder_named : List ℕ → Option Rebuilder4
 rebuilder_named t =

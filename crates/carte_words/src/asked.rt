@@ -16,7 +16,7 @@ use std::alloc::Global;
 /// The commands are `build` and `explain`, which take targets, `session` and `clean`, which take none, and `generate`, which
 /// takes a seed and a count in their place: two numbers in digits, the seed of 64 bits, the count from 2 to 65,536. The
 /// options, each at most once, are
-/// `--scheduler topological` or `suspending` (the default), `--rebuilder dirty`, `verifying` (the default),
+/// `--scheduler topological`, `restarting` or `suspending` (the default), `--rebuilder dirty`, `verifying` (the default),
 /// `constructive` or `deep`, `--kind rules` or `sheet`, and `--list`. Without `--kind` a book is a sheet where its
 /// word ends with `.csv`, and else a rule file; a generated one is a rule file. Behind `--` every word is a target.
 ///

@@ -23,6 +23,7 @@ pub(crate) fn scheduler_named(text: &str) -> Option<Scheduler4>
 {
     match text {
         "topological" => Some(Scheduler4::Topological),
+        "restarting" => Some(Scheduler4::Restarting),
         "suspending" => Some(Scheduler4::Suspending),
         _ => None,
     }

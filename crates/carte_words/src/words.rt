@@ -21,6 +21,8 @@ pub enum Command {
 pub enum Scheduler4 {
     /// Each rule after those that its formula refers to. Formulas that choose what they refer to are refused.
     Topological,
+    /// The rules as they were finished last; one that asks for another is given up, and begun anew behind it.
+    Restarting,
     /// The rules as they are asked for; one that waits for another is gone on with later.
     Suspending,
 }
