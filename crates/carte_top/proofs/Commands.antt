@@ -6,8 +6,8 @@ use Rattle.carte_words.specs.declared.words.Words.{Words as Asked}
 use Rattle.carte_report.specs.declared.status.Status.{Status}
 use Rattle.carte_report.specs.declared.status.Status.TheVariants.{ReadFault}
 use Rattle.carte_top.specs.Around.{OverSource, OverDisk, OverSink, IsUnread}
-use Rattle.carte_top.specs.Outcome.{Cleaned, Does, TellsEither, TellsSource}
-use Rattle.carte_top.specs.Running.{Builds, Cleans, ReadsEnough, RunOf, Runs, Sits, Tells}
+use Rattle.carte_top.specs.Outcome.{Cleaned, Does, Generated, TellsEither, TellsSource}
+use Rattle.carte_top.specs.Running.{Builds, Cleans, Generates, ReadsEnough, RunOf, Runs, Sits, Tells}
 use Rattle.carte_top.specs.Sound.{KeepsOn}
 
 module _ (limit : ℕ) (w : Asked) (s c : OverSource) (d : OverDisk) (k : OverSink) (status : Status) where
@@ -32,10 +32,29 @@ module _ (limit : ℕ) (w : Asked) (s c : OverSource) (d : OverDisk) (k : OverSi
       told (inl alone) = inl alone
       told (inr (u, same, tells)) = inr (is, same, tells)
 
-  alone : (to : Status) → Cleaned limit d k to → s.new.faults ≡ s.old.faults → TellsSource s to
-  alone ReadFault did same = absurd did
-  alone to did same = same
+  -- where no source is read, none has failed
+  alone : (to : Status) → (to ≡ ReadFault → ⊥) → s.new.faults ≡ s.old.faults → TellsSource s to
+  alone ReadFault other same = absurd (other refl)
+  alone to other same = same
 
   pub for_clean : w.command ≡ command.Clean → IsUnread s → IsUnread c → ReadsEnough s → Cleans limit d k status → Runs limit w s c d k status
   for_clean is unread still read run =
-      run_for command.Clean is (record { did = (unread, run.did); read = read; visits = inr run.stays; source = inl (alone status run.did unread.1, still); disk = run.disk; sink = run.sink })
+      run_for command.Clean is (record {
+        did = (unread, run.did);
+        read = read;
+        visits = run.visits;
+        source = inl (alone status (λ is. subst (Cleaned limit d k) is run.did) unread.1, still);
+        disk = run.disk;
+        sink = run.sink;
+      })
+
+  pub for_generate : w.command ≡ command.Generate → IsUnread s → IsUnread c → ReadsEnough s → Generates limit w d k status → Runs limit w s c d k status
+  for_generate is unread still read run =
+      run_for command.Generate is (record {
+        did = (unread, run.did);
+        read = read;
+        visits = run.visits;
+        source = inl (alone status (λ is. subst (Generated limit w d k) is run.did) unread.1, still);
+        disk = run.disk;
+        sink = run.sink;
+      })

@@ -29,10 +29,11 @@ use Rattle.carte_report.specs.declared.status.Status.{Status}
 use Rattle.carte_report.specs.declared.status.Status.TheVariants.{Done, BookRefused, Usage, BuildRefused, ReadFault, WriteFault, DiskFault, BadState, StateFull, NoMemory, ScriptTooLong}
 use Rattle.carte_top.specs.Around.{OverSource, OverDisk, OverSink, TakesAll}
 use Rattle.carte_top.specs.Chosen.{scheduler_of, BookOfKind}
-use Rattle.carte_top.specs.Due.{AllFit, AllOver, IsBadNow, IsBook, IsBuildDue, IsCleanDue, IsDue, IsDueFor, IsExplainDue, IsFound, IsHindered, IsKept, IsPlanned, IsSessionDue}
-use Rattle.carte_top.specs.Found.{Clears, ClearsNot, Commits, FitsIn, Found, Holds, IsClearing, IsNeeded, IsOver, IsPut, Overfills, Refuses, Replies, Explains, Carries}
-use Rattle.carte_top.specs.Outcome.{Asks, Built, Cleaned, ComesTo, Does, Explained, IsBad, Lacks, Ran, Sat}
-use Rattle.carte_top.proofs.Unique.{one_meant, one_needed, one_of_kind, one_outcome, one_refusal, served_or_refused}
+use Rattle.carte_top.specs.Due.{AllFit, AllOver, IsBadNow, IsBook, IsBuildDue, IsCleanDue, IsDue, IsDueFor, IsDueOver, IsExplainDue, IsFound, IsGenerateDue, IsHindered, IsKept, IsPlanned, IsSessionDue}
+use Rattle.carte_top.specs.Found.{Clears, ClearsNot, Commits, Found, Holds, IsClearing, Makes, Overfills, Refuses, Replies, Explains, Carries, for_last, front_of}
+use Rattle.carte_top.specs.Outcome.{Asks, Built, Cleaned, ComesTo, Does, Explained, Generated, IsBad, Lacks, Ran, Sat}
+use Rattle.carte_top.proofs.BuildsDue.{all_fit, all_over, bad_one, found_one, found_or_bad, kept_or_bad, meet, over_due, over_same}
+use Rattle.carte_top.proofs.Unique.{one_generated, one_meant, one_of_kind, one_outcome}
 
 -- ---- the book
 
@@ -73,126 +74,23 @@ is_none : (kind : Kind) (s : OverSource) (Q : Book → Type 0) (fault : BookFaul
 is_none kind s Q fault told not holds =
     book_or_none kind s holds.2 fault (subst (λ (xs : List ℕ). BookOfKind kind xs (Ok holds.2)) (sym (holds.1 told).0) holds.3) not
 
--- ---- the state and its room
-
-module _ (limit : ℕ) (d : OverDisk) where
-  found_one : (P Q : SomeKept → Type 0) → IsKept limit d P → Found limit d Q → (K : SomeKept) × Keeps limit K d.old.now.reads × P K × Q K
-  found_one P Q is found =
-      let same : found.0 ≡ is.1 = keeps_one limit d.old.now.reads found.0 is.1 (found.1 is.0) is.2 in
-      (is.1, is.2, is.3, subst Q same found.2)
-
-  kept_or_bad : (P : SomeKept → Type 0) (at : ℕ) → IsKept limit d P → IsBad limit d at → ⊥
-  kept_or_bad P at is bad = keeps_or_bad limit d.old.now.reads is.1 at is.2 (bad is.0).0
-
-  found_or_bad : (Q : SomeKept → Type 0) (at : ℕ) → IsBadNow limit d at → Found limit d Q → ⊥
-  found_or_bad Q at bad found = keeps_or_bad limit d.old.now.reads found.0 at (found.1 bad.0) bad.1
-
-bad_one : (limit : ℕ) (d : OverDisk) (at offset : ℕ) → IsBadNow limit d at → IsBad limit d offset → BadState offset ≡ BadState at
-bad_one limit d at offset is bad = ap BadState (bad_at_one limit d.old.now.reads offset at (bad is.0).0 is.1)
-
-fits_or_over : (limit : ℕ) (file : List ℕ) (B : Batch) (needed : ℕ) → FitsIn limit file B → is_empty B ≡ false → IsNeeded limit file B needed → limit < needed → ⊥
-fits_or_over limit file B needed (inl empty) filled is over = cc
-fits_or_over limit file B needed (inr fits) filled is over = omega (arith, fits needed is, over)
-
--- what such a batch says of a limit, against what all of them say
-module _ (limit : ℕ) (d : OverDisk) (May : Batch → Type 0) (B : Batch) (may : May B) (told : d.tells) where
-  all_fit : AllFit limit d May → (needed most : ℕ) → is_empty B ≡ false → IsOver limit d B needed most → ⊥
-  all_fit fit needed most filled over = fits_or_over limit d.old.now.reads B needed (fit B may) filled (over.needed_is told) over.over
-
-  all_over : (K : SomeKept) (needed most : ℕ) → AllOver limit d needed most May → IsPut limit d K B → ⊥
-  all_over K needed most all put = let is = all.2 B may in fits_or_over limit d.old.now.reads B needed (put.room told) is.0 is.1 all.1
-
-  over_same : (K : SomeKept) (needed most n m : ℕ) → Keeps limit K d.old.now.reads → AllOver limit d needed most May → IsOver limit d B n m → StateFull n m ≡ StateFull needed most
-  over_same K needed most n m keeps all over =
-      let numbers : n ≡ needed = one_needed limit d.old.now.reads K B n needed keeps (over.needed_is told) (all.2 B may).1 in
-      let limits : m ≡ most = over.most_is ∙ sym all.0 in
-      cc
-
 -- ---- a build
 
--- what is due and what was done are said of one book and of what one file keeps
-record Meets (limit : ℕ) (d : OverDisk) (X : Book → Type 0) (Y Q : Book → SomeKept → Type 0) : Type 0 where
-  book : Book
-  first : X book
-  told : d.tells
-  kept : SomeKept
-  keeps : Keeps limit kept d.old.now.reads
-  history : List Book
-  sound : IsSound kept history
-  distinct : HasDistinctDigests (history ++ book ∷ [])
-  room : Y book kept
-  did : Q book kept
-
-meet : (limit : ℕ) (kind : Kind) (s : OverSource) (d : OverDisk) (X : Book → Type 0) (Y Q : Book → SomeKept → Type 0)
-    → IsBook kind s (λ b. X b × IsFound limit d b (Y b)) → Holds kind s (λ b. Found limit d (Q b)) → Meets limit d X Y Q
-meet limit kind s d X Y Q is did =
-    let at = over_one kind s (λ b. X b × IsFound limit d b (Y b)) (λ b. Found limit d (Q b)) is did in
-    let there = found_one limit d (λ K. (H : List Book) × IsSound K H × HasDistinctDigests (H ++ at.0 ∷ []) × Y at.0 K) (Q at.0) at.1.1 at.2 in
-    record {
-      book = at.0;
-      first = at.1.0;
-      told = at.1.1.0;
-      kept = there.0;
-      keeps = there.1;
-      history = there.2.0;
-      sound = there.2.1;
-      distinct = there.2.2;
-      room = there.2.3;
-      did = there.3;
-    }
-
 module _ (limit : ℕ) (w : Asked) (s : OverSource) (d : OverDisk) (k : OverSink) where
-  -- where there is room for each batch that it may commit
-  module _ (X : Book → Type 0) (is : IsBook w.kind s (λ b. X b × IsFound limit d b (λ K. AllFit limit d (IsPlanned w b K)))) where
-    meets : (Q : Book → SomeKept → Type 0) → Holds w.kind s (λ b. Found limit d (Q b)) → Meets limit d X (λ b K. AllFit limit d (IsPlanned w b K)) Q
-    meets Q did = meet limit w.kind s d X (λ b K. AllFit limit d (IsPlanned w b K)) Q is did
-
-    not_full : (needed most : ℕ) → Holds w.kind s (λ b. Found limit d (Overfills limit w d needed most b)) → ⊥
-    not_full needed most did =
-        let m = meets (λ b. Overfills limit w d needed most b) did in
-        all_fit limit d (IsPlanned w m.book m.kept) m.did.batch (m.did.answer, m.did.answers m.history m.sound m.distinct) m.told m.room needed most m.did.filled m.did.over
-
-    refused : (reason : Reason) → Holds w.kind s (λ b. Found limit d (λ K. Commits limit w d b K (answer.Refused reason))) → (b : Book) × X b × IsRefusedFor (scheduler_of w.scheduler) b w.targets reason
-    refused reason did =
-        let m = meets (λ b K. Commits limit w d b K (answer.Refused reason)) did in
-        (m.book, m.first, (m.did.answers m.history m.sound m.distinct).right)
-
-    served : Holds w.kind s (λ b. Found limit d (Replies limit w d k TakesAll b)) → (b : Book) × X b × IsServed (scheduler_of w.scheduler) b w.targets
-    served did =
-        let m = meets (Replies limit w d k TakesAll) did in
-        (m.book, m.first, (m.did.commits.answers m.history m.sound m.distinct).right.served)
-
-    not_bad : (offset : ℕ) → IsBad limit d offset → ⊥
-    not_bad offset bad = kept_or_bad limit d (λ K. (H : List Book) × IsSound K H × HasDistinctDigests (H ++ is.1 ∷ []) × AllFit limit d (IsPlanned w is.1 K)) offset is.3.1 bad
-
-    not_refused : (fault : BookFault) → Refuses w.kind s fault → ⊥
-    not_refused fault refuses = is_book w.kind s (λ b. X b × IsFound limit d b (λ K. AllFit limit d (IsPlanned w b K))) fault is refuses
-
-  -- where there is room for none
-  module _ (needed most : ℕ) (is : IsBook w.kind s (λ b. IsFound limit d b (λ K. AllOver limit d needed most (IsPlanned w b K)))) where
-    meets_over : (Q : Book → SomeKept → Type 0) → Holds w.kind s (λ b. Found limit d (Q b)) → Meets limit d (λ b. Unit {0}) (λ b K. AllOver limit d needed most (IsPlanned w b K)) Q
-    meets_over Q did = meet limit w.kind s d (λ b. Unit {0}) (λ b K. AllOver limit d needed most (IsPlanned w b K)) Q (is.0, is.1, is.2, (tt, is.3)) did
-
-    not_committed : (b : Book) (K : SomeKept) (H : List Book) (a : Answer) → IsSound K H → HasDistinctDigests (H ++ b ∷ []) → AllOver limit d needed most (IsPlanned w b K) → Commits limit w d b K a → ⊥
-    not_committed b K H a sound distinct all did = all_over limit d (IsPlanned w b K) did.batch (a, did.answers H sound distinct) is.3.0 K needed most all did.put
-
-    not_done : Holds w.kind s (λ b. Found limit d (Replies limit w d k TakesAll b)) → ⊥
-    not_done did =
-        let m = meets_over (Replies limit w d k TakesAll) did in
-        not_committed m.book m.kept m.history (answer.Built m.did.built) m.sound m.distinct m.room m.did.commits
-
-    not_kept : (reason : Reason) → Holds w.kind s (λ b. Found limit d (λ K. Commits limit w d b K (answer.Refused reason))) → ⊥
-    not_kept reason did =
-        let m = meets_over (λ b K. Commits limit w d b K (answer.Refused reason)) did in
-        not_committed m.book m.kept m.history (answer.Refused reason) m.sound m.distinct m.room m.did
-
-    as_full : (n most_told : ℕ) → Holds w.kind s (λ b. Found limit d (Overfills limit w d n most_told b)) → StateFull n most_told ≡ StateFull needed most
-    as_full n most_told did =
-        let m = meets_over (λ b. Overfills limit w d n most_told b) did in
-        over_same limit d (IsPlanned w m.book m.kept) m.did.batch (m.did.answer, m.did.answers m.history m.sound m.distinct) m.told m.kept needed most n most_told m.keeps m.room m.did.over
-
-    not_bad_over : (offset : ℕ) → IsBad limit d offset → ⊥
-    not_bad_over offset bad = kept_or_bad limit d (λ K. (H : List Book) × IsSound K H × HasDistinctDigests (H ++ is.1 ∷ []) × AllOver limit d needed most (IsPlanned w is.1 K)) offset is.3 bad
+  -- a book that is due isn't refused
+  refused_due : (fault : BookFault) (due : Status) → Refuses w.kind s fault → IsDueOver (IsBook w.kind s) limit w d due → ⊥
+  refused_due f Done refuses is = is_book w.kind s (λ b. IsServed (scheduler_of w.scheduler) b w.targets × IsFound limit d b (λ K. AllFit limit d (IsPlanned w b K))) f is refuses
+  refused_due f (BuildRefused r) refuses is =
+      is_book w.kind s (λ b. IsRefusedFor (scheduler_of w.scheduler) b w.targets r × IsFound limit d b (λ K. AllFit limit d (IsPlanned w b K))) f is refuses
+  refused_due f (BadState at) refuses is = is_book w.kind s (λ b. IsBadNow limit d at) f is refuses
+  refused_due f (StateFull n m) refuses is = is_book w.kind s (λ b. IsFound limit d b (λ K. AllOver limit d n m (IsPlanned w b K))) f is refuses
+  refused_due f (BookRefused g) refuses is = is
+  refused_due f (Usage g) refuses is = is
+  refused_due f ReadFault refuses is = is
+  refused_due f WriteFault refuses is = is
+  refused_due f DiskFault refuses is = is
+  refused_due f NoMemory refuses is = is
+  refused_due f ScriptTooLong refuses is = is
 
   built_due : (status due : Status) → Built limit w s d k status → IsBuildDue limit w s d due → (status ≡ due) ⊎ IsHindered status
   built_due ReadFault due did is = inr tt
@@ -201,37 +99,22 @@ module _ (limit : ℕ) (w : Asked) (s : OverSource) (d : OverDisk) (k : OverSink
   built_due NoMemory due did is = inr tt
   built_due (Usage fault) due did is = absurd did
   built_due ScriptTooLong due did is = absurd did
-  built_due status ScriptTooLong did is = absurd is
-  built_due status (Usage fault) did is = absurd is
-  built_due status ReadFault did is = absurd is
-  built_due status WriteFault did is = absurd is
-  built_due status DiskFault did is = absurd is
-  built_due status NoMemory did is = absurd is
-  built_due Done Done did is = inl refl
-  built_due Done (BookRefused f) did is = absurd (is_none w.kind s (λ b. Found limit d (Replies limit w d k TakesAll b)) f is.0 is.1 did)
-  built_due Done (BuildRefused r) did is = let at = served (λ b. IsRefusedFor (scheduler_of w.scheduler) b w.targets r) is did in absurd (served_or_refused (scheduler_of w.scheduler) at.0 w.targets r at.2 at.1)
-  built_due Done (BadState at) did is = absurd (found_or_bad limit d (Replies limit w d k TakesAll did.2) at is.3 did.4)
-  built_due Done (StateFull n m) did is = absurd (not_done n m is did)
-  built_due (BookRefused f) Done did is = absurd (not_refused (λ b. IsServed (scheduler_of w.scheduler) b w.targets) is f did.0)
   built_due (BookRefused f) (BookRefused g) did is = inl (ap BookRefused (one_fault w.kind s f g is.0 did.0 is.1))
-  built_due (BookRefused f) (BuildRefused r) did is = absurd (not_refused (λ b. IsRefusedFor (scheduler_of w.scheduler) b w.targets r) is f did.0)
-  built_due (BookRefused f) (BadState at) did is = absurd (is_book w.kind s (λ b. IsBadNow limit d at) f is did.0)
-  built_due (BookRefused f) (StateFull n m) did is = absurd (is_book w.kind s (λ b. IsFound limit d b (λ K. AllOver limit d n m (IsPlanned w b K))) f is did.0)
-  built_due (BuildRefused r) Done did is = let at = refused (λ b. IsServed (scheduler_of w.scheduler) b w.targets) is r did.0 in absurd (served_or_refused (scheduler_of w.scheduler) at.0 w.targets r at.1 at.2)
+  built_due (BookRefused f) due did is = absurd (refused_due f due did.0 is)
+  built_due Done (BookRefused f) did is = absurd (is_none w.kind s (λ b. Found limit d (Replies limit w d k TakesAll b)) f is.0 is.1 did)
   built_due (BuildRefused r) (BookRefused f) did is = absurd (is_none w.kind s (λ b. Found limit d (λ K. Commits limit w d b K (answer.Refused r))) f is.0 is.1 did.0)
-  built_due (BuildRefused r) (BuildRefused q) did is = let at = refused (λ b. IsRefusedFor (scheduler_of w.scheduler) b w.targets q) is r did.0 in inl (ap BuildRefused (one_refusal (scheduler_of w.scheduler) at.0 w.targets r q at.2 at.1))
-  built_due (BuildRefused r) (BadState at) did is = absurd (found_or_bad limit d (λ K. Commits limit w d did.0.2 K (answer.Refused r)) at is.3 did.0.4)
-  built_due (BuildRefused r) (StateFull n m) did is = absurd (not_kept n m is r did.0)
-  built_due (BadState at) Done did is = absurd (not_bad (λ b. IsServed (scheduler_of w.scheduler) b w.targets) is at did.1)
   built_due (BadState at) (BookRefused f) did is = absurd (is_none w.kind s (λ b. Unit {0}) f is.0 is.1 did.0)
-  built_due (BadState at) (BuildRefused r) did is = absurd (not_bad (λ b. IsRefusedFor (scheduler_of w.scheduler) b w.targets r) is at did.1)
-  built_due (BadState at) (BadState offset) did is = inl (bad_one limit d offset at is.3 did.1)
-  built_due (BadState at) (StateFull n m) did is = absurd (not_bad_over n m is at did.1)
-  built_due (StateFull n m) Done did is = absurd (not_full (λ b. IsServed (scheduler_of w.scheduler) b w.targets) is n m did.0)
   built_due (StateFull n m) (BookRefused f) did is = absurd (is_none w.kind s (λ b. Found limit d (Overfills limit w d n m b)) f is.0 is.1 did.0)
-  built_due (StateFull n m) (BuildRefused r) did is = absurd (not_full (λ b. IsRefusedFor (scheduler_of w.scheduler) b w.targets r) is n m did.0)
-  built_due (StateFull n m) (BadState at) did is = absurd (found_or_bad limit d (Overfills limit w d n m did.0.2) at is.3 did.0.4)
-  built_due (StateFull n m) (StateFull needed most) did is = inl (as_full needed most is n m did.0)
+  built_due status due did is = over_due limit d (IsBook w.kind s) (Holds w.kind s) (over_one w.kind s) w [] k status due did is
+
+-- ---- a generated book
+
+-- it is one book
+one_made : (w : Asked) (P Q : Book → Type 0) → Makes w P → Makes w Q → (b : Book) × P b × Q b
+one_made w P Q one other = (one.0, one.2, subst Q (one_generated w.seed w.count other.0 one.0 other.1 one.1) other.2)
+
+made_due : (limit : ℕ) (w : Asked) (d : OverDisk) (k : OverSink) (status due : Status) → Generated limit w d k status → IsGenerateDue limit w d due → (status ≡ due) ⊎ IsHindered status
+made_due limit w d k status due did is = over_due limit d (Makes w) (Makes w) (one_made w) (for_last w) (front_of w) k status due did is
 
 -- ---- a clearing
 
@@ -287,7 +170,7 @@ module _ (limit : ℕ) (w : Asked) (s : OverSource) (d : OverDisk) (k : OverSink
 
     seen_with : (Q : Book → SomeKept → Type 0) → Holds w.kind s (λ b. Found limit d (λ K. Under K b (Q b K))) → (b : Book) × X b × ((K : SomeKept) × Q b K)
     seen_with Q did =
-        let m = meet limit w.kind s d X (λ b K. Unit {0}) (λ b K. Under K b (Q b K)) is did in
+        let m = meet limit d (IsBook w.kind s) (Holds w.kind s) (over_one w.kind s) (λ b. X b × Seen b) X (λ b K. Unit {0}) (λ b K. Under K b (Q b K)) (λ b part. part) is did in
         (m.book, m.first, (m.kept, m.did m.history m.sound m.distinct))
 
   explained : Holds w.kind s (λ b. Found limit d (Explains w k TakesAll b)) → Holds w.kind s (λ b. Found limit d (λ K. Under K b (AllClean b w.targets)))
@@ -383,6 +266,7 @@ module _ (limit : ℕ) (words : List (List ℕ)) (s c : OverSource) (d : OverDis
   by_command command.Session w status due did is = sat_due limit w s c d k status due did is
   by_command command.Explain w status due did is = told_due limit w s d k status due did.0 is
   by_command command.Clean w status due did is = cleaned_due limit d k status due did.1 is
+  by_command command.Generate w status due did is = made_due limit w d k status due did.1 is
 
   asked_due : (status due : Status) → Asks words (λ w. Does w.command limit w s c d k status) → Asks words (λ w. IsDueFor w.command limit w s d due) → (status ≡ due) ⊎ IsHindered status
   asked_due status due did is =

@@ -24,7 +24,7 @@ use Rattle.carte_top.specs.Chosen.{BookOfKind}
 use Rattle.carte_top.specs.Found.{Holds}
 use Rattle.carte_top.specs.Sound.{AreFirst, AreRead, AreReadFor, KeepsSound, StaysSound}
 use Rattle.carte_top.specs.Histories.{AreBooks, AreBooksFor, AreRuns, HasBehind, IsLeft, IsRunFrom, Run, WholeHistories, around_of}
-use Rattle.carte_top.proofs.Unique.{one_meant, one_of_kind}
+use Rattle.carte_top.proofs.Unique.{one_generated, one_meant, one_of_kind}
 
 at_moment : (Q : Moment → Type 0) (ms : List Moment) (m : Moment) → EachMoment Q ms → Has ms m → Q m
 at_moment Q [] m each here = absurd here
@@ -98,6 +98,9 @@ module _ (r : Run) where
       books_front read.2 first.last behind.0 first.lines begin.0 A J first.books (subst (λ (ls : List (List ℕ)). AreBooksAt read.2 ls J behind.0) begin.1 behind.1)
   front_for command.Explain w A J read books = absurd read
   front_for command.Clean w A J read books = absurd read
+  front_for command.Generate w A J read books =
+      let same : books.0 ≡ read.0 = one_generated w.seed w.count books.0 read.0 books.1 read.1 in
+      ([], books.2 ∙ ap (λ (b : Book). b ∷ []) same ∙ sym read.2 ∙ sym (append-nil A))
 
   front_of : (A J : List Book) → AreRead r.words source_of script_of A → AreBooks r J → (rest : List Book) × (J ≡ A ++ rest)
   front_of A J (inl none) books = (J, ap (λ (K : List Book). K ++ J) (sym none))

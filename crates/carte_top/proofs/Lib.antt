@@ -1,4 +1,5 @@
 pub mod Unique
+pub mod Printing
 pub mod Putting
 pub mod Clearing
 pub mod Books
@@ -6,6 +7,7 @@ pub mod Lacking
 pub mod Serving
 pub mod Requesting
 pub mod Sounds
+pub mod BuildsDue
 pub mod Completing
 pub mod Commands
 pub mod Outcomes

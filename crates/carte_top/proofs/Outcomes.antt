@@ -56,39 +56,48 @@ module _ (limit : ℕ) (w : Asked) (s c : OverSource) (d : OverDisk) (k : OverSi
   of_book command.Session fault is did = of_session (BookRefused fault) is tt did
   of_book command.Explain fault is did = spared (did.0.1, did.1)
   of_book command.Clean fault is did = absurd did.1
+  of_book command.Generate fault is did = absurd did.1
 
   of_build : (to : Command) (reason : _) → w.command ≡ to → Does to limit w s c d k (BuildRefused reason) → Short
   of_build command.Build reason is did =
       let holds = did.0 in
       let found = holds.4 in
-      inl (did.1, inr (is, (holds.0, holds.1, holds.2, holds.3, (found.0, found.1, (reason, found.2)))))
+      inl (did.1, inr (inl (is, (holds.0, holds.1, holds.2, holds.3, (found.0, found.1, (reason, found.2))))))
   of_build command.Session reason is did = of_session (BuildRefused reason) is tt did
   of_build command.Explain reason is did = spared (did.0.1, did.1)
   of_build command.Clean reason is did = absurd did.1
+  of_build command.Generate reason is did =
+      let makes = did.1.0 in
+      let found = makes.2 in
+      inl (did.1.1, inr (inr (is, (makes.0, makes.1, (found.0, found.1, (reason, found.2))))))
 
   of_bad : (to : Command) (offset : ℕ) → w.command ≡ to → Does to limit w s c d k (BadState offset) → Short
   of_bad command.Build offset is did = spared (did.2, λ told. (did.1 told).1)
   of_bad command.Session offset is did = of_session (BadState offset) is tt did
   of_bad command.Explain offset is did = spared (did.0.1, did.1)
   of_bad command.Clean offset is did = spared (did.1.1, λ told. (did.1.0 told).1)
+  of_bad command.Generate offset is did = spared (did.1.2, λ told. (did.1.1 told).1)
 
   of_full : (to : Command) (needed most : ℕ) → w.command ≡ to → Does to limit w s c d k (StateFull needed most) → Short
   of_full command.Build needed most is did = spared (did.1, did.0.4.2.over.story)
   of_full command.Session needed most is did = of_session (StateFull needed most) is tt did
   of_full command.Explain needed most is did = absurd did.0.0
   of_full command.Clean needed most is did = spared (did.1.1, did.1.0.2.over.story)
+  of_full command.Generate needed most is did = spared (did.1.1, did.1.0.2.2.over.story)
 
   of_long : (to : Command) → w.command ≡ to → Does to limit w s c d k ScriptTooLong → Short
   of_long command.Build is did = absurd did
   of_long command.Session is did = of_session ScriptTooLong is tt did
   of_long command.Explain is did = absurd did.0.0
   of_long command.Clean is did = absurd did.1
+  of_long command.Generate is did = absurd did.1
 
   of_memory : (to : Command) → w.command ≡ to → Does to limit w s c d k NoMemory → Short
   of_memory command.Build is did = spared did
   of_memory command.Session is did = of_session NoMemory is tt did
   of_memory command.Explain is did = spared (did.0.1, did.1)
   of_memory command.Clean is did = spared did.1
+  of_memory command.Generate is did = spared did.1
 
   never_usage : (end : Result (Unit {0}) SessionEnd) (fault : _) → Usage fault ≡ status_of end → ⊥
   never_usage (Ok done) fault is = cc
@@ -109,6 +118,7 @@ module _ (limit : ℕ) (w : Asked) (s c : OverSource) (d : OverDisk) (k : OverSi
   of_usage command.Session fault did = sat_usage fault did
   of_usage command.Explain fault did = did.0.0
   of_usage command.Clean fault did = did.1
+  of_usage command.Generate fault did = did.1
 
   pub as_memory : (words : List (List ℕ)) → words_of words ≡ Ok w → Short → Ran limit words s c d k NoMemory
   as_memory words asked (inl (untouched, inl spared)) = inl (untouched, inl spared)

@@ -1,5 +1,5 @@
 -- What a run with one request has done, from the two scenes between which it was carried out.
-use Rattle.std.proofs.Common.{◌≡◌, ℕ, ◌+◌, ◌<◌, ◌≤◌, Bool, if◌then◌else◌, List, Option, Some, None, Result, Ok, Err, sym, ◌∙◌, ap, subst, inl, inr, ◌⊎◌}
+use Rattle.std.proofs.Common.{◌≡◌, ℕ, ◌+◌, ◌<◌, ◌≤◌, Bool, if◌then◌else◌, List, [], ◌++◌, Option, Some, None, Result, Ok, Err, sym, ◌∙◌, ap, subst, inl, inr, ◌⊎◌}
 use Rattle.carte_io.specs.Causes.{Rose}
 use Rattle.carte_io.specs.Disk.{IsSettled, LeavesOnly, Story}
 use Rattle.carte_io.proofs.Images.{leaves_more}
@@ -22,6 +22,7 @@ use Rattle.carte_state.proofs.Folds.{keeps_one}
 use Rattle.carte_words.specs.declared.line.Line.{Line}
 use Rattle.carte_words.specs.declared.line.Line.TheVariants as line
 use Rattle.carte_words.specs.declared.words.Words.{Words as Asked}
+use Rattle.carte_generate.specs.Generated.{IsGenerated}
 use Rattle.carte_engine.specs.Answers.{IsPlan, Under}
 use Rattle.carte_engine.specs.Clearing.{clearing}
 use Rattle.carte_engine.specs.declared.answer.Answer.{Answer}
@@ -38,9 +39,9 @@ use Rattle.carte_shell.specs.declared.choices.Choices.{Choices}
 use Rattle.carte_engine.proofs.Keeping.{plan_keeps}
 use Rattle.carte_top.specs.Around.{OverSource, OverDisk, OverSink, IsUntouched, TakesAll, TakesFront}
 use Rattle.carte_top.specs.Chosen.{choices_of, scheduler_of, how_of}
-use Rattle.carte_top.specs.Found.{Answers, Clears, Commits, EndsWith, Explains, FitsIn, Found, GrowsBy, Halts, HasBook, Holds, IsClearing, IsCut, IsNeeded, IsOver, IsPut, Overfills, Replies, calls_into}
-use Rattle.carte_top.specs.Outcome.{Built, Cleaned, Explained, IsSpared, TellsDisk, TellsSink, TellsSource, status_of}
-use Rattle.carte_top.specs.Running.{Builds, Cleans, LoadedOr, Opens, Prints, ReadsEnough, RequestsOver, Shows, Tells}
+use Rattle.carte_top.specs.Found.{Answers, Clears, Commits, EndsWith, Explains, FitsIn, Found, GrowsBy, Halts, HasBook, Holds, IsClearing, IsCut, IsNeeded, IsOver, IsPut, Makes, Overfills, Replies, behind, calls_into, for_last, front_of}
+use Rattle.carte_top.specs.Outcome.{Built, BuiltOver, Cleaned, Explained, IsSpared, TellsDisk, TellsSink, TellsSource, status_of}
+use Rattle.carte_top.specs.Running.{Builds, Cleans, Generates, LoadedOr, Opens, Prints, ReadsEnough, RequestsOver, Shows, Tells}
 use Rattle.carte_top.specs.Sound.{IsStation, MayBuild, StaysAt}
 use Rattle.carte_top.proofs.Books.{holds_so}
 use Rattle.carte_top.proofs.Clearing.{is_clearing}
@@ -71,10 +72,10 @@ module _ (P : Status → Type 0) where
   by_print text k done cut NoMemory prints = absurd prints
   by_print text k done cut ScriptTooLong prints = absurd prints
 
-  by_shows : (r : Said) (k : OverSink) → ((reason : Reason) → r.refused ≡ Some reason → IsUntouched k → P (BuildRefused reason)) → (r.refused ≡ None → Prints r.text k Done → P Done)
-      → (r.refused ≡ None → Prints r.text k WriteFault → P WriteFault) → (status : Status) → Shows r k status → P status
-  by_shows r k refused done cut status (inl (reason, some, is, untouched)) = subst P (sym is) (refused reason some untouched)
-  by_shows r k refused done cut status (inr (none, prints)) = by_print r.text k (done none) (cut none) status prints
+  by_shows : (front : List ℕ) (r : Said) (k : OverSink) → ((reason : Reason) → r.refused ≡ Some reason → IsUntouched k → P (BuildRefused reason)) → (r.refused ≡ None → Prints (front ++ r.text) k Done → P Done)
+      → (r.refused ≡ None → Prints (front ++ r.text) k WriteFault → P WriteFault) → (status : Status) → Shows front r k status → P status
+  by_shows front r k refused done cut status (inl (reason, some, is, untouched)) = subst P (sym is) (refused reason some untouched)
+  by_shows front r k refused done cut status (inr (none, prints)) = by_print (front ++ r.text) k (done none) (cut none) status prints
 
   by_load : (limit : ℕ) (d : OverDisk) → P DiskFault → ((at : ℕ) → (d.tells → IsBadState limit d.old.now.reads at) → P (BadState at)) → P NoMemory → (status : Status)
       → LoadedOr limit d (Err status) → P status
@@ -191,25 +192,25 @@ stop_unread s same line_end.DiskFault = same
 stop_unread s same (line_end.StateFull needed most) = same
 stop_unread s same line_end.NoMemory = same
 
-module _ (limit : ℕ) (x : Choices) (b : Book) (l : Line) (d : OverDisk) (k : OverSink) where
-  told_disk : (status : Status) → RequestsOver limit x b l d k status → TellsDisk d status
+module _ (limit : ℕ) (x : Choices) (b : Book) (l : Line) (front : List ℕ) (d : OverDisk) (k : OverSink) where
+  told_disk : (status : Status) → RequestsOver limit x b l front d k status → TellsDisk d status
   told_disk status (inl (loads, untouched)) = loads.disk
   told_disk status (inr (m, m', opens, last, faults, inl (r, does, shows))) =
       let same : d.failed ≡ d.failed_before = sym faults ∙ obeyed_faults d.tells m m' l r does ∙ opens.faults in
-      by_shows (TellsDisk d) r k (λ reason some untouched. same) (λ none prints. same) (λ none prints. same) status shows
+      by_shows (TellsDisk d) front r k (λ reason some untouched. same) (λ none prints. same) (λ none prints. same) status shows
   told_disk status (inr (m, m', opens, last, faults, inr (end, is, breaks, untouched))) =
       subst (TellsDisk d) (sym is) (stop_told d m m' l opens.faults faults end breaks)
 
-  told_sink : (status : Status) → RequestsOver limit x b l d k status → TellsSink k status
+  told_sink : (status : Status) → RequestsOver limit x b l front d k status → TellsSink k status
   told_sink status (inl (loads, untouched)) = by_load (TellsSink k) limit d untouched.2 (λ at bad. untouched.2) untouched.2 status loads.loaded
   told_sink status (inr (m, m', opens, last, faults, inl (r, does, shows))) =
-      by_shows (TellsSink k) r k (λ reason some untouched. untouched.2) (λ none prints. prints.1) (λ none prints. prints.1) status shows
+      by_shows (TellsSink k) front r k (λ reason some untouched. untouched.2) (λ none prints. prints.1) (λ none prints. prints.1) status shows
   told_sink status (inr (m, m', opens, last, faults, inr (end, is, breaks, untouched))) = subst (TellsSink k) (sym is) (stop_quiet k untouched.2 end)
 
-  told_source : (s : OverSource) → s.new.faults ≡ s.old.faults → (status : Status) → RequestsOver limit x b l d k status → TellsSource s status
+  told_source : (s : OverSource) → s.new.faults ≡ s.old.faults → (status : Status) → RequestsOver limit x b l front d k status → TellsSource s status
   told_source s same status (inl (loads, untouched)) = by_load (TellsSource s) limit d same (λ at bad. same) same status loads.loaded
   told_source s same status (inr (m, m', opens, last, faults, inl (r, does, shows))) =
-      by_shows (TellsSource s) r k (λ reason some untouched. same) (λ none prints. same) (λ none prints. same) status shows
+      by_shows (TellsSource s) front r k (λ reason some untouched. same) (λ none prints. same) (λ none prints. same) status shows
   told_source s same status (inr (m, m', opens, last, faults, inr (end, is, breaks, untouched))) = subst (TellsSource s) (sym is) (stop_unread s same end)
 
 -- ---- a clearing
@@ -263,34 +264,28 @@ module _ (limit : ℕ) (x : Choices) (b : Book) (d : OverDisk) (k : OverSink) wh
         stays limit x b d m m' opens last B IsClearing (Err (applying.Full needed most)) stops (subst (IsClearing (kept_in m.stand)) (sym is) (is_clearing m.stand))
     clear_stays line_end.NoMemory same = still_at limit d IsClearing (spared limit x b d m m' opens last (ap (λ (s : Scene). s.story) same))
 
-  cleaned : (status : Status) → RequestsOver limit x b line.Clean d k status → Cleaned limit d k status
+  cleaned : (status : Status) → RequestsOver limit x b line.Clean [] d k status → Cleaned limit d k status
   cleaned status (inl (loads, untouched)) =
       by_load (Cleaned limit d k) limit d (inl loads.story, untouched) (λ at bad. ((λ told. (bad told, loads.story told)), untouched)) (untouched, loads.story) status loads.loaded
   cleaned status (inr (m, m', opens, last, faults, inl (r, does, shows))) =
-      by_shows (Cleaned limit d k) r k (λ reason some untouched. absurd (not_both r.refused reason (ap (λ (q : Said). q.refused) does.0) some))
+      by_shows (Cleaned limit d k) [] r k (λ reason some untouched. absurd (not_both r.refused reason (ap (λ (q : Said). q.refused) does.0) some))
       (λ none prints. clears m m' opens last TakesAll r does prints.0) (λ none prints. clears m m' opens last TakesFront r does prints.0) status shows
   cleaned status (inr (m, m', opens, last, faults, inr (end, is, breaks, untouched))) = subst (Cleaned limit d k) (sym is) (clear_stopped m m' opens last end breaks untouched)
 
-  cleaned_at : (status : Status) → RequestsOver limit x b line.Clean d k status → StaysAt limit IsClearing d
+  cleaned_at : (status : Status) → RequestsOver limit x b line.Clean [] d k status → StaysAt limit IsClearing d
   cleaned_at status (inl (loads, untouched)) = still_at limit d IsClearing loads.story
   cleaned_at status (inr (m, m', opens, last, faults, inl (r, does, shows))) = stays limit x b d m m' opens last (clearing m.stand) IsClearing (Ok tt) does.1 (is_clearing m.stand)
   cleaned_at status (inr (m, m', opens, last, faults, inr (end, is, breaks, untouched))) = clear_stays m m' opens last end breaks
 
-  pub cleans : (status : Status) → RequestsOver limit x b line.Clean d k status → Cleans limit d k status
-  cleans status one = record { did = cleaned status one; stays = cleaned_at status one; disk = told_disk limit x b line.Clean d k status one; sink = told_sink limit x b line.Clean d k status one }
+  pub cleans : (status : Status) → RequestsOver limit x b line.Clean [] d k status → Cleans limit d k status
+  cleans status one = record { did = cleaned status one; visits = inr (cleaned_at status one); disk = told_disk limit x b line.Clean [] d k status one; sink = told_sink limit x b line.Clean [] d k status one }
 
 -- ---- a build
 
-module _ (limit : ℕ) (w : Asked) (s : OverSource) (d : OverDisk) (k : OverSink) (b : Book) (holds : Holds w.kind s (λ c. c ≡ b)) where
-  abbrev With : (Book → SomeKept → Type 0) → Type 0
-  With P = Holds w.kind s (λ c. Found limit d (P c))
-
-  has_book : HasBook w.kind s
-  has_book = holds_so w.kind s b holds (λ c. Unit {0}) tt
-
+module _ (limit : ℕ) (w : Asked) (d : OverDisk) (k : OverSink) (b : Book) where
   module _ (m m' : Scene) (opens : Opens limit (choices_of w) b d m) (last : m'.story ≡ d.new) where
-    there : (P : Book → SomeKept → Type 0) → P b (kept_in m.stand) → With P
-    there P holds_there = holds_so w.kind s b holds (λ c. Found limit d (P c)) (kept_in m.stand, found limit (choices_of w) b d m m' opens last, holds_there)
+    found_there : (P : Book → SomeKept → Type 0) → P b (kept_in m.stand) → Found limit d (P b)
+    found_there P holds_there = (kept_in m.stand, found limit (choices_of w) b d m m' opens last, holds_there)
 
     answers : (a : Answer) (B : Batch) → Plans m w.targets a B → Answers w b (kept_in m.stand) a B
     answers a B plans =
@@ -325,21 +320,6 @@ module _ (limit : ℕ) (w : Asked) (s : OverSource) (d : OverDisk) (k : OverSink
           put = put limit (choices_of w) b d m m' opens last B puts;
         }
 
-    build_stopped : (end : StepEnd) → Breaks d.tells m (line.Build w.targets) end m' → IsUntouched k → Built limit w s d k (status_of (Err (Machine end)))
-    build_stopped line_end.DiskFault (B, (a, plans), stops) untouched =
-        (inr (there (Halts w d) (record { answer = a; batch = B; answers = answers a B plans; cut = cut limit (choices_of w) b d m m' opens last B stops })), untouched)
-    build_stopped (line_end.StateFull needed most) (B, (a, plans), stops) untouched = (
-      there (Overfills limit w d needed most) (record {
-        answer = a;
-        batch = B;
-        answers = answers a B plans;
-        filled = stops.applies.comes.0.filled;
-        over = over limit (choices_of w) b d m m' opens last B needed most stops.applies.comes.0 stops.applies.comes.1.disk.story;
-      }),
-      untouched,
-    )
-    build_stopped line_end.NoMemory same untouched = (untouched, spared limit (choices_of w) b d m m' opens last (ap (λ (q : Scene). q.story) same))
-
     build_stays : (end : StepEnd) → Breaks d.tells m (line.Build w.targets) end m' → StaysAt limit (MayBuild w b) d
     build_stays line_end.DiskFault (B, (a, plans), stops) =
         stays limit (choices_of w) b d m m' opens last B (MayBuild w b) (Err applying.DiskFault) stops (may_build a B plans)
@@ -369,66 +349,118 @@ module _ (limit : ℕ) (w : Asked) (s : OverSource) (d : OverDisk) (k : OverSink
         subst (λ (y : Reason). Under (kept_in m.stand) b (IsReason b w.targets y)) told
         (subst (λ (c : Book). Under (kept_in m.stand) c (IsReason c w.targets other)) opens.book why)
 
-    explain_stopped : (end : StepEnd) → Breaks d.tells m (line.Explain w.targets) end m' → IsUntouched k → Explained limit w s d k (status_of (Err (Machine end)))
-    explain_stopped line_end.DiskFault (B, never, stops) untouched = absurd never
-    explain_stopped (line_end.StateFull needed most) (B, never, stops) untouched = absurd never
-    explain_stopped line_end.NoMemory same untouched = (tt, untouched)
-
     explain_spared : (end : StepEnd) → Breaks d.tells m (line.Explain w.targets) end m' → IsSpared d
     explain_spared line_end.DiskFault (B, never, stops) = absurd never
     explain_spared (line_end.StateFull needed most) (B, never, stops) = absurd never
     explain_spared line_end.NoMemory same = spared limit (choices_of w) b d m m' opens last (ap (λ (q : Scene). q.story) same)
 
-  built : (status : Status) → RequestsOver limit (choices_of w) b (line.Build w.targets) d k status → Built limit w s d k status
-  built status (inl (loads, untouched)) =
-      by_load (Built limit w s d k) limit d (inl (has_book, loads.story), untouched) (λ at bad. (has_book, (λ told. (bad told, loads.story told)), untouched)) (untouched, loads.story) status loads.loaded
-  built status (inr (m, m', opens, last, faults, inl (r, (a, B, plans, is, puts), shows))) =
-      by_shows (Built limit w s d k) r k
-      (λ reason some untouched. (there m m' opens last (λ c K. Commits limit w d c K (answer.Refused reason)) (refuses m m' opens last r a B plans is puts reason some), untouched))
-      (λ none prints. there m m' opens last (Replies limit w d k TakesAll) (replies m m' opens last TakesAll r a B plans is puts none prints.0))
-      (λ none prints. there m m' opens last (Replies limit w d k TakesFront) (replies m m' opens last TakesFront r a B plans is puts none prints.0)) status shows
-  built status (inr (m, m', opens, last, faults, inr (end, is, breaks, untouched))) = subst (Built limit w s d k) (sym is) (build_stopped m m' opens last end breaks untouched)
+  module _ (front : List ℕ) where
+    built_at : (status : Status) → RequestsOver limit (choices_of w) b (line.Build w.targets) front d k status → StaysAt limit (MayBuild w b) d
+    built_at status (inl (loads, untouched)) = still_at limit d (MayBuild w b) loads.story
+    built_at status (inr (m, m', opens, last, faults, inl (r, (a, B, plans, is, puts), shows))) =
+        stays limit (choices_of w) b d m m' opens last B (MayBuild w b) (Ok tt) puts (may_build m m' opens last a B plans)
+    built_at status (inr (m, m', opens, last, faults, inr (end, is, breaks, untouched))) = build_stays m m' opens last end breaks
 
-  built_at : (status : Status) → RequestsOver limit (choices_of w) b (line.Build w.targets) d k status → StaysAt limit (MayBuild w b) d
-  built_at status (inl (loads, untouched)) = still_at limit d (MayBuild w b) loads.story
-  built_at status (inr (m, m', opens, last, faults, inl (r, (a, B, plans, is, puts), shows))) =
-      stays limit (choices_of w) b d m m' opens last B (MayBuild w b) (Ok tt) puts (may_build m m' opens last a B plans)
-  built_at status (inr (m, m', opens, last, faults, inr (end, is, breaks, untouched))) = build_stays m m' opens last end breaks
+    -- the book is had in some way
+    module _ (Has : (Book → Type 0) → Type 0) (has : (P : Book → Type 0) → P b → Has P) where
+      abbrev Did : Status → Type 0
+      Did status = BuiltOver Has limit w front d k status
 
-  pub builds : (status : Status) → RequestsOver limit (choices_of w) b (line.Build w.targets) d k status → ReadsEnough s → s.new.faults ≡ s.old.faults → Builds limit w s d k status
+      module _ (m m' : Scene) (opens : Opens limit (choices_of w) b d m) (last : m'.story ≡ d.new) where
+        there : (P : Book → SomeKept → Type 0) → P b (kept_in m.stand) → Has (λ c. Found limit d (P c))
+        there P holds_there = has (λ c. Found limit d (P c)) (found_there m m' opens last P holds_there)
+
+        build_stopped : (end : StepEnd) → Breaks d.tells m (line.Build w.targets) end m' → IsUntouched k → Did (status_of (Err (Machine end)))
+        build_stopped line_end.DiskFault (B, (a, plans), stops) untouched = (
+          inr (there (Halts w d) (record { answer = a; batch = B; answers = answers m m' opens last a B plans; cut = cut limit (choices_of w) b d m m' opens last B stops })),
+          untouched,
+        )
+        build_stopped (line_end.StateFull needed most) (B, (a, plans), stops) untouched = (
+          there (Overfills limit w d needed most) (record {
+            answer = a;
+            batch = B;
+            answers = answers m m' opens last a B plans;
+            filled = stops.applies.comes.0.filled;
+            over = over limit (choices_of w) b d m m' opens last B needed most stops.applies.comes.0 stops.applies.comes.1.disk.story;
+          }),
+          untouched,
+        )
+        build_stopped line_end.NoMemory same untouched = (untouched, spared limit (choices_of w) b d m m' opens last (ap (λ (q : Scene). q.story) same))
+
+      built : (status : Status) → RequestsOver limit (choices_of w) b (line.Build w.targets) front d k status → Did status
+      built status (inl (loads, untouched)) =
+          by_load Did limit d (inl (has (λ c. Unit {0}) tt, loads.story), untouched) (λ at bad. (has (λ c. Unit {0}) tt, (λ told. (bad told, loads.story told)), untouched))
+          (untouched, loads.story) status loads.loaded
+      built status (inr (m, m', opens, last, faults, inl (r, (a, B, plans, is, puts), shows))) =
+          by_shows Did front r k
+          (λ reason some untouched. (there m m' opens last (λ c K. Commits limit w d c K (answer.Refused reason)) (refuses m m' opens last r a B plans is puts reason some), untouched))
+          (λ none prints. there m m' opens last (Replies limit w d k (behind front TakesAll)) (replies m m' opens last (behind front TakesAll) r a B plans is puts none prints.0))
+          (λ none prints. there m m' opens last (Replies limit w d k (behind front TakesFront)) (replies m m' opens last (behind front TakesFront) r a B plans is puts none prints.0)) status shows
+      built status (inr (m, m', opens, last, faults, inr (end, is, breaks, untouched))) = subst Did (sym is) (build_stopped m m' opens last end breaks untouched)
+
+-- over a generated book
+pub generates : (limit : ℕ) (w : Asked) (d : OverDisk) (k : OverSink) (b : Book) → IsGenerated w.seed w.count b → (status : Status)
+    → RequestsOver limit (choices_of w) b (line.Build (for_last w).targets) (front_of w) d k status → Generates limit w d k status
+generates limit w d k b generated status one = record {
+  did = built limit (for_last w) d k b (front_of w) (Makes w) (λ P has. (b, generated, has)) status one;
+  visits = inr (b, generated, built_at limit (for_last w) d k b (front_of w) status one);
+  disk = told_disk limit (choices_of w) b (line.Build (for_last w).targets) (front_of w) d k status one;
+  sink = told_sink limit (choices_of w) b (line.Build (for_last w).targets) (front_of w) d k status one;
+}
+
+-- over a book that was read
+module _ (limit : ℕ) (w : Asked) (s : OverSource) (d : OverDisk) (k : OverSink) (b : Book) (holds : Holds w.kind s (λ c. c ≡ b)) where
+  as_built : (status : Status) → BuiltOver (Holds w.kind s) limit w [] d k status → Built limit w s d k status
+  as_built (BookRefused fault) did = absurd did
+  as_built ReadFault did = absurd did
+  as_built status did = did
+
+  pub builds : (status : Status) → RequestsOver limit (choices_of w) b (line.Build w.targets) [] d k status → ReadsEnough s → s.new.faults ≡ s.old.faults → Builds limit w s d k status
   builds status one read same = record {
-    did = built status one;
+    did = as_built status (built limit w d k b [] (Holds w.kind s) (holds_so w.kind s b holds) status one);
     read = read;
-    visits = inr (holds_so w.kind s b holds (λ c. StaysAt limit (MayBuild w c) d) (built_at status one));
-    source = told_source limit (choices_of w) b (line.Build w.targets) d k s same status one;
-    disk = told_disk limit (choices_of w) b (line.Build w.targets) d k status one;
-    sink = told_sink limit (choices_of w) b (line.Build w.targets) d k status one;
+    visits = inr (holds_so w.kind s b holds (λ c. StaysAt limit (MayBuild w c) d) (built_at limit w d k b [] status one));
+    source = told_source limit (choices_of w) b (line.Build w.targets) [] d k s same status one;
+    disk = told_disk limit (choices_of w) b (line.Build w.targets) [] d k status one;
+    sink = told_sink limit (choices_of w) b (line.Build w.targets) [] d k status one;
   }
 
   -- ---- an explanation
 
-  explained : (status : Status) → RequestsOver limit (choices_of w) b (line.Explain w.targets) d k status → Explained limit w s d k status
+  has_book : HasBook w.kind s
+  has_book = holds_so w.kind s b holds (λ c. Unit {0}) tt
+
+  explain_stopped : (end : StepEnd) (m m' : Scene) → Breaks d.tells m (line.Explain w.targets) end m' → IsUntouched k → Explained limit w s d k (status_of (Err (Machine end)))
+  explain_stopped line_end.DiskFault m m' (B, never, stops) untouched = absurd never
+  explain_stopped (line_end.StateFull needed most) m m' (B, never, stops) untouched = absurd never
+  explain_stopped line_end.NoMemory m m' same untouched = (tt, untouched)
+
+  module _ (m m' : Scene) (opens : Opens limit (choices_of w) b d m) (last : m'.story ≡ d.new) where
+    explained_there : (P : Book → SomeKept → Type 0) → P b (kept_in m.stand) → Holds w.kind s (λ c. Found limit d (P c))
+    explained_there P holds_there = holds_so w.kind s b holds (λ c. Found limit d (P c)) (found_there limit w d k b m m' opens last P holds_there)
+
+  explained : (status : Status) → RequestsOver limit (choices_of w) b (line.Explain w.targets) [] d k status → Explained limit w s d k status
   explained status (inl (loads, untouched)) =
       by_load (Explained limit w s d k) limit d (has_book, untouched) (λ at bad. ((has_book, λ told. (bad told, loads.story told)), untouched)) (tt, untouched) status loads.loaded
   explained status (inr (m, m', opens, last, faults, inl (r, (told, same), shows))) =
-      by_shows (Explained limit w s d k) r k
-      (λ reason some untouched. (there m m' opens last (λ c K. Under K c (IsReason c w.targets reason)) (reasons m m' opens last r told reason some), untouched))
-      (λ none prints. there m m' opens last (Explains w k TakesAll) (explains m m' opens last TakesAll r told none prints.0))
-      (λ none prints. there m m' opens last (Explains w k TakesFront) (explains m m' opens last TakesFront r told none prints.0)) status shows
+      by_shows (Explained limit w s d k) [] r k
+      (λ reason some untouched. (explained_there m m' opens last (λ c K. Under K c (IsReason c w.targets reason)) (reasons limit w d k b m m' opens last r told reason some), untouched))
+      (λ none prints. explained_there m m' opens last (Explains w k TakesAll) (explains limit w d k b m m' opens last TakesAll r told none prints.0))
+      (λ none prints. explained_there m m' opens last (Explains w k TakesFront) (explains limit w d k b m m' opens last TakesFront r told none prints.0)) status shows
   explained status (inr (m, m', opens, last, faults, inr (end, is, breaks, untouched))) =
-      subst (Explained limit w s d k) (sym is) (explain_stopped m m' opens last end breaks untouched)
+      subst (Explained limit w s d k) (sym is) (explain_stopped end m m' breaks untouched)
 
-  explained_spared : (status : Status) → RequestsOver limit (choices_of w) b (line.Explain w.targets) d k status → IsSpared d
+  explained_spared : (status : Status) → RequestsOver limit (choices_of w) b (line.Explain w.targets) [] d k status → IsSpared d
   explained_spared status (inl (loads, untouched)) = loads.story
   explained_spared status (inr (m, m', opens, last, faults, inl (r, (told, same), shows))) = spared limit (choices_of w) b d m m' opens last (ap (λ (q : Scene). q.story) same)
-  explained_spared status (inr (m, m', opens, last, faults, inr (end, is, breaks, untouched))) = explain_spared m m' opens last end breaks
+  explained_spared status (inr (m, m', opens, last, faults, inr (end, is, breaks, untouched))) = explain_spared limit w d k b m m' opens last end breaks
 
-  pub tells : (status : Status) → RequestsOver limit (choices_of w) b (line.Explain w.targets) d k status → ReadsEnough s → s.new.faults ≡ s.old.faults → Tells limit w s d k status
+  pub tells : (status : Status) → RequestsOver limit (choices_of w) b (line.Explain w.targets) [] d k status → ReadsEnough s → s.new.faults ≡ s.old.faults → Tells limit w s d k status
   tells status one read same = record {
     did = (explained status one, explained_spared status one);
     read = read;
     visits = inr (has_book, explained_spared status one);
-    source = told_source limit (choices_of w) b (line.Explain w.targets) d k s same status one;
-    disk = told_disk limit (choices_of w) b (line.Explain w.targets) d k status one;
-    sink = told_sink limit (choices_of w) b (line.Explain w.targets) d k status one;
+    source = told_source limit (choices_of w) b (line.Explain w.targets) [] d k s same status one;
+    disk = told_disk limit (choices_of w) b (line.Explain w.targets) [] d k status one;
+    sink = told_sink limit (choices_of w) b (line.Explain w.targets) [] d k status one;
   }

@@ -15,7 +15,7 @@ use Rattle.carte_words.specs.declared.words.Words.{Words as Asked}
 use Rattle.carte_engine.proofs.Keeping.{plan_sound}
 use Rattle.carte_top.specs.Around.{OverSource, OverDisk}
 use Rattle.carte_top.specs.Chosen.{scheduler_of, how_of}
-use Rattle.carte_top.specs.Found.{IsClearing}
+use Rattle.carte_top.specs.Found.{IsClearing, for_last}
 use Rattle.carte_top.specs.Outcome.{IsSpared}
 use Rattle.carte_top.specs.Running.{SessionStaysOver}
 use Rattle.carte_top.specs.Sound.{AreRead, AreReadFor, IsSoundRun, IsStation, KeepsOn, KeepsSound, MayBuild, StaysAt, StaysSound, Visits}
@@ -56,6 +56,7 @@ visited_sound limit command.Build w s c d (bytes, was, b, is, stays) = (b ∷ []
 visited_sound limit command.Session w s c d (bytes, was, b, is, (J, first, stays)) = (J, inr (bytes, was, b, is, first), stays)
 visited_sound limit command.Explain w s c d (book, spared) = ([], inl refl, spared_sound limit d spared)
 visited_sound limit command.Clean w s c d stays = ([], inl refl, cleaned_sound limit d stays)
+visited_sound limit command.Generate w s c d (b, is, stays) = (b ∷ [], inr (b, is, refl), built_sound limit (for_last w) b d stays)
 
 asked_sound : (limit : ℕ) (words : List (List ℕ)) (w : Asked) (s c : OverSource) (d : OverDisk) (J : List Book) → words_of words ≡ Ok w → (J ≡ []) ⊎ AreReadFor w.command w s c J → AreRead words s c J
 asked_sound limit words w s c d J asked (inl none) = inl none

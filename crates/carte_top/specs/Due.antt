@@ -20,7 +20,7 @@ use Rattle.carte_report.specs.declared.status.Status.{Status}
 use Rattle.carte_report.specs.declared.status.Status.TheVariants.{Done, BookRefused, Usage, BuildRefused, ReadFault, WriteFault, DiskFault, BadState, StateFull, NoMemory, ScriptTooLong}
 use Rattle.carte_top.specs.Around.{OverSource, OverDisk}
 use Rattle.carte_top.specs.Chosen.{scheduler_of, how_of, BookOfKind}
-use Rattle.carte_top.specs.Found.{FitsIn, IsNeeded, IsClearing}
+use Rattle.carte_top.specs.Found.{FitsIn, IsNeeded, IsClearing, Makes, for_last}
 use Rattle.carte_top.specs.Outcome.{Asks}
 
 -- ---- what is there
@@ -56,13 +56,20 @@ AllOver limit d needed most May = (most ≡ limit) × (limit < needed) × ((B : 
 
 -- ---- the status
 
+-- of a build over a book that is there so
+abbrev pub IsDueOver : ((Book → Type 0) → Type 0) → ℕ → Asked → OverDisk → Status → Type 0
+IsDueOver Is limit w d Done = Is (λ b. IsServed (scheduler_of w.scheduler) b w.targets × IsFound limit d b (λ K. AllFit limit d (IsPlanned w b K)))
+IsDueOver Is limit w d (BuildRefused reason) = Is (λ b. IsRefusedFor (scheduler_of w.scheduler) b w.targets reason × IsFound limit d b (λ K. AllFit limit d (IsPlanned w b K)))
+IsDueOver Is limit w d (BadState at) = Is (λ b. IsBadNow limit d at)
+IsDueOver Is limit w d (StateFull needed most) = Is (λ b. IsFound limit d b (λ K. AllOver limit d needed most (IsPlanned w b K)))
+IsDueOver Is limit w d _ = ⊥
+
 abbrev pub IsBuildDue : ℕ → Asked → OverSource → OverDisk → Status → Type 0
-IsBuildDue limit w s d Done = IsBook w.kind s (λ b. IsServed (scheduler_of w.scheduler) b w.targets × IsFound limit d b (λ K. AllFit limit d (IsPlanned w b K)))
 IsBuildDue limit w s d (BookRefused fault) = s.tells × BookOfKind w.kind s.old.left (Err fault)
-IsBuildDue limit w s d (BuildRefused reason) = IsBook w.kind s (λ b. IsRefusedFor (scheduler_of w.scheduler) b w.targets reason × IsFound limit d b (λ K. AllFit limit d (IsPlanned w b K)))
-IsBuildDue limit w s d (BadState at) = IsBook w.kind s (λ b. IsBadNow limit d at)
-IsBuildDue limit w s d (StateFull needed most) = IsBook w.kind s (λ b. IsFound limit d b (λ K. AllOver limit d needed most (IsPlanned w b K)))
-IsBuildDue limit w s d _ = ⊥
+IsBuildDue limit w s d due = IsDueOver (IsBook w.kind s) limit w d due
+
+abbrev pub IsGenerateDue : ℕ → Asked → OverDisk → Status → Type 0
+IsGenerateDue limit w d due = IsDueOver (Makes w) limit (for_last w) d due
 
 abbrev pub IsCleanDue : ℕ → OverDisk → Status → Type 0
 IsCleanDue limit d Done = IsKept limit d (λ K. AllFit limit d (IsClearing K))
@@ -88,6 +95,7 @@ IsDueFor command.Build limit w s d due = IsBuildDue limit w s d due
 IsDueFor command.Session limit w s d due = IsSessionDue limit w s d due
 IsDueFor command.Explain limit w s d due = IsExplainDue limit w s d due
 IsDueFor command.Clean limit w s d due = IsCleanDue limit d due
+IsDueFor command.Generate limit w s d due = IsGenerateDue limit w d due
 
 abbrev pub IsDue : ℕ → List (List ℕ) → OverSource → OverDisk → Status → Type 0
 IsDue limit words s d (Usage fault) = words_of words ≡ Err fault

@@ -19,6 +19,7 @@ use Rattle.carte_session.specs.declared.end.SessionEnd.{SessionEnd}
 use Rattle.carte_state.specs.Folding.{Keeps}
 use Rattle.carte_state.specs.States.{IsLoaded, kept_in}
 use Rattle.carte_words.specs.declared.words.Words.{Words as Asked}
+use Rattle.carte_generate.specs.Generated.{IsGenerated, inputs_of, target_of}
 use Rattle.carte_engine.specs.declared.answer.Answer.{Answer}
 use Rattle.carte_engine.specs.declared.answer.Answer.TheVariants as answer
 use Rattle.carte_engine.specs.declared.answer.Built.{Built}
@@ -26,7 +27,7 @@ use Rattle.carte_engine.specs.Answers.{IsPlan, Under}
 use Rattle.carte_engine.specs.Schedulers.{KeepsBy}
 use Rattle.carte_explain.specs.declared.why.Why.{Why}
 use Rattle.carte_report.specs.Lines.{why_lines}
-use Rattle.carte_report.specs.Reply.{reply}
+use Rattle.carte_report.specs.Reply.{keys_line, reply}
 use Rattle.carte_shell.specs.Answers.{Answers as AnswersLine, Ends as EndsAt}
 use Rattle.carte_shell.specs.Explained.{AreWhys}
 use Rattle.carte_shell.specs.Scenes.{Scene}
@@ -54,6 +55,10 @@ HasBook kind s = Holds kind s (λ b. Unit {0})
 abbrev pub Refuses : Kind → OverSource → BookFault → Type 0
 Refuses kind s BookNoMemory = ⊥
 Refuses kind s fault = (bytes : List ℕ) × (WasRead s bytes ⊎ WasReadInPart s bytes) × BookOfKind kind bytes (Err fault)
+
+-- it is the generated book of the words' seed and count, of which nothing is read
+abbrev pub Makes : Asked → (Book → Type 0) → Type 0
+Makes w P = (b : Book) × IsGenerated w.seed w.count b × P b
 
 -- ---- the state
 
@@ -129,6 +134,16 @@ pub record Replies (limit : ℕ) (w : Asked) (d : OverDisk) (k : OverSink) (Take
   pub commits : Commits limit w d b K (answer.Built built)
   pub keeps : Under K b (KeepsBy (scheduler_of w.scheduler) (how_of w.rebuilder) K (apply commits.batch K) b w.targets)
   pub takes : k.tells → Takes k (reply_to w built)
+
+-- a generated book is built for its last key, and its reply stands behind a line that tells of its keys
+abbrev pub for_last : Asked → Asked
+for_last w = record w { targets = target_of w.count ∷ [] }
+
+abbrev pub front_of : Asked → List ℕ
+front_of w = keys_line w.count (inputs_of w.count)
+
+abbrev pub behind : List ℕ → (OverSink → List ℕ → Type 0) → OverSink → List ℕ → Type 0
+behind front Takes k text = Takes k (front ++ text)
 
 -- a batch that a build may commit isn't empty, and is too much
 pub record Overfills (limit : ℕ) (w : Asked) (d : OverDisk) (needed most : ℕ) (b : Book) (K : SomeKept) : Type 0 where

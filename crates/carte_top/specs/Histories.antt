@@ -16,6 +16,7 @@ use Rattle.carte_words.specs.declared.words.Words.{Words as Asked}
 use Rattle.carte_report.specs.declared.status.Status.{Status}
 use Rattle.carte_top.specs.Around.{Around}
 use Rattle.carte_top.specs.Chosen.{BookOfKind}
+use Rattle.carte_top.specs.Found.{Makes}
 use Rattle.carte_top.specs.Outcome.{Asks}
 use Rattle.carte_top.specs.Sound.{KeepsSound}
 use Rattle.carte_top.specs.Whole.{IsOutcome}
@@ -67,12 +68,13 @@ pub record IsRunFrom (limit : ℕ) (file : List ℕ) (r : Run) : Type 0 where
 abbrev pub HasBehind : Kind → List ℕ → (Book → List Book → Type 0) → List Book → Type 0
 HasBehind kind bytes Behind J = (((b : Book) → ¬ (BookOfKind kind bytes (Ok b))) × (J ≡ [])) ⊎ ((b : Book) × BookOfKind kind bytes (Ok b) × Behind b J)
 
--- that of a build or an explanation; those at the lines of a session that build or explain, and edits stand between them
+-- that of a build or an explanation, read or generated; those at the lines of a session that build or explain, and edits stand between them
 abbrev pub AreBooksFor : Command → Asked → List ℕ → List ℕ → List Book → Type 0
 AreBooksFor command.Build w book script J = HasBehind w.kind book (λ b I. I ≡ b ∷ []) J
 AreBooksFor command.Session w book script J = HasBehind w.kind book (λ b I. (c : Book) × AreBooksAt b (lines_of script) I c) J
 AreBooksFor command.Explain w book script J = HasBehind w.kind book (λ b I. I ≡ b ∷ []) J
 AreBooksFor command.Clean w book script J = J ≡ []
+AreBooksFor command.Generate w book script J = Makes w (λ b. J ≡ b ∷ [])
 
 -- the books of a run
 abbrev pub AreBooks : Run → List Book → Type 0

@@ -1,6 +1,7 @@
 -- What a run has done, status by status.
-use Rattle.std.specs.Prelude.{ℕ, ◌≡◌, ◌⊎◌, List, Result, Ok, Err}
+use Rattle.std.specs.Prelude.{ℕ, ◌≡◌, ◌⊎◌, List, [], Result, Ok, Err}
 use Rattle.carte_io.specs.Causes.{Rose}
+use Rattle.carte_book.specs.Book.{Book}
 use Rattle.carte_book.specs.Reason.{IsReason}
 use Rattle.carte_book.specs.declared.reason.Reason.{Reason}
 use Rattle.carte_session.specs.declared.end.SessionEnd.{SessionEnd}
@@ -17,7 +18,7 @@ use Rattle.carte_report.specs.declared.status.Status.{Status}
 use Rattle.carte_report.specs.declared.status.Status.TheVariants.{Done, BookRefused, Usage, BuildRefused, ReadFault, WriteFault, DiskFault, BadState, StateFull, NoMemory, ScriptTooLong}
 use Rattle.carte_report.specs.Texts.{error_line}
 use Rattle.carte_top.specs.Around.{OverSource, OverDisk, OverSink, IsUnread, IsUnvisited, IsUntouched, TakesAll, TakesFront, Says}
-use Rattle.carte_top.specs.Found.{Holds, HasBook, Refuses, Found, Commits, Replies, Overfills, Halts, Clears, ClearsNot, ClearsInPart, Explains, Carries}
+use Rattle.carte_top.specs.Found.{Holds, HasBook, Makes, Refuses, Found, Commits, Replies, Overfills, Halts, Clears, ClearsNot, ClearsInPart, Explains, Carries, behind, for_last, front_of}
 
 -- the words ask for something that is so
 abbrev pub Asks : List (List ℕ) → (Asked → Type 0) → Type 0
@@ -31,19 +32,26 @@ IsBad limit d offset = d.tells → IsBadState limit d.old.now.reads offset × (d
 abbrev pub IsSpared : OverDisk → Type 0
 IsSpared d = d.tells → d.new ≡ d.old
 
--- what a build has done
+-- what a build has done over a book that is had so, whose reply stands behind what is in front
+abbrev pub BuiltOver : ((Book → Type 0) → Type 0) → ℕ → Asked → List ℕ → OverDisk → OverSink → Status → Type 0
+BuiltOver Has limit w front d k Done = Has (λ b. Found limit d (Replies limit w d k (behind front TakesAll) b))
+BuiltOver Has limit w front d k (BuildRefused reason) = Has (λ b. Found limit d (λ K. Commits limit w d b K (answer.Refused reason))) × IsUntouched k
+BuiltOver Has limit w front d k WriteFault = Has (λ b. Found limit d (Replies limit w d k (behind front TakesFront) b))
+BuiltOver Has limit w front d k DiskFault = ((Has (λ b. Unit {0}) × IsSpared d) ⊎ Has (λ b. Found limit d (Halts w d b))) × IsUntouched k
+BuiltOver Has limit w front d k (BadState offset) = Has (λ b. Unit {0}) × IsBad limit d offset × IsUntouched k
+BuiltOver Has limit w front d k (StateFull needed most) = Has (λ b. Found limit d (Overfills limit w d needed most b)) × IsUntouched k
+BuiltOver Has limit w front d k NoMemory = IsUntouched k × IsSpared d
+BuiltOver Has limit w front d k _ = ⊥
+
+-- what a build has done: over the book that was read, or there is none
 abbrev pub Built : ℕ → Asked → OverSource → OverDisk → OverSink → Status → Type 0
-Built limit w s d k Done = Holds w.kind s (λ b. Found limit d (Replies limit w d k TakesAll b))
 Built limit w s d k (BookRefused fault) = Refuses w.kind s fault × IsUnvisited d × IsUntouched k
-Built limit w s d k (Usage fault) = ⊥
-Built limit w s d k (BuildRefused reason) = Holds w.kind s (λ b. Found limit d (λ K. Commits limit w d b K (answer.Refused reason))) × IsUntouched k
 Built limit w s d k ReadFault = IsUnvisited d × IsUntouched k
-Built limit w s d k WriteFault = Holds w.kind s (λ b. Found limit d (Replies limit w d k TakesFront b))
-Built limit w s d k DiskFault = ((HasBook w.kind s × IsSpared d) ⊎ Holds w.kind s (λ b. Found limit d (Halts w d b))) × IsUntouched k
-Built limit w s d k (BadState offset) = HasBook w.kind s × IsBad limit d offset × IsUntouched k
-Built limit w s d k (StateFull needed most) = Holds w.kind s (λ b. Found limit d (Overfills limit w d needed most b)) × IsUntouched k
-Built limit w s d k NoMemory = IsUntouched k × IsSpared d
-Built limit w s d k ScriptTooLong = ⊥
+Built limit w s d k status = BuiltOver (Holds w.kind s) limit w [] d k status
+
+-- what a build of a generated book has done
+abbrev pub Generated : ℕ → Asked → OverDisk → OverSink → Status → Type 0
+Generated limit w d k status = BuiltOver (Makes w) limit (for_last w) (front_of w) d k status
 
 -- what a clearing of the state has done
 abbrev pub Cleaned : ℕ → OverDisk → OverSink → Status → Type 0
@@ -97,10 +105,14 @@ Does command.Build limit w s c d k status = Built limit w s d k status
 Does command.Session limit w s c d k status = Sat limit w s c d k status
 Does command.Explain limit w s c d k status = Explained limit w s d k status × IsSpared d
 Does command.Clean limit w s c d k status = IsUnread s × Cleaned limit d k status
+Does command.Generate limit w s c d k status = IsUnread s × Generated limit w d k status
 
 -- a build was refused, and what it had finished was committed
+abbrev pub CommitsRefused : ℕ → Asked → OverDisk → Book → Type 0
+CommitsRefused limit w d b = Found limit d (λ K. (reason : Reason) × Commits limit w d b K (answer.Refused reason))
+
 abbrev pub KeepsRefused : ℕ → OverSource → OverDisk → Asked → Type 0
-KeepsRefused limit s d w = (w.command ≡ command.Build) × Holds w.kind s (λ b. Found limit d (λ K. (reason : Reason) × Commits limit w d b K (answer.Refused reason)))
+KeepsRefused limit s d w = ((w.command ≡ command.Build) × Holds w.kind s (CommitsRefused limit w d)) ⊎ ((w.command ≡ command.Generate) × Makes w (CommitsRefused limit (for_last w) d))
 
 -- a session came to an end behind which memory is wanted for the error line
 abbrev pub IsShort : SessionEnd → Type 0

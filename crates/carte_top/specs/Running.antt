@@ -1,5 +1,5 @@
 -- What the parts of a run have done.
-use Rattle.std.specs.Prelude.{ℕ, ◌≡◌, ◌⊎◌, ◌≤◌, Bool, true, false, List, length, Some, None, Result, Ok, Err}
+use Rattle.std.specs.Prelude.{ℕ, ◌≡◌, ◌⊎◌, ◌≤◌, Bool, true, false, List, ◌++◌, length, Some, None, Result, Ok, Err}
 use Rattle.carte_io.specs.Causes.{Rose}
 use Rattle.carte_io.specs.Streams.{Reads}
 use Rattle.carte_io.specs.declared.whole.ReadEnd.{ReadEnd}
@@ -32,8 +32,8 @@ use Rattle.carte_report.specs.declared.status.Status.{Status}
 use Rattle.carte_report.specs.declared.status.Status.TheVariants.{Done, BookRefused, Usage, BuildRefused, ReadFault, WriteFault, DiskFault, BadState, StateFull, NoMemory, ScriptTooLong}
 use Rattle.carte_top.specs.Around.{OverSource, OverDisk, OverSink, IsUnread, IsUnvisited, IsUntouched, TakesAll, TakesFront}
 use Rattle.carte_top.specs.Chosen.{BookOfKind}
-use Rattle.carte_top.specs.Found.{Holds, Refuses, Found, IsClearing, HasBook, Carries}
-use Rattle.carte_top.specs.Outcome.{Asks, Explained, IsBad, IsSpared, Built, Cleaned, Does, Ran, Sat, TellsEither, TellsSource, TellsSources, TellsDisk, TellsSink, status_of}
+use Rattle.carte_top.specs.Found.{Holds, Makes, Refuses, Found, IsClearing, HasBook, Carries, for_last}
+use Rattle.carte_top.specs.Outcome.{Asks, Explained, IsBad, IsSpared, Built, Cleaned, Does, Generated, Ran, Sat, TellsEither, TellsSource, TellsSources, TellsDisk, TellsSink, status_of}
 use Rattle.carte_top.specs.Sound.{AreFirst, StaysAt, StaysSound, MayBuild, KeepsOn, SessionStays}
 
 -- ---- the book
@@ -110,23 +110,23 @@ pub record Opens (limit : ℕ) (x : Choices) (b : Book) (d : OverDisk) (m : Scen
   pub story : d.tells → m.story ≡ d.old
   pub faults : m.faults ≡ d.failed_before
 
--- a reply was shown: the reason of a refusal is the status, and any other text is written
-abbrev pub Shows : Said → OverSink → Status → Type 0
-Shows r k status =
+-- a reply was shown: the reason of a refusal is the status, and any other text is written behind what stands in front
+abbrev pub Shows : List ℕ → Said → OverSink → Status → Type 0
+Shows front r k status =
     ((reason : Reason) × (r.refused ≡ Some reason) × (status ≡ BuildRefused reason) × IsUntouched k)
-    ⊎ ((r.refused ≡ None) × Prints r.text k status)
+    ⊎ ((r.refused ≡ None) × Prints (front ++ r.text) k status)
 
 -- the request was carried out and its reply shown, or it came to an end before
-abbrev pub Requests : Type 0 → Scene → Line → Scene → OverSink → Status → Type 0
-Requests tells m l m' k status =
-    ((r : Said) × Obeys tells m l r m' × Shows r k status)
+abbrev pub Requests : Type 0 → Scene → Line → Scene → List ℕ → OverSink → Status → Type 0
+Requests tells m l m' front k status =
+    ((r : Said) × Obeys tells m l r m' × Shows front r k status)
     ⊎ ((end : StepEnd) × (status ≡ status_of (Err (session.Machine end))) × Breaks tells m l end m' × IsUntouched k)
 
 -- over a disk and this book; or there is no state
-abbrev pub RequestsOver : ℕ → Choices → Book → Line → OverDisk → OverSink → Status → Type 0
-RequestsOver limit x b l d k status =
+abbrev pub RequestsOver : ℕ → Choices → Book → Line → List ℕ → OverDisk → OverSink → Status → Type 0
+RequestsOver limit x b l front d k status =
     (LoadsState limit d (Err status) × IsUntouched k)
-    ⊎ ((m m' : Scene) × Opens limit x b d m × (m'.story ≡ d.new) × (m'.faults ≡ d.failed) × Requests d.tells m l m' k status)
+    ⊎ ((m m' : Scene) × Opens limit x b d m × (m'.story ≡ d.new) × (m'.faults ≡ d.failed) × Requests d.tells m l m' front k status)
 
 -- ---- a session
 
@@ -169,11 +169,18 @@ pub record RunOf (Did Visited Told : Type 0) (s : OverSource) (d : OverDisk) (k 
   pub disk : TellsDisk d status
   pub sink : TellsSink k status
 
-pub record Cleans (limit : ℕ) (d : OverDisk) (k : OverSink) (status : Status) : Type 0 where
-  pub did : Cleaned limit d k status
-  pub stays : StaysAt limit IsClearing d
+-- and one that reads no book
+pub record RunAlone (Did Visited : Type 0) (d : OverDisk) (k : OverSink) (status : Status) : Type 0 where
+  pub did : Did
+  pub visits : IsUnvisited d ⊎ Visited
   pub disk : TellsDisk d status
   pub sink : TellsSink k status
+
+abbrev pub Cleans : ℕ → OverDisk → OverSink → Status → Type 0
+Cleans limit d k status = RunAlone (Cleaned limit d k status) (StaysAt limit IsClearing d) d k status
+
+abbrev pub Generates : ℕ → Asked → OverDisk → OverSink → Status → Type 0
+Generates limit w d k status = RunAlone (Generated limit w d k status) (Makes w (λ b. StaysAt limit (MayBuild (for_last w) b) d)) d k status
 
 abbrev pub Builds : ℕ → Asked → OverSource → OverDisk → OverSink → Status → Type 0
 Builds limit w s d k status = RunOf (Built limit w s d k status) (Holds w.kind s (λ b. StaysAt limit (MayBuild w b) d)) (TellsSource s status) s d k status

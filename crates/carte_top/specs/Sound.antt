@@ -16,7 +16,7 @@ use Rattle.carte_engine.specs.Answers.{IsPlan, Under}
 use Rattle.carte_shell.specs.Books.{AreBooks as AreBooksAt}
 use Rattle.carte_top.specs.Around.{OverSource, OverDisk, IsUnvisited}
 use Rattle.carte_top.specs.Chosen.{scheduler_of, how_of}
-use Rattle.carte_top.specs.Found.{Holds, HasBook, IsClearing}
+use Rattle.carte_top.specs.Found.{Holds, HasBook, Makes, IsClearing, for_last}
 use Rattle.carte_top.specs.Outcome.{Asks, IsSpared}
 pub use Rattle.carte_shell.specs.Sound.{KeepsSound}
 
@@ -55,18 +55,20 @@ KeepsOn command.Build limit w s c d = Holds w.kind s (λ b. StaysAt limit (MayBu
 KeepsOn command.Session limit w s c d = SessionStays limit w s c d
 KeepsOn command.Explain limit w s c d = HasBook w.kind s × IsSpared d
 KeepsOn command.Clean limit w s c d = StaysAt limit IsClearing d
+KeepsOn command.Generate limit w s c d = Makes w (λ b. StaysAt limit (MayBuild (for_last w) b) d)
 
--- The disk was called for a build, an explanation or a session whose book was read, or for a clearing; and then a crash leaves what is said above. What it
+-- The disk was called for a build, an explanation or a session whose book was read, for a build of a generated book, or for a clearing; and then a crash leaves what is said above. What it
 -- leaves at a line of a session is said of that line (`Carries`).
 abbrev pub Visits : ℕ → List (List ℕ) → OverSource → OverSource → OverDisk → Type 0
 Visits limit words s c d = IsUnvisited d ⊎ Asks words (λ w. KeepsOn w.command limit w s c d)
 
--- the books of a run, where they were read: that of a build, and those at the first lines of a session; a run with none adds none to the history
+-- the books of a run, where they were read or made: that of a build, and those at the first lines of a session; a run with none adds none to the history
 abbrev pub AreReadFor : Command → Asked → OverSource → OverSource → List Book → Type 0
 AreReadFor command.Build w s c J = Holds w.kind s (λ b. J ≡ b ∷ [])
 AreReadFor command.Session w s c J = Holds w.kind s (λ b. AreFirst c b J)
 AreReadFor command.Explain w s c J = ⊥
 AreReadFor command.Clean w s c J = ⊥
+AreReadFor command.Generate w s c J = Makes w (λ b. J ≡ b ∷ [])
 
 abbrev pub AreRead : List (List ℕ) → OverSource → OverSource → List Book → Type 0
 AreRead words s c J = (J ≡ []) ⊎ Asks words (λ w. AreReadFor w.command w s c J)

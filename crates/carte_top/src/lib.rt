@@ -18,12 +18,16 @@
 //! that succeeded. The error line is made as a text too; where there is no memory for it, that is the status. The lines
 //! of devices' faults need none: so such a fault is never told as want of memory.
 //!
+//! A build is told over a book that is had in some way (`BuiltOver`): read, or generated of a seed and a count. So the build of
+//! a generated book is carried out and told as any other, with one line in front of its reply.
+//!
 //! Turned down: books and states as premises of the whole clause, under which a real file would have no theorem at all;
 //! and a clause for each command, each of which would say again what a run leaves to its devices.
 #![tactic(auto)]
 
 mod book;
 mod chosen;
+mod generate;
 mod laws;
 mod one;
 mod open;

@@ -39,7 +39,10 @@ pub(crate) fn build<B: Source, D: Disk, O: Sink>(
 {
     let choices = choices_of(&asked);
     match load_book(alloc, asked.kind, source, hasher) {
-        Ok(book) => one(alloc, choices, book, Line::Build(asked.targets), state, out),
+        Ok(book) => {
+            let line = Line::Build(asked.targets);
+            one(alloc, choices, book, line, "", state, out)
+        }
         Err(status) => status,
     }
 }
@@ -61,14 +64,10 @@ pub(crate) fn explain<B: Source, D: Disk, O: Sink>(
 {
     let choices = choices_of(&asked);
     match load_book(alloc, asked.kind, source, hasher) {
-        Ok(book) => one(
-            alloc,
-            choices,
-            book,
-            Line::Explain(asked.targets),
-            state,
-            out,
-        ),
+        Ok(book) => {
+            let line = Line::Explain(asked.targets);
+            one(alloc, choices, book, line, "", state, out)
+        }
         Err(status) => status,
     }
 }
@@ -87,27 +86,29 @@ pub(crate) fn clean<D: Disk, O: Sink>(
         result }
 {
     let book = Book::new(alloc, asked.kind, hasher);
-    one(alloc, choices_of(&asked), book, Line::Clean, state, out)
+    one(alloc, choices_of(&asked), book, Line::Clean, "", state, out)
 }
 
-// Opens a shell over the book and the state, and has it carry out the request.
-fn one<D: Disk, O: Sink>(
+/// Opens a shell over the book and the state, and has it carry out the request. A text that is printed stands behind what is
+/// in front.
+pub(crate) fn one<D: Disk, O: Sink>(
     alloc: Global,
     choices: Choices,
     book: Book,
     line: Line,
+    front: &str,
     state: &mut D,
     out: &mut O,
 ) -> Status
     requires { NamesInput (book_view book).kind line }
-    ensures { RequestsOver 268435456 choices (book_view book) line
+    ensures { RequestsOver 268435456 choices (book_view book) line front.now
         (over_disk D.tells D.story D.faults state.old state.new)
         (over_sink O.tells O.state out.old out.new)
         result }
 {
     match open(alloc, choices, book, state) {
         Ok(mut shell) => {
-            let status = request(alloc, &mut shell, line, state, out);
+            let status = request(alloc, &mut shell, line, front, state, out);
             // The process ends behind this: giving back what is kept, name by name, would only take time.
             forget(shell);
             status
@@ -120,28 +121,29 @@ fn request<D: Disk, O: Sink>(
     alloc: Global,
     shell: &mut Shell,
     line: Line,
+    front: &str,
     state: &mut D,
     out: &mut O,
 ) -> Status
     requires whole { shell.old.engine.journal.broken ≡ false }
     requires named { NamesInput (book_view shell.old.book).kind line }
-    ensures { Requests D.tells (scene D.story D.faults (shell.old, state.old)) line (scene D.story D.faults (shell.new, state.new))
+    ensures { Requests D.tells (scene D.story D.faults (shell.old, state.old)) line (scene D.story D.faults (shell.new, state.new)) front.now
         (over_sink O.tells O.state out.old out.new)
         result }
 {
     match shell.obey(alloc, state, line) {
-        Ok(reply) => show(reply, out),
+        Ok(reply) => show(front, reply, out),
         Err(end) => ended(SessionEnd::Machine(end)),
     }
 }
 
 // The text of a refusal is a session's. A command ends with the reason as its status, whose error line tells it.
-fn show<O: Sink>(reply: Reply, out: &mut O) -> Status
-    ensures { Shows (said reply) (over_sink O.tells O.state out.old out.new) result }
+fn show<O: Sink>(front: &str, reply: Reply, out: &mut O) -> Status
+    ensures { Shows front.now (said reply) (over_sink O.tells O.state out.old out.new) result }
 {
     let Reply { text, refused } = reply;
     match refused {
         Some(reason) => Status::BuildRefused(reason),
-        None => print(out, text.as_str().as_bytes()),
+        None => print(out, front.as_bytes(), text.as_str().as_bytes()),
     }
 }

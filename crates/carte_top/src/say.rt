@@ -1,5 +1,5 @@
 // What is written: the reply, and the error line.
-ghost use Rattle.std.specs.Prelude.{◌≡◌, false, IfSome, IfNone};
+ghost use Rattle.std.specs.Prelude.{◌≡◌, ◌++◌, false, IfSome, IfNone};
 ghost use Rattle.carte_report.specs.declared.status.Status.TheVariants.{NoMemory};
 ghost use Rattle.carte_report.specs.Texts.{error_line};
 ghost use Rattle.carte_top.specs.Around.{over_sink, Says};
@@ -10,8 +10,17 @@ use carte_io::{Sink, write_all};
 use carte_report::{Status, error_line, memory_line};
 use std::alloc::Global;
 
-/// Writes the whole reply and hands it on.
-pub(crate) fn print<O: Sink>(out: &mut O, bytes: &[u8]) -> Status
+/// Writes what stands in front and then the whole reply, and hands both on.
+pub(crate) fn print<O: Sink>(out: &mut O, front: &[u8], bytes: &[u8]) -> Status
+    ensures { Prints (front.now ++ bytes.now) (over_sink O.tells O.state out.old out.new) result }
+{
+    match write_all(out, front) {
+        Ok(()) => print_reply(out, bytes),
+        Err(_) => Status::WriteFault,
+    }
+}
+
+fn print_reply<O: Sink>(out: &mut O, bytes: &[u8]) -> Status
     ensures { Prints bytes.now (over_sink O.tells O.state out.old out.new) result }
 {
     match write_all(out, bytes) {

@@ -1,8 +1,10 @@
 ghost use Rattle.std.specs.Prelude.{◌≡◌};
+ghost use Rattle.carte_words.specs.Words.{IsCounted};
 ghost use Rattle.carte_top.specs.Around.{over_source, over_disk, over_sink};
 ghost use Rattle.carte_top.specs.Running.{usage_of, IsRun, Runs};
 ghost use Rattle.carte_top.specs.Whole.{IsOutcome};
 
+use crate::generate::generate;
 use crate::one::{build, clean, explain};
 use crate::say::report;
 use crate::session::session;
@@ -13,12 +15,12 @@ use carte_words::{Command, Word, Words, WordsFault, read_words};
 use std::alloc::Global;
 
 /// All that the program does: reads the command in the words; builds the targets over the book and what the state's disk
-/// keeps, or tells why they would run, or carries out the lines of the script, or clears the state; commits what was made;
-/// writes the reply to `out`, and where something went wrong one line to `err`.
+/// keeps, or tells why they would run, or carries out the lines of the script, or clears the state, or builds the last key
+/// of a generated book; commits what was made; writes the reply to `out`, and where something went wrong one line to `err`.
 ///
-/// The book is read to its end, where it has at most 16,777,216 bytes, and for `clean` not at all. The state is limited to
-/// 268,435,456 bytes. No call of the disk is made before the words and the book were read. The script is read by a session
-/// alone, behind the book and the state, up to 67,108,864 bytes.
+/// The book is read to its end, where it has at most 16,777,216 bytes, and for `clean` and `generate` not at all. The state
+/// is limited to 268,435,456 bytes. No call of the disk is made before the words and the book were read. The script is read
+/// by a session alone, behind the book and the state, up to 67,108,864 bytes.
 ///
 /// The maps of names are made with `hasher`, on which nothing that is answered depends.
 pub fn carte<B: Source, S: Source, D: Disk, O: Sink, E: Sink>(
@@ -86,6 +88,7 @@ fn command<B: Source, S: Source, D: Disk, O: Sink>(
     out: &mut O,
     hasher: Seeded,
 ) -> Status
+    requires { IsCounted asked }
     ensures { Runs 268435456 asked
         (over_source B.tells B.state book.old book.new)
         (over_source S.tells S.state script.old script.new)
@@ -98,5 +101,6 @@ fn command<B: Source, S: Source, D: Disk, O: Sink>(
         Command::Session => session(alloc, &asked, book, script, state, out, hasher),
         Command::Explain => explain(alloc, asked, book, state, out, hasher),
         Command::Clean => clean(alloc, asked, state, out, hasher),
+        Command::Generate => generate(alloc, &asked, state, out, hasher),
     }
 }

@@ -1,4 +1,4 @@
-use Rattle.std.proofs.Common.{refl, subst}
+use Rattle.std.proofs.Common.{[], refl, subst}
 use Rattle.carte_book.specs.Book.{book_view}
 use Rattle.carte_shell.specs.declared.choices.Choices.{Choices}
 use Rattle.carte_words.specs.declared.line.Line.TheVariants as line
@@ -15,7 +15,7 @@ returns-in-Ok g c =
     let k = over_sink g.O.Sink.tells g.O.Sink.state c.args.out.now c.one.new.out in
     tells 268435456 w (over_source g.B.Source.tells g.B.Source.state c.args.source.now c.load_book.new.source) d k
     (book_view c.in-Ok.book) c.in-Ok.ensures.loads c.one.result
-    (subst (λ (x : Choices). RequestsOver 268435456 x (book_view c.in-Ok.book) (line.Explain w.targets) d k c.one.result) c.choices_of-choices.ensures c.one.ensures)
+    (subst (λ (x : Choices). RequestsOver 268435456 x (book_view c.in-Ok.book) (line.Explain w.targets) [] d k c.one.result) c.choices_of-choices.ensures c.one.ensures)
     c.in-Ok.ensures.read c.in-Ok.ensures.source
 
 pub returns-in-Err : goal.returns-in-Err

@@ -17,3 +17,6 @@ returns-in-Err g c =
     (over_disk g.D.Disk.tells g.D.Disk.story g.D.Disk.faults c.args.state.now c.args.state.now)
     (over_sink g.O.Sink.tells g.O.Sink.state c.args.out.now c.args.out.now) c.in-Err.fault c.in-Err.ensures.words
     (refl, refl) (refl, refl) (record { same = refl; story = refl; faults = refl }) (refl, refl, refl) (record { bytes = []; has = omega arith; first = λ told. refl }))
+
+pub command-requires : goal.command-requires
+command-requires g c = c.in-Ok.ensures.count

@@ -1,0 +1,198 @@
+-- The status that is due of a build over a book that is had in some way: each cause of another one contradicts it.
+use Rattle.std.proofs.Common.{◌≡◌, ℕ, ◌<◌, false, List, [], ◌∷◌, ◌++◌, refl, sym, ap, ◌∙◌, inl, inr, ◌⊎◌, subst, arith}
+use Rattle.carte_book.specs.Book.{Book}
+use Rattle.carte_book.specs.declared.reason.Reason.{Reason}
+use Rattle.carte_record.specs.Empty.{is_empty}
+use Rattle.carte_record.specs.Kept.{SomeKept}
+use Rattle.carte_record.specs.declared.batch.Batch.{Batch}
+use Rattle.carte_sound.specs.Base.{HasDistinctDigests}
+use Rattle.carte_sound.specs.Sound.{IsSound}
+use Rattle.carte_state.specs.Folding.{Keeps}
+use Rattle.carte_state.proofs.Folds.{bad_at_one, keeps_one, keeps_or_bad}
+use Rattle.carte_words.specs.declared.words.Words.{Words as Asked}
+use Rattle.carte_engine.specs.Schedulers.{IsServed, IsRefusedFor}
+use Rattle.carte_engine.specs.declared.answer.Answer.{Answer}
+use Rattle.carte_engine.specs.declared.answer.Answer.TheVariants as answer
+use Rattle.carte_report.specs.declared.status.Status.{Status}
+use Rattle.carte_report.specs.declared.status.Status.TheVariants.{Done, BookRefused, Usage, BuildRefused, ReadFault, WriteFault, DiskFault, BadState, StateFull, NoMemory, ScriptTooLong}
+use Rattle.carte_top.specs.Around.{OverDisk, OverSink, TakesAll}
+use Rattle.carte_top.specs.Chosen.{scheduler_of}
+use Rattle.carte_top.specs.Due.{AllFit, AllOver, IsBadNow, IsDueOver, IsFound, IsHindered, IsKept, IsPlanned}
+use Rattle.carte_top.specs.Found.{Commits, FitsIn, Found, IsNeeded, IsOver, IsPut, Overfills, Replies, behind}
+use Rattle.carte_top.specs.Outcome.{BuiltOver, IsBad}
+use Rattle.carte_top.proofs.Unique.{one_needed, one_refusal, served_or_refused}
+
+-- ---- the state and its room
+
+module _ (limit : ℕ) (d : OverDisk) where
+  pub found_one : (P Q : SomeKept → Type 0) → IsKept limit d P → Found limit d Q → (K : SomeKept) × Keeps limit K d.old.now.reads × P K × Q K
+  found_one P Q is found =
+      let same : found.0 ≡ is.1 = keeps_one limit d.old.now.reads found.0 is.1 (found.1 is.0) is.2 in
+      (is.1, is.2, is.3, subst Q same found.2)
+
+  pub kept_or_bad : (P : SomeKept → Type 0) (at : ℕ) → IsKept limit d P → IsBad limit d at → ⊥
+  kept_or_bad P at is bad = keeps_or_bad limit d.old.now.reads is.1 at is.2 (bad is.0).0
+
+  pub found_or_bad : (Q : SomeKept → Type 0) (at : ℕ) → IsBadNow limit d at → Found limit d Q → ⊥
+  found_or_bad Q at bad found = keeps_or_bad limit d.old.now.reads found.0 at (found.1 bad.0) bad.1
+
+pub bad_one : (limit : ℕ) (d : OverDisk) (at offset : ℕ) → IsBadNow limit d at → IsBad limit d offset → BadState offset ≡ BadState at
+bad_one limit d at offset is bad = ap BadState (bad_at_one limit d.old.now.reads offset at (bad is.0).0 is.1)
+
+fits_or_over : (limit : ℕ) (file : List ℕ) (B : Batch) (needed : ℕ) → FitsIn limit file B → is_empty B ≡ false → IsNeeded limit file B needed → limit < needed → ⊥
+fits_or_over limit file B needed (inl empty) filled is over = cc
+fits_or_over limit file B needed (inr fits) filled is over = omega (arith, fits needed is, over)
+
+-- what such a batch says of a limit, against what all of them say
+module _ (limit : ℕ) (d : OverDisk) (May : Batch → Type 0) (B : Batch) (may : May B) (told : d.tells) where
+  pub all_fit : AllFit limit d May → (needed most : ℕ) → is_empty B ≡ false → IsOver limit d B needed most → ⊥
+  all_fit fit needed most filled over = fits_or_over limit d.old.now.reads B needed (fit B may) filled (over.needed_is told) over.over
+
+  pub all_over : (K : SomeKept) (needed most : ℕ) → AllOver limit d needed most May → IsPut limit d K B → ⊥
+  all_over K needed most all put = let is = all.2 B may in fits_or_over limit d.old.now.reads B needed (put.room told) is.0 is.1 all.1
+
+  pub over_same : (K : SomeKept) (needed most n m : ℕ) → Keeps limit K d.old.now.reads → AllOver limit d needed most May → IsOver limit d B n m → StateFull n m ≡ StateFull needed most
+  over_same K needed most n m keeps all over =
+      let numbers : n ≡ needed = one_needed limit d.old.now.reads K B n needed keeps (over.needed_is told) (all.2 B may).1 in
+      let limits : m ≡ most = over.most_is ∙ sym all.0 in
+      cc
+
+-- ---- a build
+
+-- what is due and what was done are said of one book and of what one file keeps
+pub record Meets (limit : ℕ) (d : OverDisk) (X : Book → Type 0) (Y Q : Book → SomeKept → Type 0) : Type 0 where
+  pub book : Book
+  pub first : X book
+  pub told : d.tells
+  pub kept : SomeKept
+  pub keeps : Keeps limit kept d.old.now.reads
+  pub history : List Book
+  pub sound : IsSound kept history
+  pub distinct : HasDistinctDigests (history ++ book ∷ [])
+  pub room : Y book kept
+  pub did : Q book kept
+
+-- Is is how the book is there where a status is due, and Has how a run had it
+module _ (limit : ℕ) (d : OverDisk) (Is Has : (Book → Type 0) → Type 0) (one : (P Q : Book → Type 0) → Is P → Has Q → (b : Book) × P b × Q b) where
+  pub meet : (P X : Book → Type 0) (Y Q : Book → SomeKept → Type 0) → ((b : Book) → P b → X b × IsFound limit d b (Y b)) → Is P → Has (λ b. Found limit d (Q b)) → Meets limit d X Y Q
+  meet P X Y Q parts is did =
+      let at = one P (λ b. Found limit d (Q b)) is did in
+      let part = parts at.0 at.1 in
+      let there = found_one limit d (λ K. (H : List Book) × IsSound K H × HasDistinctDigests (H ++ at.0 ∷ []) × Y at.0 K) (Q at.0) part.1 at.2 in
+      record {
+        book = at.0;
+        first = part.0;
+        told = part.1.0;
+        kept = there.0;
+        keeps = there.1;
+        history = there.2.0;
+        sound = there.2.1;
+        distinct = there.2.2;
+        room = there.2.3;
+        did = there.3;
+      }
+
+  never_bad : (P X : Book → Type 0) (Y : Book → SomeKept → Type 0) → ((b : Book) → P b → X b × IsFound limit d b (Y b)) → Is P → Has (λ b. Unit {0}) → (offset : ℕ) → IsBad limit d offset → ⊥
+  never_bad P X Y parts is has offset bad =
+      let at = one P (λ b. Unit {0}) is has in
+      kept_or_bad limit d (λ K. (H : List Book) × IsSound K H × HasDistinctDigests (H ++ at.0 ∷ []) × Y at.0 K) offset (parts at.0 at.1).1 bad
+
+  not_found : (Q : Book → SomeKept → Type 0) (at : ℕ) → Is (λ b. IsBadNow limit d at) → Has (λ b. Found limit d (Q b)) → ⊥
+  not_found Q at is did = let both = one (λ b. IsBadNow limit d at) (λ b. Found limit d (Q b)) is did in found_or_bad limit d (Q both.0) at both.1 both.2
+
+  module _ (w : Asked) (front : List ℕ) (k : OverSink) where
+    abbrev Replied : Book → SomeKept → Type 0
+    Replied = Replies limit w d k (behind front TakesAll)
+
+    -- where there is room for each batch that it may commit
+    module _ (X : Book → Type 0) (is : Is (λ b. X b × IsFound limit d b (λ K. AllFit limit d (IsPlanned w b K)))) where
+      abbrev Fits : Book → SomeKept → Type 0
+      Fits b K = AllFit limit d (IsPlanned w b K)
+
+      meets : (Q : Book → SomeKept → Type 0) → Has (λ b. Found limit d (Q b)) → Meets limit d X Fits Q
+      meets Q did = meet (λ b. X b × IsFound limit d b (Fits b)) X Fits Q (λ b part. part) is did
+
+      not_full : (needed most : ℕ) → Has (λ b. Found limit d (Overfills limit w d needed most b)) → ⊥
+      not_full needed most did =
+          let m = meets (λ b. Overfills limit w d needed most b) did in
+          all_fit limit d (IsPlanned w m.book m.kept) m.did.batch (m.did.answer, m.did.answers m.history m.sound m.distinct) m.told m.room needed most m.did.filled m.did.over
+
+      refused : (reason : Reason) → Has (λ b. Found limit d (λ K. Commits limit w d b K (answer.Refused reason))) → (b : Book) × X b × IsRefusedFor (scheduler_of w.scheduler) b w.targets reason
+      refused reason did =
+          let m = meets (λ b K. Commits limit w d b K (answer.Refused reason)) did in
+          (m.book, m.first, (m.did.answers m.history m.sound m.distinct).right)
+
+      served : Has (λ b. Found limit d (Replied b)) → (b : Book) × X b × IsServed (scheduler_of w.scheduler) b w.targets
+      served did =
+          let m = meets Replied did in
+          (m.book, m.first, (m.did.commits.answers m.history m.sound m.distinct).right.served)
+
+      not_bad : Has (λ b. Unit {0}) → (offset : ℕ) → IsBad limit d offset → ⊥
+      not_bad has offset bad = never_bad (λ b. X b × IsFound limit d b (Fits b)) X Fits (λ b part. part) is has offset bad
+
+    -- where there is room for none
+    module _ (needed most : ℕ) (is : Is (λ b. IsFound limit d b (λ K. AllOver limit d needed most (IsPlanned w b K)))) where
+      abbrev Over : Book → SomeKept → Type 0
+      Over b K = AllOver limit d needed most (IsPlanned w b K)
+
+      meets_over : (Q : Book → SomeKept → Type 0) → Has (λ b. Found limit d (Q b)) → Meets limit d (λ b. Unit {0}) Over Q
+      meets_over Q did = meet (λ b. IsFound limit d b (Over b)) (λ b. Unit {0}) Over Q (λ b part. (tt, part)) is did
+
+      not_committed : (b : Book) (K : SomeKept) (H : List Book) (a : Answer) → d.tells → IsSound K H → HasDistinctDigests (H ++ b ∷ []) → Over b K → Commits limit w d b K a → ⊥
+      not_committed b K H a told sound distinct all did = all_over limit d (IsPlanned w b K) did.batch (a, did.answers H sound distinct) told K needed most all did.put
+
+      not_done : Has (λ b. Found limit d (Replied b)) → ⊥
+      not_done did =
+          let m = meets_over Replied did in
+          not_committed m.book m.kept m.history (answer.Built m.did.built) m.told m.sound m.distinct m.room m.did.commits
+
+      not_kept : (reason : Reason) → Has (λ b. Found limit d (λ K. Commits limit w d b K (answer.Refused reason))) → ⊥
+      not_kept reason did =
+          let m = meets_over (λ b K. Commits limit w d b K (answer.Refused reason)) did in
+          not_committed m.book m.kept m.history (answer.Refused reason) m.told m.sound m.distinct m.room m.did
+
+      as_full : (n most_told : ℕ) → Has (λ b. Found limit d (Overfills limit w d n most_told b)) → StateFull n most_told ≡ StateFull needed most
+      as_full n most_told did =
+          let m = meets_over (λ b. Overfills limit w d n most_told b) did in
+          over_same limit d (IsPlanned w m.book m.kept) m.did.batch (m.did.answer, m.did.answers m.history m.sound m.distinct) m.told m.kept needed most n most_told m.keeps m.room m.did.over
+
+      not_bad_over : Has (λ b. Unit {0}) → (offset : ℕ) → IsBad limit d offset → ⊥
+      not_bad_over has offset bad = never_bad (λ b. IsFound limit d b (Over b)) (λ b. Unit {0}) Over (λ b part. (tt, part)) is has offset bad
+
+    abbrev IsServedBy : Book → Type 0
+    IsServedBy b = IsServed (scheduler_of w.scheduler) b w.targets
+
+    abbrev IsRefusedBy : Reason → Book → Type 0
+    IsRefusedBy r b = IsRefusedFor (scheduler_of w.scheduler) b w.targets r
+
+    pub over_due : (status due : Status) → BuiltOver Has limit w front d k status → IsDueOver Is limit w d due → (status ≡ due) ⊎ IsHindered status
+    over_due WriteFault due did is = inr tt
+    over_due DiskFault due did is = inr tt
+    over_due NoMemory due did is = inr tt
+    over_due ReadFault due did is = absurd did
+    over_due (BookRefused fault) due did is = absurd did
+    over_due (Usage fault) due did is = absurd did
+    over_due ScriptTooLong due did is = absurd did
+    over_due status ScriptTooLong did is = absurd is
+    over_due status (BookRefused fault) did is = absurd is
+    over_due status (Usage fault) did is = absurd is
+    over_due status ReadFault did is = absurd is
+    over_due status WriteFault did is = absurd is
+    over_due status DiskFault did is = absurd is
+    over_due status NoMemory did is = absurd is
+    over_due Done Done did is = inl refl
+    over_due Done (BuildRefused r) did is = let at = served (IsRefusedBy r) is did in absurd (served_or_refused (scheduler_of w.scheduler) at.0 w.targets r at.2 at.1)
+    over_due Done (BadState at) did is = absurd (not_found Replied at is did)
+    over_due Done (StateFull n m) did is = absurd (not_done n m is did)
+    over_due (BuildRefused r) Done did is = let at = refused IsServedBy is r did.0 in absurd (served_or_refused (scheduler_of w.scheduler) at.0 w.targets r at.1 at.2)
+    over_due (BuildRefused r) (BuildRefused q) did is = let at = refused (IsRefusedBy q) is r did.0 in inl (ap BuildRefused (one_refusal (scheduler_of w.scheduler) at.0 w.targets r q at.2 at.1))
+    over_due (BuildRefused r) (BadState at) did is = absurd (not_found (λ b K. Commits limit w d b K (answer.Refused r)) at is did.0)
+    over_due (BuildRefused r) (StateFull n m) did is = absurd (not_kept n m is r did.0)
+    over_due (BadState at) Done did is = absurd (not_bad IsServedBy is did.0 at did.1)
+    over_due (BadState at) (BuildRefused r) did is = absurd (not_bad (IsRefusedBy r) is did.0 at did.1)
+    over_due (BadState at) (BadState offset) did is = inl (bad_one limit d offset at (one (λ b. IsBadNow limit d offset) (λ b. Unit {0}) is did.0).1 did.1)
+    over_due (BadState at) (StateFull n m) did is = absurd (not_bad_over n m is did.0 at did.1)
+    over_due (StateFull n m) Done did is = absurd (not_full IsServedBy is n m did.0)
+    over_due (StateFull n m) (BuildRefused r) did is = absurd (not_full (IsRefusedBy r) is n m did.0)
+    over_due (StateFull n m) (BadState at) did is = absurd (not_found (λ b. Overfills limit w d n m b) at is did.0)
+    over_due (StateFull n m) (StateFull needed most) did is = inl (as_full needed most is n m did.0)
