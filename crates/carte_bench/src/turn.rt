@@ -30,7 +30,8 @@ impl<J: Job + Drop> Bench<'_, J> {
         }
     }
 
-    /// The same, where the answer tells at which name it stopped, and why.
+    /// The same, where the answer tells at which name it stopped, and why. Where that is a rule which is demanded next, the
+    /// name has its place as its hint.
     pub fn turn_to(
         &mut self,
         alloc: Global,
@@ -50,7 +51,8 @@ impl<J: Job + Drop> Bench<'_, J> {
                 self.swap(name, at, Slot::Done(made));
                 Ok(Ok(copy))
             }
-            Err(Halt::Stop(stuck)) => {
+            Err(Halt::Stop(halted)) => {
+                let stuck = hinted(halted, self.slots.len());
                 let stop = stop_of(alloc, &stuck)?;
                 self.swap(name, at, Slot::Stopped(job, stop));
                 Ok(Err(stuck))
@@ -86,6 +88,16 @@ fn hashed(driven: Result<Made, Halt<Stuck>>, digests: &mut Digests) -> Result<Ma
             Ok(made)
         }
         Err(halt) => Err(halt),
+    }
+}
+
+// The same stop. Its name gets the place of the rule that is demanded next as its hint, since mostly it is that rule.
+fn hinted(stuck: Stuck, place: usize) -> Stuck
+    ensures { result ≡ stuck }
+{
+    match stuck {
+        Stuck::NotDone(name) => Stuck::NotDone(name.hinted(place)),
+        Stuck::Missing(name) => Stuck::Missing(name),
     }
 }
 
