@@ -134,18 +134,18 @@ impl<'b, J: Job + Drop> Bench<'b, J> {
         mem::replace(stands, slot)
     }
 
-    // Takes a job that is known to be ready, without a look at its stop.
-    pub(crate) fn take_ready(&mut self, name: &Name, at: usize) -> J
+    // Takes a job that is known to be ready, without a look at its stop, and the place of that as its hint has it.
+    pub(crate) fn take_ready(&mut self, name: &Name, at: usize) -> (J, usize)
         requires ready { is_ready (spots_of self.old) (spots_of self.old name.now) ≡ true }
         requires place { IsAt self.old name.now at }
-        ensures stood { job_in (spots_of self.old name.now) ≡ Some result }
+        ensures stood { job_in (spots_of self.old name.now) ≡ Some result.0 }
         ensures out { PutAt (spots_of self.old) (spots_of self.new) name.now slot.Out }
         ensures place { IsAt self.new name.now at }
         ensures book { book_of self.new ≡ book_of self.old }
     {
         match self.swap(name, at, Slot::Out) {
-            Slot::Ready(job) => job,
-            Slot::Stopped(job, _) => job,
+            Slot::Ready(job) => (job, usize::MAX),
+            Slot::Stopped(job, stop) => (job, stop.hint()),
             Slot::Out => unreachable!(),
             Slot::Done(_) => unreachable!(),
         }

@@ -44,8 +44,8 @@ impl<J: Job + Drop> Bench<'_, J> {
         ensures book { book_of self.new ≡ book_of self.old }
     {
         let at = self.find(name);
-        let mut job = self.take_ready(name, at);
-        match self.drive(alloc, &mut job, runs) {
+        let (mut job, awaited) = self.take_ready(name, at);
+        match self.drive(alloc, &mut job, awaited, runs) {
             Ok(made) => {
                 let copy = made.copy()?;
                 self.swap(name, at, Slot::Done(made));
@@ -62,7 +62,13 @@ impl<J: Job + Drop> Bench<'_, J> {
     }
 
     // Drives a job over what the bench shows. The digests come from the table of the bench, which is no part of that.
-    fn drive(&mut self, alloc: Global, job: &mut J, runs: &mut Runs) -> Result<Made, Halt<Stuck>>
+    fn drive(
+        &mut self,
+        alloc: Global,
+        job: &mut J,
+        awaited: usize,
+        runs: &mut Runs,
+    ) -> Result<Made, Halt<Stuck>>
         ensures bench { self.new ≡ self.old }
         ensures name { J.name job.new ≡ J.name job.old }
         ensures gave { Gave J.gives (seen_in (book_of self.old) (spots_of self.old)) (stops_in (book_of self.old) (spots_of self.old)) None None job.old job.new result }
@@ -71,6 +77,7 @@ impl<J: Job + Drop> Bench<'_, J> {
         let shown = Shown {
             book: self.book,
             slots: &self.slots,
+            awaited,
         };
         let mut snapshot = Snapshot::with(&shown, &mut self.digests);
         let driven = job.drive(alloc, &mut snapshot, runs);
