@@ -1,11 +1,11 @@
 -- The slot at a place, and what stands there once it was written to.
-use Rattle.std.proofs.Common.{◌≡◌, ◌<◌, ℕ, true, false, cond, List, [], ◌∷◌, length, slice_get, Option, Some, None, IsSome, suc, zero, refl, sym, ◌∙◌, ap, subst, inl, inr}
+use Rattle.std.proofs.Common.{◌≡◌, ◌<◌, ℕ, true, false, cond, List, [], ◌∷◌, ◌++◌, length, slice_get, Option, Some, None, IsSome, suc, zero, refl, sym, ◌∙◌, ap, subst, inl, inr}
 use Rattle.std.specs.Map.{lookup_key}
 use Rattle.std.specs.Cmp.Lexicographic.{nat_list_eq_equiv}
 use Rattle.std.proofs.lemmas.Map.Made.{lookup_key_passes}
 use Rattle.std.proofs.lemmas.Option.{slice_get_within}
-use Rattle.indexmap.specs.IndexMap.{IndexMap, IsUnique, get, set_value_at, with_value_at}
-use Rattle.indexmap.proofs.CallerLemmas.{updates-with_value_at}
+use Rattle.indexmap.specs.IndexMap.{IndexMap, IsUnique, get, insert_entry, set_value_at, with_value_at}
+use Rattle.indexmap.proofs.CallerLemmas.{updates-with_value_at, insert_entry-new}
 use Rattle.carte_name.specs.Names.{name_eq}
 use Rattle.carte_value.proofs.Members.{same_or_not, name_apart}
 use Rattle.carte_bench.specs.Held.{with_name}
@@ -21,6 +21,17 @@ pub found_at : {X : Type 0} (es : List (List ℕ × X)) (k q : List ℕ) (at : �
 found_at es k q at o x key value entry =
     let same = name_same k q (lookup_key_passes (name_eq k) es q (sym key)) in
     entry ∙ ap (λ i. Some (i, x)) (sym same) ∙ ap (with_name k) value
+
+last_at : {E : Type 0} (es : List E) (e : E) → slice_get (es ++ e ∷ []) (length es) ≡ Some e
+last_at [] e = refl
+last_at (d ∷ es) e = last_at es e
+
+-- a new name is put at the place behind all
+pub put_last : {X S : Type 0} (m l : IndexMap (List ℕ) X S) (k : List ℕ) (x : X) (at : ℕ) → get name_eq m k ≡ None → at ≡ length m.entries → l.entries ≡ insert_entry name_eq m.entries k x → get name_eq l k ≡ Some x → slice_get l.entries at ≡ with_name k (get name_eq l k)
+put_last m l k x at none long entries there =
+    let behind : l.entries ≡ m.entries ++ (k, x) ∷ [] = entries ∙ insert_entry-new name_eq m k x none in
+    let here : slice_get l.entries at ≡ Some (k, x) = rw (behind, long) (last_at m.entries (k, x)) in
+    here ∙ sym (ap (with_name k) there)
 
 -- the place of a name that has a slot is within the list
 pub within_at : {X : Type 0} (es : List (List ℕ × X)) (k : List ℕ) (at : ℕ) (o : Option X) → IsSome o → slice_get es at ≡ with_name k o → at < length es

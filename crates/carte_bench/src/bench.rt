@@ -1,4 +1,4 @@
-ghost use Rattle.std.specs.Prelude.{◌≡◌, true, Some, None, IsSome, OnOk, OnErr, IfOk};
+ghost use Rattle.std.specs.Prelude.{◌≡◌, true, Some, None, IsSome, IsTrue, OnOk, OnErr, IfOk};
 ghost use Rattle.carte_book.specs.Book.{book_view};
 ghost use Rattle.carte_bench.specs.Held.{spots_of, book_of, IsAt};
 ghost use Rattle.carte_bench.specs.Spots.{PutAt, IsSame, Takes, TakenOut, HasStopped, Renews, job_in, is_ready, place_of, slot_after};
@@ -37,16 +37,19 @@ impl<'b, J: Job + Drop> Bench<'b, J> {
         }
     }
 
-    /// Puts a job on the bench. Its key is a rule that the bench doesn't know. Where there is no memory the job is dropped.
-    pub fn demand(&mut self, job: J) -> Result<(), NoMemory>
+    /// Puts a job on the bench, and tells its place there, a hint for its name: a turn whose name has it makes no look-up.
+    /// The job's key is a rule that the bench doesn't know. Where there is no memory the job is dropped.
+    pub fn demand(&mut self, job: J) -> Result<usize, NoMemory>
         requires unknown { spots_of self.old (J.name job) ≡ None }
         ensures demanded { OnOk result (PutAt (spots_of self.old) (spots_of self.new) (J.name job) (slot.Ready job)) }
         ensures refused { OnErr result (IsSame (spots_of self.old) (spots_of self.new)) }
+        ensures place { IfOk result (IsAt self.new (J.name job)) }
         ensures book { book_of self.new ≡ book_of self.old }
     {
         let name = job.key().copy(self.alloc)?;
+        let at = self.slots.len();
         match self.slots.insert(name, Slot::Ready(job)) {
-            Ok(_) => Ok(()),
+            Ok(_) => Ok(at),
             Err(_) => Err(NoMemory),
         }
     }
@@ -92,14 +95,29 @@ impl<'b, J: Job + Drop> Bench<'b, J> {
         }
     }
 
-    // The place of a name that was demanded, by which the steps of a turn find its slot without a look-up each.
+    // The place of a name that was demanded, by which the steps of a turn find its slot without a look-up each. There is
+    // none at all where the name's hint is its place.
     pub(crate) fn find(&self, name: &Name) -> usize
         requires known { IsSome (spots_of self.now name.now) }
         ensures { IsAt self.now name.now result }
     {
+        let hint = name.hint();
+        if self.is_at(name, hint) {
+            return hint;
+        }
         match self.slots.get_full(name) {
             Some((at, held, slot)) => at,
             None => unreachable!(),
+        }
+    }
+
+    // Whether a name stands at a place.
+    fn is_at(&self, name: &Name, at: usize) -> bool
+        ensures { IsTrue result → IsAt self.now name.now at }
+    {
+        match self.slots.get_index(at) {
+            Some((held, _)) => held == name,
+            None => false,
         }
     }
 
@@ -116,18 +134,18 @@ impl<'b, J: Job + Drop> Bench<'b, J> {
         mem::replace(stands, slot)
     }
 
-    // Takes a job that is known to be ready, without a look at its stop.
-    pub(crate) fn take_ready(&mut self, name: &Name, at: usize) -> J
+    // Takes a job that is known to be ready, without a look at its stop, and the place of that as its hint has it.
+    pub(crate) fn take_ready(&mut self, name: &Name, at: usize) -> (J, usize)
         requires ready { is_ready (spots_of self.old) (spots_of self.old name.now) ≡ true }
         requires place { IsAt self.old name.now at }
-        ensures stood { job_in (spots_of self.old name.now) ≡ Some result }
+        ensures stood { job_in (spots_of self.old name.now) ≡ Some result.0 }
         ensures out { PutAt (spots_of self.old) (spots_of self.new) name.now slot.Out }
         ensures place { IsAt self.new name.now at }
         ensures book { book_of self.new ≡ book_of self.old }
     {
         match self.swap(name, at, Slot::Out) {
-            Slot::Ready(job) => job,
-            Slot::Stopped(job, _) => job,
+            Slot::Ready(job) => (job, usize::MAX),
+            Slot::Stopped(job, stop) => (job, stop.hint()),
             Slot::Out => unreachable!(),
             Slot::Done(_) => unreachable!(),
         }

@@ -8,11 +8,12 @@
 //! that fit this is the book's reason.
 //!
 //! The slots stand in one map in the order of their demands, so each has a dense number from the first day, while
-//! contracts speak of names alone. A slot keeps the whole outcome, since putting back takes no memory and can't copy a
-//! value out of it. A bench has a table of numbers' digests, which a turn drives over: what is made goes about with its
-//! digest, and so does each input, and a number's digest is taken once. Turned down: a list of who waits for a name. That
-//! a key waits is read off its stop and whether that is done, at no cost in putting back; who needs to wake keys in order
-//! keeps a list of its own.
+//! contracts speak of names alone. A demand tells that number, and a name at which a job stops has the next one as its
+//! hint: a turn compares the name there, and hashes only where it is another. A slot keeps the whole outcome, since
+//! putting back takes no memory and can't copy a value out of it. A bench has a table of numbers' digests, which a turn
+//! drives over: what is made goes about with its digest, and so does each input, and a number's digest is taken once.
+//! Turned down: a list of who waits for a name. That a key waits is read off its stop and whether that is done, at no
+//! cost in putting back; who needs to wake keys in order keeps a list of its own.
 #![tactic(auto)]
 
 mod bench;

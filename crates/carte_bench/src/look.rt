@@ -1,4 +1,4 @@
-ghost use Rattle.std.specs.Prelude.{◌≡◌};
+ghost use Rattle.std.specs.Prelude.{◌≡◌, option_copied};
 ghost use Rattle.carte_name.specs.Names.{name_eq};
 ghost use Rattle.carte_effect.specs.Sights.{Sees};
 ghost use Rattle.carte_book.specs.Book.{book_view};
@@ -26,7 +26,7 @@ impl<J> Look for Bench<'_, J> {
     ghost sight = { λ bench k. sight_in (book_of bench) (spots_of bench) k };
 
     fn look(&self, name: &Name) -> Seen<'_> {
-        seen(self.book, &self.slots, name)
+        seen(self.book, &self.slots, name.hint(), name)
     }
 }
 
@@ -35,6 +35,8 @@ impl<J> Look for Bench<'_, J> {
 pub(crate) struct Shown<'a, J> {
     pub(crate) book: &'a Book,
     pub(crate) slots: &'a IndexMap<Name, Slot<J>, Seeded>,
+    /// The place of the name at which the job stopped, a hint: that one is looked at first.
+    pub(crate) awaited: usize,
 }
 
 /// What the bench sees.
@@ -44,19 +46,40 @@ impl<J> Look for Shown<'_, J> {
     ghost sight = { λ shown k. sight_in (shown_book shown) (shown_spots shown) k };
 
     fn look(&self, name: &Name) -> Seen<'_> {
-        seen(self.book, self.slots, name)
+        seen(self.book, self.slots, self.awaited, name)
     }
 }
 
-fn seen<'a, J>(book: &'a Book, slots: &'a IndexMap<Name, Slot<J>, Seeded>, name: &Name) -> Seen<'a>
+fn seen<'a, J>(
+    book: &'a Book,
+    slots: &'a IndexMap<Name, Slot<J>, Seeded>,
+    hint: usize,
+    name: &Name,
+) -> Seen<'a>
     ensures { Sees result (sight_in (book_view book.now) (get name_eq slots.now) name.now) }
 {
     match book.lookup(name) {
         Looked::Input(value) => Seen::Value(value),
-        Looked::Rule(_) => match slots.get(name) {
+        Looked::Rule(_) => match slot_of(slots, hint, name) {
             Some(Slot::Done(made)) => Seen::Made(made.hashed()),
             _ => Seen::NotDone,
         },
         Looked::None => Seen::Missing,
     }
+}
+
+// The slot of a name. The one at this place is tried first.
+fn slot_of<'a, J>(
+    slots: &'a IndexMap<Name, Slot<J>, Seeded>,
+    hint: usize,
+    name: &Name,
+) -> Option<&'a Slot<J>>
+    ensures { option_copied result ≡ get name_eq slots.now name.now }
+{
+    if let Some((held, slot)) = slots.get_index(hint) {
+        if held == name {
+            return Some(slot);
+        }
+    }
+    slots.get(name)
 }

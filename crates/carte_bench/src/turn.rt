@@ -30,7 +30,8 @@ impl<J: Job + Drop> Bench<'_, J> {
         }
     }
 
-    /// The same, where the answer tells at which name it stopped, and why.
+    /// The same, where the answer tells at which name it stopped, and why. Where that is a rule which is demanded next, the
+    /// name has its place as its hint.
     pub fn turn_to(
         &mut self,
         alloc: Global,
@@ -43,14 +44,15 @@ impl<J: Job + Drop> Bench<'_, J> {
         ensures book { book_of self.new ≡ book_of self.old }
     {
         let at = self.find(name);
-        let mut job = self.take_ready(name, at);
-        match self.drive(alloc, &mut job, runs) {
+        let (mut job, awaited) = self.take_ready(name, at);
+        match self.drive(alloc, &mut job, awaited, runs) {
             Ok(made) => {
                 let copy = made.copy()?;
                 self.swap(name, at, Slot::Done(made));
                 Ok(Ok(copy))
             }
-            Err(Halt::Stop(stuck)) => {
+            Err(Halt::Stop(halted)) => {
+                let stuck = hinted(halted, self.slots.len());
                 let stop = stop_of(alloc, &stuck)?;
                 self.swap(name, at, Slot::Stopped(job, stop));
                 Ok(Err(stuck))
@@ -60,7 +62,13 @@ impl<J: Job + Drop> Bench<'_, J> {
     }
 
     // Drives a job over what the bench shows. The digests come from the table of the bench, which is no part of that.
-    fn drive(&mut self, alloc: Global, job: &mut J, runs: &mut Runs) -> Result<Made, Halt<Stuck>>
+    fn drive(
+        &mut self,
+        alloc: Global,
+        job: &mut J,
+        awaited: usize,
+        runs: &mut Runs,
+    ) -> Result<Made, Halt<Stuck>>
         ensures bench { self.new ≡ self.old }
         ensures name { J.name job.new ≡ J.name job.old }
         ensures gave { Gave J.gives (seen_in (book_of self.old) (spots_of self.old)) (stops_in (book_of self.old) (spots_of self.old)) None None job.old job.new result }
@@ -69,6 +77,7 @@ impl<J: Job + Drop> Bench<'_, J> {
         let shown = Shown {
             book: self.book,
             slots: &self.slots,
+            awaited,
         };
         let mut snapshot = Snapshot::with(&shown, &mut self.digests);
         let driven = job.drive(alloc, &mut snapshot, runs);
@@ -86,6 +95,16 @@ fn hashed(driven: Result<Made, Halt<Stuck>>, digests: &mut Digests) -> Result<Ma
             Ok(made)
         }
         Err(halt) => Err(halt),
+    }
+}
+
+// The same stop. Its name gets the place of the rule that is demanded next as its hint, since mostly it is that rule.
+fn hinted(stuck: Stuck, place: usize) -> Stuck
+    ensures { result ≡ stuck }
+{
+    match stuck {
+        Stuck::NotDone(name) => Stuck::NotDone(name.hinted(place)),
+        Stuck::Missing(name) => Stuck::Missing(name),
     }
 }
 

@@ -259,8 +259,8 @@ unfolding front_of
 taken t f n front long few = rw (front, long) (take_padded 16 t few)
 
 -- a text of at most 16 bytes is kept in the name, and any other whole
-pub held_short : (t f : List ℕ) (held : Held) (n : ℕ) → is_name t ≡ true → f ≡ front_of t → held ≡ Short n f → n ≡ length t → length t ≤ 16 → IsHeld held
-held_short t f held n name front is long few =
+pub held_short : (t f : List ℕ) (held : Held) (n hint : ℕ) → is_name t ≡ true → f ≡ front_of t → held ≡ Short n hint f → n ≡ length t → length t ≤ 16 → IsHeld held
+held_short t f held n hint name front is long few =
     let all : take n f ≡ t = taken t f n front long few in
     subst IsHeld (sym is) (record { is = subst (λ k. is_name k ≡ true) (sym all) name; fits = (front ∙ ap front_of (sym all), omega arith) })
 

@@ -1,4 +1,5 @@
--- How a name is kept: its at most 16 bytes with zeros behind them, or the whole of a longer one.
+-- How a name is kept: its at most 16 bytes with zeros behind them, or the whole of a longer one. The number beside either
+-- is no part of the name.
 use Rattle.std.specs.Prelude.{ℕ, zero, suc, List, [], ◌∷◌, ◌≡◌, ◌≤◌, ◌<◌, length, take, nat_le, IsTrue, if◌then◌else◌}
 use Rattle.std.specs.Arc.{arc_str_bytes}
 use Rattle.carte_name.specs.declared.held.Held.{Held}
@@ -18,13 +19,13 @@ front_of k = padded 16 k
 
 -- the bytes of the name that is kept so
 abbrev pub shown : Held → List ℕ
-shown (Short n front) = take n front
-shown (Long text) = arc_str_bytes text
+shown (Short n hint front) = take n front
+shown (Long hint text) = arc_str_bytes text
 
 -- a name stands in itself as long as there is room for it, with zeros behind it
 abbrev pub Fits : Held → Type 0
-Fits (Short n front) = (front ≡ front_of (take n front)) × (n ≤ 16)
-Fits (Long text) = 16 < length (arc_str_bytes text)
+Fits (Short n hint front) = (front ≡ front_of (take n front)) × (n ≤ 16)
+Fits (Long hint text) = 16 < length (arc_str_bytes text)
 
 pub record IsHeld (held : Held) : Type 0 where
   pub is : IsTrue (is_name (shown held))

@@ -8,6 +8,10 @@
 //! another thread. Hash maps of names begin with a seed (`Seeded`), since names can be chosen that collide in a fixed
 //! hash.
 //!
+//! There is room in a name for a number: where it stood last in some list, so that a look goes there first and compares
+//! before it hashes. It rides along with copies, no view sees it, and no clause speaks of it: what is wrong costs a look.
+//! Turned down: numbers for names in all contracts, and a number that a look writes, since a name is shared by threads.
+//!
 //! What is refused is told by a relation in `specs/`, never by the reader's loop again: the place of a fault is the
 //! length of the longest prefix that begins some name. That cells and places of the sheet are the same is a law, the
 //! contract of a function that does nothing.

@@ -27,6 +27,9 @@ use std::sync::ArcStr;
 /// The most bytes that a name of a rule file has.
 pub const NAME_LIMIT: usize = 64;
 
+/// What a name has as its number until one is written: no list is so long.
+const NO_HINT: u32 = u32::MAX;
+
 /// The name of a key: of a rule or an input in a rule file, or of a cell in a sheet.
 ///
 /// Up to 16 bytes stand in the name itself: it takes no memory then, and names are told apart and put in order by two
@@ -116,7 +119,7 @@ impl Name {
         if text.len() <= 16 {
             return Ok(Name::short(text.as_bytes()));
         }
-        let held = Held::Long(ArcStr::from_str(alloc, text)?);
+        let held = Held::Long(NO_HINT, ArcStr::from_str(alloc, text)?);
         Ok(Name { held })
     }
 
@@ -126,7 +129,7 @@ impl Name {
         ensures { result ≡ text.now }
     {
         let front = front_of(text);
-        let held = Held::Short(text.len() as u8, front);
+        let held = Held::Short(text.len() as u8, NO_HINT, front);
         Name { held }
     }
 
@@ -161,8 +164,8 @@ impl Name {
         ensures { result ≡ slice_index self.now 0 }
     {
         match &self.held {
-            Held::Short(_, front) => front[0],
-            Held::Long(text) => first(text.as_bytes()),
+            Held::Short(_, _, front) => front[0],
+            Held::Long(_, text) => first(text.as_bytes()),
         }
     }
 
@@ -183,7 +186,7 @@ impl Name {
     {
         match &self.held {
             Held::Short(..) => unsafe { str::from_utf8_unchecked(self.bytes()) },
-            Held::Long(text) => text.as_str(),
+            Held::Long(_, text) => text.as_str(),
         }
     }
 
@@ -192,8 +195,8 @@ impl Name {
         ensures { result.now ≡ self.now }
     {
         match &self.held {
-            Held::Short(length, front) => &front[..*length as usize],
-            Held::Long(text) => text.as_bytes(),
+            Held::Short(length, _, front) => &front[..*length as usize],
+            Held::Long(_, text) => text.as_bytes(),
         }
     }
 
@@ -204,17 +207,46 @@ impl Name {
         let _held = &self.held;
     }
 
-    /// The same name. A long one shares its text, so it takes nothing from the allocator.
+    /// The number that was written into the name last: the place at which it stood in some list. It is no part of the name,
+    /// which is its text, and nothing is promised of it: who goes by it looks whether this name stands there.
+    pub fn hint(&self) -> usize {
+        match &self.held {
+            Held::Short(_, hint, _) => *hint as usize,
+            Held::Long(hint, _) => *hint as usize,
+        }
+    }
+
+    /// Writes a number into the name, which stays the same. One above 32 bits is cut.
+    pub fn set_hint(&mut self, place: usize)
+        ensures { self.new ≡ self.old }
+    {
+        let number = (place & 0xFFFF_FFFF) as u32;
+        match &mut self.held {
+            Held::Short(_, hint, _) => *hint = number,
+            Held::Long(hint, _) => *hint = number,
+        }
+    }
+
+    /// The same name, with this number in it.
+    pub fn hinted(self, place: usize) -> Name
+        ensures { result ≡ self }
+    {
+        let mut name = self;
+        name.set_hint(place);
+        name
+    }
+
+    /// The same name, with the same number in it. A long one shares its text, so it takes nothing from the allocator.
     pub fn copy(&self, _alloc: Global) -> Result<Name, NoMemory>
         ensures { IfOk result (λ k. k ≡ self.now) }
     {
         match &self.held {
-            Held::Short(length, front) => {
-                let held = Held::Short(*length, *front);
+            Held::Short(length, hint, front) => {
+                let held = Held::Short(*length, *hint, *front);
                 Ok(Name { held })
             }
-            Held::Long(text) => {
-                let held = Held::Long(text.clone()?);
+            Held::Long(hint, text) => {
+                let held = Held::Long(*hint, text.clone()?);
                 Ok(Name { held })
             }
         }
@@ -234,7 +266,7 @@ impl PartialEq for Name {
 
     fn eq(&self, other: &Name) -> bool {
         match (&self.held, &other.held) {
-            (Held::Short(length, front), Held::Short(others, theirs)) => {
+            (Held::Short(length, _, front), Held::Short(others, _, theirs)) => {
                 alike(front, theirs) && length == others
             }
             _ => self.text() == other.text(),
@@ -267,7 +299,7 @@ impl Ord for Name {
 
     fn cmp(&self, other: &Name) -> Ordering {
         match (&self.held, &other.held) {
-            (Held::Short(length, front), Held::Short(others, theirs)) => {
+            (Held::Short(length, _, front), Held::Short(others, _, theirs)) => {
                 match order(front, theirs) {
                     Ordering::Equal => length.cmp(others),
                     unlike => unlike,
@@ -285,8 +317,8 @@ impl Hash for Name {
 
     fn hash<H: Hasher>(&self, state: &mut H) {
         match &self.held {
-            Held::Short(_, front) => state.write(front.as_slice()),
-            Held::Long(text) => state.write(text.as_bytes()),
+            Held::Short(_, _, front) => state.write(front.as_slice()),
+            Held::Long(_, text) => state.write(text.as_bytes()),
         }
     }
 }
