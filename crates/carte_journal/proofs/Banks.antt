@@ -1,5 +1,5 @@
 -- What keeps the bank of a file: bytes that are the same up to a gate byte, and bodies that are no moves.
-use Rattle.std.proofs.Common.{◌≡◌, ℕ, suc, zero, ◌+◌, ◌<◌, ◌≤◌, true, false, Option, Some, None, List, [], ◌∷◌, ◌++◌, length, take, drop, get_or, arith, refl, sym, ◌∙◌, ap, subst, inl, inr, append-nil}
+use Rattle.std.proofs.Common.{◌≡◌, ℕ, suc, zero, ◌+◌, ◌<◌, ◌≤◌, false, Option, Some, None, List, [], ◌∷◌, ◌++◌, length, take, drop, get_or, arith, refl, sym, ◌∙◌, ap, subst, inl, inr, append-nil}
 use Rattle.std.specs.Prelude.{if◌then◌else◌}
 use Rattle.std.proofs.lemmas.Bool.{cases_Bool}
 use Rattle.std.proofs.lemmas.List.{get_or-take}
@@ -12,7 +12,7 @@ use Rattle.carte_bank.proofs.RootLaws.{Rooted, Same, has_roots, no_move, rooted,
 use Rattle.carte_journal.specs.Frames.{BodyAt, Ends, walk}
 use Rattle.carte_journal.specs.Ready.{HasFrames}
 use Rattle.carte_journal.proofs.Files.{gate_from}
-use Rattle.carte_journal.proofs.Walks.{Step, closes, opens, step}
+use Rattle.carte_journal.proofs.Walks.{closes, opens, step}
 
 -- the first move among bodies
 abbrev pub first_move : List BodyAt → Option Move

@@ -1,13 +1,19 @@
-ghost use Rattle.std.specs.Prelude.{◌≡◌, ◌+◌, ◌<◌, ◌≤◌, ◌^◌, ◌++◌, ◌∷◌, ◌↔◌, [], true, false, None, IsTrue, IsOkUnless, OnOk, OnErr, Err, List};
+ghost use Rattle.std.specs.Prelude.{◌≡◌, ◌+◌, ◌<◌, ◌≤◌, ◌^◌, ◌++◌, ◌∷◌, ◌↔◌, [], true, false, None, IsTrue, IsOkUnless, IfOk, OnOk, OnErr, Err, List};
 ghost use Rattle.carte_io.specs.Causes.{HasCauseOf};
 ghost use Rattle.carte_io.specs.Stations.{StepsThrough};
 ghost use Rattle.carte_journal.specs.Frames.{BodyAt, Ends};
 ghost use Rattle.carte_journal.specs.Journals.{IsAtRest, IsReadAs, broke, calls_of, committed, needed_for, step_of};
+ghost use Rattle.carte_bank.specs.Roots.{start_of};
+ghost use Rattle.carte_bank.specs.Turns.{AreInFront};
+ghost use Rattle.carte_journal.specs.Regions.{AreShort, IsPlannedOn, IsRegionOf, bytes_of, told_bank};
 
+use crate::load::first_gate;
 use crate::writes::append;
-use crate::{CommitFault, Frame};
+use crate::{Bank, Bodies, CommitFault, Frame, Region};
 use carte_bank::Roots;
 use carte_io::Disk;
+use carte_value::NoMemory;
+use std::alloc::Global;
 use std::marker::Model;
 
 /// Where the frames of a file end. It doesn't hold the disk: each call that takes one is meant for the disk that
@@ -24,13 +30,15 @@ pub struct Journal {
 
 impl Model for Journal {
     ghost use Rattle.std.specs.Prelude.{◌<◌, ◌≤◌, ◌^◌};
+    ghost use Rattle.carte_bank.specs.Roots.{start_of};
+    ghost use Rattle.carte_bank.specs.Turns.{AreInFront};
     ghost use Rattle.carte_journal.specs.Journals.{Standing};
 
     ghost Value = { Standing };
 
     ghost view = { λ j. record { gate = j.gate; limit = j.limit; fresh = j.fresh; broken = j.broken; bank = j.bank; frames = j.frames } };
 
-    ghost invariant = { λ j. (j.gate < 2 ^ 32) × (j.limit < 2 ^ 32) × (j.frames ≤ j.gate) };
+    ghost invariant = { λ j. (j.gate < 2 ^ 32) × (j.limit < 2 ^ 32) × (j.frames ≤ j.gate) × (start_of j.bank ≤ j.gate) × AreInFront j.bank };
 }
 
 impl Journal {
@@ -54,6 +62,8 @@ impl Journal {
         requires gate { gate < 2 ^ 32 }
         requires limit { limit < 2 ^ 32 }
         requires frames { frames ≤ gate }
+        requires start { start_of bank ≤ gate }
+        requires roots { AreInFront bank }
         ensures { result ≡ record { gate = gate; limit = limit; fresh = false; broken = false; bank = bank; frames = frames } }
     {
         Journal {
@@ -80,6 +90,28 @@ impl Journal {
         ensures small { self.now.limit < 2 ^ 32 }
     {
         self.limit
+    }
+
+    /// The bank that has its frames.
+    pub fn bank(&self) -> Bank
+        ensures { result ≡ told_bank self.now }
+    {
+        Bank {
+            start: first_gate(self.bank),
+            end: self.gate + 1,
+            frames: self.frames,
+            generation: self.bank.map_or(0, |roots| roots.generation),
+        }
+    }
+
+    /// The region of these bodies, for a rewriting before the next commit. Their offsets don't count. No call of a
+    /// disk is made.
+    pub fn plan(&self, alloc: Global, bodies: &Bodies) -> Result<Region, NoMemory>
+        requires { AreShort (bytes_of bodies.now) }
+        ensures planned { IfOk result (λ r. IsPlannedOn self.now r) }
+        ensures region { IfOk result (λ r. IsRegionOf r (bytes_of bodies.now)) }
+    {
+        Region::of(alloc, self.gate, self.bank, bodies)
     }
 
     /// How many bytes the file needs with one more body of this length.

@@ -18,6 +18,7 @@
 //! whatever else it does with the disk.
 #![tactic(auto)]
 
+mod bank;
 mod body;
 mod faults;
 mod frame;
@@ -25,10 +26,13 @@ mod journal;
 mod load;
 mod many;
 mod reads;
+mod region;
 mod writes;
 
+pub use bank::Bank;
 pub use body::{Bodies, Body};
 pub use faults::{CommitFault, LoadFault};
 pub use frame::Frame;
 pub use journal::Journal;
 pub use many::commit_all;
+pub use region::Region;
