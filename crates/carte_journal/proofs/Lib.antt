@@ -3,5 +3,9 @@ pub mod Files
 pub mod Banks
 pub mod Readings
 pub mod Regions
+pub mod Flips
+pub mod FirstFlip
+pub mod Rewritings
 pub mod Commits
+pub mod Rewritten
 pub mod ManyCommits

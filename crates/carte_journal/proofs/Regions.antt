@@ -1,11 +1,12 @@
 -- Laws of a region, as it is planned.
-use Rattle.std.proofs.Common.{◌≡◌, ℕ, ◌+◌, ◌<◌, ◌≤◌, ◌^◌, Option, Some, None, List, [], ◌∷◌, ◌++◌, length, arith, refl, sym, ◌∙◌, ap, subst, length-append}
+use Rattle.std.proofs.Common.{◌≡◌, ℕ, ◌+◌, ◌<◌, ◌≤◌, ◌^◌, Option, Some, None, List, [], ◌∷◌, ◌++◌, length, arith, refl, sym, ◌∙◌, ap, subst, append_assoc, length-append}
 use Rattle.std.specs.Int.{to_be_bytes, w32}
 use Rattle.carte_bank.specs.Roots.{start_of}
 use Rattle.carte_bank.specs.Turns.{AreInFront}
 use Rattle.carte_bank.specs.declared.roots.Roots.{Roots}
-use Rattle.carte_journal.specs.Frames.{BodyAt, end_of}
+use Rattle.carte_journal.specs.Frames.{BodyAt, Ends, add, end_of, walk}
 use Rattle.carte_journal.specs.Regions.{AreShort, IsPlaced, IsRegionOf, bytes_of, first_front, front_of, gate_of, placed_at, region_at, region_of, written_from}
+use Rattle.carte_journal.proofs.Walks.{frame_then, walk_closed}
 
 -- how long a region is
 length-framed : (body behind : List ℕ) → length (to_be_bytes w32 (length body) ++ body ++ behind) ≡ 4 + length body + length behind
@@ -59,3 +60,15 @@ module _ (gate at frames : ℕ) (bank : Option Roots) (piece : List ℕ) (bodies
     short = short;
     placed = is_placed;
   }
+
+-- its frames
+pub walk_region : (limit at : ℕ) (bodies : List (List ℕ)) (behind : List ℕ) → AreShort bodies → gate_of at bodies + 1 ≤ limit
+    → walk limit at 0 (region_of bodies ++ behind) ≡ Ends (gate_of at bodies) (placed_at at bodies)
+walk_region limit at [] behind short fits = walk_closed limit at 0 behind (λ never. absurd (cc))
+walk_region limit at (body ∷ bodies) behind short fits =
+    let rest : List ℕ = region_of bodies ++ behind in
+    let some : 0 < length rest = omega (arith, length-append (region_of bodies) behind, frames_below bodies) in
+    let long : end_of at body + length (region_of bodies) ≡ gate_of (end_of at body) bodies + 1 = length-region_of (end_of at body) bodies in
+    ap (λ bytes. walk limit at 0 (1 ∷ bytes)) (append_assoc (to_be_bytes w32 (length body) ++ body) (region_of bodies) behind)
+    ∙ frame_then limit at body rest short.0 some (omega (arith, long, fits, frames_below bodies))
+    ∙ ap (add (at, body)) (walk_region limit (end_of at body) bodies behind short.1 fits)

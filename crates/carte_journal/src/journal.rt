@@ -1,13 +1,14 @@
-ghost use Rattle.std.specs.Prelude.{◌≡◌, ◌+◌, ◌<◌, ◌≤◌, ◌^◌, ◌++◌, ◌∷◌, ◌↔◌, [], true, false, None, IsTrue, IsOkUnless, IfOk, OnOk, OnErr, Err, List};
+ghost use Rattle.std.specs.Prelude.{◌≡◌, ◌+◌, ◌<◌, ◌≤◌, ◌^◌, ◌++◌, ◌∷◌, ◌↔◌, [], true, false, None, IsTrue, IsOkUnless, IfOk, OnOk, OnErr, Err, List, ℕ};
 ghost use Rattle.carte_io.specs.Causes.{HasCauseOf};
 ghost use Rattle.carte_io.specs.Stations.{StepsThrough};
 ghost use Rattle.carte_journal.specs.Frames.{BodyAt, Ends};
 ghost use Rattle.carte_journal.specs.Journals.{IsAtRest, IsReadAs, broke, calls_of, committed, needed_for, step_of};
 ghost use Rattle.carte_bank.specs.Roots.{start_of};
 ghost use Rattle.carte_bank.specs.Turns.{AreInFront};
-ghost use Rattle.carte_journal.specs.Regions.{AreShort, IsPlannedOn, IsRegionOf, bytes_of, told_bank};
+ghost use Rattle.carte_journal.specs.Regions.{AreShort, IsPlannedOn, IsRegionOf, IsRewritable, bytes_of, calls_to_turn, placed_at, region_end, rewritten, step_to, told_bank};
 
 use crate::load::first_gate;
+use crate::rewrite::turn;
 use crate::writes::append;
 use crate::{Bank, Bodies, CommitFault, Frame, Region};
 use carte_bank::Roots;
@@ -159,6 +160,54 @@ impl Journal {
                 self.gate = needed - 1;
                 self.fresh = false;
                 self.frames += 1;
+                Ok(())
+            }
+            Err(_) => {
+                self.broken = true;
+                Err(CommitFault::DiskFault)
+            }
+        }
+    }
+
+    /// Writes a region over the list or the bank that has the frames, as a bank of its own. After Ok every later image of
+    /// the file has the bodies of the region; at each moment before, an image has these or those that were there. It makes
+    /// 4 writing calls as the first one of a file, and 5 or 7 as a later one, and takes no memory.
+    pub fn rewrite<D: Disk>(&mut self, disk: &mut D, region: &Region) -> Result<(), CommitFault>
+        requires whole { self.old.broken ≡ false }
+        requires planned { IsPlannedOn self.old region.now }
+        requires rewritable { IsRewritable self.old }
+
+        // Where there is no room, no call of the disk is made.
+        ensures full { self.old.limit < region_end region.now
+            → (result ≡ Err (CommitFault.Full (region_end region.now) self.old.limit)) × (self.new ≡ self.old) × (disk.new ≡ disk.old) }
+        ensures room { region_end region.now ≤ self.old.limit → IsOkUnless result CommitFault.DiskFault }
+        ensures cause { HasCauseOf CommitFault.DiskFault (D.faults disk.old) (D.faults disk.new) result }
+
+        ensures place { OnOk result (self.new ≡ rewritten self.old region.now) }
+        ensures fault { result ≡ Err CommitFault.DiskFault → self.new ≡ broke self.old }
+        ensures broken { IsTrue self.new.broken ↔ (result ≡ Err CommitFault.DiskFault) }
+
+        ensures calls { D.tells → OnOk result ((D.story disk.new).now.passed ≡ (D.story disk.old).now.passed + calls_to_turn self.old.bank) }
+        ensures fewer { D.tells → OnErr result (((D.story disk.old).now.passed ≤ (D.story disk.new).now.passed)
+            × ((D.story disk.new).now.passed < (D.story disk.old).now.passed + calls_to_turn self.old.bank)) }
+
+        ensures ok { D.tells → (bodies : List BodyAt) (new : List (List ℕ)) → IsAtRest self.old bodies (D.story disk.old) → IsRegionOf region.now new
+            → OnOk result (IsAtRest self.new (placed_at region.now.at new) (D.story disk.new)) }
+        ensures any_moment { D.tells → (bodies : List BodyAt) (new : List (List ℕ)) → IsAtRest self.old bodies (D.story disk.old) → IsRegionOf region.now new
+            → StepsThrough (IsReadAs self.old.limit) (Ends self.old.gate bodies) (step_to region.now new ∷ []) (D.story disk.old) (D.story disk.new) }
+    {
+        let needed = region.end();
+        if needed > self.limit {
+            return Err(CommitFault::Full {
+                needed,
+                limit: self.limit,
+            });
+        }
+        match turn(disk, region) {
+            Ok(roots) => {
+                self.gate = needed - 1;
+                self.bank = Some(roots);
+                self.frames = region.frames();
                 Ok(())
             }
             Err(_) => {

@@ -70,7 +70,8 @@ impl Region {
 
     /// The roots of that journal.
     pub(crate) fn bank(&self) -> Option<Roots>
-        ensures { result ≡ self.now.bank }
+        ensures bank { result ≡ self.now.bank }
+        ensures placed { IsPlaced self.now }
     {
         self.bank
     }
