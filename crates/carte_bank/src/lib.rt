@@ -18,8 +18,10 @@ mod frames;
 mod moves;
 mod reads;
 mod roots;
+mod turns;
 
 pub use frames::{FrameAt, read_frame};
 pub use moves::{Move, find_move};
 pub use reads::{read_byte, read_number};
 pub use roots::{Root, Roots, read_roots};
+pub use turns::root_bytes;
