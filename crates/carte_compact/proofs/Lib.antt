@@ -1,0 +1,10 @@
+pub mod Links
+pub mod Found
+pub mod Ordered
+pub mod Backwards
+pub mod Repeats
+pub mod Ties
+pub mod Bare
+pub mod Living
+pub mod Shut
+pub mod Sizes

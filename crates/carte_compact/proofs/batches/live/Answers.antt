@@ -1,0 +1,16 @@
+use Rattle.std.proofs.Common.{◌≡◌, false, inr, rules}
+use Rattle.std.proofs.lemmas.Result.{IfOk-weaker}
+use Rattle.carte_compact.specs.Live.{is_bare}
+use Rattle.carte_compact.proofs.Living.{is_kept}
+use Rattle.carte_compact.proofs.Shut.{are_unmarked}
+use Rattle.carte_compact.proofs.batches.live.Goals as goal
+
+pub returns-clause-kept : goal.returns-clause-kept
+returns-clause-kept c =
+    let some : is_bare c.args.kept.now ≡ false = search rules in
+    IfOk-weaker c.some_live.result _ _ (λ Bs live. is_kept c.args.kept.now Bs.items (inr (some, live))) c.some_live.ensures
+
+pub returns-clause-unmarked : goal.returns-clause-unmarked
+returns-clause-unmarked c =
+    let some : is_bare c.args.kept.now ≡ false = search rules in
+    IfOk-weaker c.some_live.result _ _ (λ Bs live. are_unmarked c.args.kept.now Bs.items (inr (some, live))) c.some_live.ensures

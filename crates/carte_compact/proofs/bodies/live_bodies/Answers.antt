@@ -1,0 +1,25 @@
+use Rattle.std.proofs.Common.{◌≡◌, ◌<◌, ◌≤◌, ◌^◌, length, ap, sym, ◌∙◌, subst, arith}
+use Rattle.std.proofs.lemmas.Result.{IfOk-weaker}
+use Rattle.carte_record.specs.Kept.{nothing_kept}
+use Rattle.carte_state.specs.Folding.{IsFolded}
+use Rattle.carte_state.specs.Runs.{AreUnmarked}
+use Rattle.carte_compact.proofs.Shut.{are_few, folded}
+use Rattle.carte_compact.specs.Lengths.{AreBodies}
+use Rattle.carte_compact.proofs.bodies.live_bodies.Goals as goal
+
+pub bodies_of-requires-clause-few : goal.bodies_of-requires-clause-few
+bodies_of-requires-clause-few c =
+    let few = are_few c.args.kept.now c.in_ok-batches.batches.items ((c.in_ok-batches.ensures {u = tt}).live) in
+    omega (arith, few, ap length c.as_slice.ensures.value)
+
+pub returns-clause-live : goal.returns-clause-live
+returns-clause-live c =
+    let Bs = c.in_ok-batches.batches.items in
+    IfOk-weaker c.bodies_of.result _ _ (λ bodies are. (Bs, (c.in_ok-batches.ensures {u = tt}).live, subst (λ Cs. AreBodies Cs bodies) c.as_slice.ensures.value are)) c.bodies_of.ensures.bodies
+
+pub returns-clause-kept : goal.returns-clause-kept
+returns-clause-kept c =
+    let Bs = c.in_ok-batches.batches.items in
+    IfOk-weaker c.bodies_of.result _ _
+    (λ bodies are. subst (IsFolded nothing_kept bodies) ((c.in_ok-batches.ensures {u = tt}).kept) (folded nothing_kept Bs bodies (subst (λ Cs. AreBodies Cs bodies) c.as_slice.ensures.value are)))
+    c.bodies_of.ensures.bodies

@@ -1,0 +1,5 @@
+pub mod Latest
+pub mod Contents
+pub mod Live
+pub mod Laws
+pub mod Lengths

@@ -1,0 +1,30 @@
+//! The live information of a state: all that is kept, in as few bytes as can say it. What a state file grows by, and what
+//! counts no longer, is left out: of the links and entries of a name all but the one that is found, of equal traces all
+//! but the last, and all marks that were taken off.
+//!
+//! It is a list of batches, so that what reads a state file reads this too: none where nothing is kept, one with all but
+//! the marks, and a second one with the keys that are stale, where there are any, since the entries of a batch have no
+//! mark. Of nothing these batches make just what is kept (`live_is_kept`). Names and values stand in an order of their own
+//! there, so that the bytes are told by what is kept, but for the order of traces.
+//!
+//! Names are put in order and each looked up again in the tables that the lists have: so no list of entries is sorted,
+//! and nothing is held but names. Equal traces are told by a set of those that come later, since a key that often comes
+//! back to the same ends has thousands, and to compare them in pairs is quadratic. Turned down: a rewriting that goes by
+//! the bytes of the file, which would have to know of each body what of it still counts.
+#![tactic(auto)]
+
+mod batches;
+mod bodies;
+mod content;
+mod entries;
+mod latest;
+mod laws;
+mod lengths;
+mod measured;
+mod names;
+mod values;
+
+pub use batches::live;
+pub use bodies::live_bodies;
+pub use laws::live_is_kept;
+pub use lengths::live_length;
