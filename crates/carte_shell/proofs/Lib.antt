@@ -5,3 +5,4 @@ pub mod Obeying
 pub mod Sounding
 pub mod Sessions
 pub mod RulesKept
+pub mod Lasting

@@ -7,3 +7,4 @@ pub mod Explained
 pub mod Answers
 pub mod Books
 pub mod Sound
+pub mod Lasting

@@ -1,6 +1,7 @@
 // Laws of whole sessions, each as the contract of a function that does nothing.
 ghost use Rattle.carte_session.specs.Laws.{SessionSeen};
 ghost use Rattle.carte_shell.specs.Answers.{Answers, Ends};
+ghost use Rattle.carte_shell.specs.Lasting.{SessionIsDone};
 ghost use Rattle.carte_shell.specs.Scenes.{scene};
 ghost use Rattle.carte_shell.specs.Sound.{EndLeavesSound, LinesStaySound, SessionStaysSound};
 
@@ -24,4 +25,10 @@ pub fn session_stays_sound<S: Source, D: Disk, O: Sink>()
 /// A session of a shell beside its disk is one of scenes, in whose terms its lines are answered.
 pub fn session_of_scenes<S: Source, D: Disk, O: Sink>()
     ensures { SessionSeen (scene D.story D.faults) (Answers D.tells) (Ends D.tells) S.tells O.tells }
+{}
+
+/// A session of a script within the limit comes to its end, or memory runs out, where there is room for each batch that a
+/// line may bring and no device fails.
+pub fn session_is_done<S: Source, D: Disk, O: Sink>()
+    ensures { SessionIsDone D.tells S.tells O.tells }
 {}

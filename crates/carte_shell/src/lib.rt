@@ -26,6 +26,8 @@ mod stops;
 mod why;
 
 pub use choices::Choices;
-pub use laws::{end_leaves_sound, lines_stay_sound, session_of_scenes, session_stays_sound};
+pub use laws::{
+    end_leaves_sound, lines_stay_sound, session_is_done, session_of_scenes, session_stays_sound,
+};
 pub use reply::Reply;
 pub use shell::Shell;

@@ -1,0 +1,82 @@
+-- A session that nothing hinders is done, or memory runs out.
+use Rattle.std.proofs.Common.{◌≡◌, ℕ, ◌+◌, ◌<◌, ◌≤◌, true, false, List, [], ◌∷◌, ◌++◌, length, Result, Ok, Err, refl, sym, ◌∙◌, ap, subst, inl, inr, ◌⊎◌, arith}
+use Rattle.carte_io.specs.Causes.{Rose}
+use Rattle.carte_io.specs.Streams.{SinkState, SourceState}
+use Rattle.carte_record.specs.declared.batch.Batch.{Batch}
+use Rattle.carte_record.specs.Empty.{is_empty}
+use Rattle.carte_session.specs.Lines.{IsNext, lines_of}
+use Rattle.carte_session.specs.Session.{Goes, IsSession}
+use Rattle.carte_session.specs.declared.end.SessionEnd.{SessionEnd}
+use Rattle.carte_session.specs.declared.end.SessionEnd.TheVariants.{Machine, NoMemory, ReadFault, TooLong, WriteFault}
+use Rattle.carte_session.specs.declared.end.StepEnd.{StepEnd}
+use Rattle.carte_session.specs.declared.end.StepEnd.TheVariants as line_end
+use Rattle.carte_session.proofs.LineLemmas.{next_is}
+use Rattle.carte_session.proofs.SessionLaws.{too_long_is}
+use Rattle.carte_state.specs.Applying.{IsOver}
+use Rattle.carte_state.specs.States.{HasRoom, Stand}
+use Rattle.carte_words.specs.Lines.{Means}
+use Rattle.carte_words.specs.declared.line.Line.{Line}
+use Rattle.carte_words.specs.declared.line.Line.TheVariants as line
+use Rattle.carte_shell.specs.Answers.{Answers, Brings, Ends, Obeys}
+use Rattle.carte_shell.specs.Lasting.{AllFit, IsDoneOrShort, NoneFailed, SessionIsDone}
+use Rattle.carte_shell.specs.Replies.{Said}
+use Rattle.carte_shell.specs.Scenes.{Scene}
+
+-- there is no room for it that is lacking
+not_over : (s : Stand) (B : Batch) (needed limit : ℕ) → HasRoom s B → IsOver s B needed limit → ⊥
+not_over s B needed limit (inl empty) over = let filled = over.filled in cc
+not_over s B needed limit (inr few) over = omega (arith, few, over.needed_is, over.limit_is, over.over)
+
+module _ (tells : Type 0) where
+  -- a line that is answered leaves the disk's failures as they were
+  obeyed : (m m' : Scene) (l : Line) (reply : Said) → Obeys tells m l reply m' → m'.faults ≡ m.faults
+  obeyed m m' line.Nothing reply obeys = ap (λ (x : Scene). x.faults) obeys.1
+  obeyed m m' (line.Set k v) reply obeys = ap (λ (x : Scene). x.faults) obeys.1
+  obeyed m m' (line.Build targets) reply obeys = obeys.4.applies.comes.faults
+  obeyed m m' (line.Explain targets) reply obeys = ap (λ (x : Scene). x.faults) obeys.1
+  obeyed m m' line.Clean reply obeys = obeys.1.applies.comes.faults
+
+  answered : (m m' : Scene) (n : ℕ) (bytes text : List ℕ) → Answers tells m n bytes text m' → m'.faults ≡ m.faults
+  answered m m' n bytes text (inl stray) = ap (λ (x : Scene). x.faults) stray.2
+  answered m m' n bytes text (inr told) = obeyed m m' told.0 told.2 told.4
+
+  all_answered : (n : ℕ) (m m' : Scene) (lines : List (List ℕ)) (said : List ℕ) → Goes (Answers tells) n m lines said m' → m'.faults ≡ m.faults
+  all_answered n m m' [] said goes = ap (λ (x : Scene). x.faults) goes.0
+  all_answered n m m' (bytes ∷ lines) said goes = all_answered (n + 1) goes.0 m' lines goes.2 goes.4 ∙ answered m goes.0 n bytes goes.1 goes.3
+
+  -- a line isn't answered where the disk failed, where there is no room, or where memory is lacking
+  not_answered : (m m' : Scene) (n : ℕ) (bytes : List ℕ) (end : StepEnd) → Ends tells m n bytes end m' → ¬ (Rose m.faults m'.faults)
+      → ((l : Line) (B : Batch) → Means m.book.kind bytes l → Brings m l B → HasRoom m.stand B) → IsDoneOrShort (Err (Machine end))
+  not_answered m m' n bytes line_end.NoMemory ends none fits = tt
+  not_answered m m' n bytes line_end.DiskFault ends none fits = none ends.2.2.applies.comes.rose
+  not_answered m m' n bytes (line_end.StateFull needed limit) ends none fits =
+      not_over m.stand ends.2.0 needed limit (fits ends.0 ends.2.0 ends.1 ends.2.1) ends.2.2.applies.comes.0
+
+-- the next line of what was read, where the end is told
+told_next : (read line : List ℕ) (lines : List (List ℕ)) (most : ℕ) (Told AtEnd : Type 0) → Told → IsNext read lines line most (Told → AtEnd) → IsNext read lines line most AtEnd
+told_next read line lines most Told AtEnd told next = (
+  next.0,
+  next.1,
+  elim next.2 [
+    | inl whole ↦ inl whole
+    | inr last ↦ inr (last.0, last.1, last.2 told)
+  ],
+)
+
+pub session_done : (tells source_tells sink_tells : Type 0) → SessionIsDone tells source_tells sink_tells
+session_done tells source_tells sink_tells m m' script left k k' limit (Ok done) is told within fits none = tt
+session_done tells source_tells sink_tells m m' script left k k' limit (Err NoMemory) is told within fits none = tt
+session_done tells source_tells sink_tells m m' script left k k' limit (Err ReadFault) is told within fits none = none.source (is.source_cause.failed refl)
+session_done tells source_tells sink_tells m m' script left k k' limit (Err WriteFault) is told within fits none = none.sink (is.sink_cause.failed refl)
+session_done tells source_tells sink_tells m m' script left k k' limit (Err TooLong) is told within fits none =
+    let longer = too_long_is (Answers tells) (Ends tells) source_tells sink_tells m m' script left k k' limit is told in omega arith
+session_done tells source_tells sink_tells m m' script left k k' limit (Err (Machine end)) is told within fits none =
+    let stopped = is.ended.0 in
+    let lines = stopped.0 in
+    let mid = stopped.2 in
+    let bytes = stopped.3 in
+    let next = next_is is.read left.left bytes lines left.last (told_next is.read bytes lines left.last source_tells (left.left ≡ []) told stopped.4) in
+    let whole : lines_of script.left ≡ lines ++ bytes ∷ next.0 = ap lines_of (is.ended.1 told) ∙ next.1 in
+    let same : mid.faults ≡ m.faults = all_answered tells 1 m mid lines stopped.1 stopped.5 in
+    not_answered tells mid m' (length lines + 1) bytes end stopped.6 (subst (λ (n : ℕ). ¬ (Rose n m'.faults)) (sym same) none.disk)
+    (λ l B means brings. fits lines next.0 bytes stopped.1 mid l B whole stopped.5 means brings)
