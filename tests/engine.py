@@ -1,7 +1,7 @@
 """What a build over kept information does, read a second time: marking, held keys, runs, and what is left.
 
 It shares no code with the program. `build` gives the reply or the refusal, the rules that ran, and what is kept
-afterwards, for the schedulers `topological` and `suspending` and the rebuilders `dirty`, `verifying`,
+afterwards, for the schedulers `topological`, `restarting` and `suspending` and the rebuilders `dirty`, `verifying`,
 `constructive` and `deep`; `why` gives the cause why a build would run a name, or would not. A book is its inputs and
 its rules, as `reference.read_book` or `sheets.read_sheet` gives them; in a sheet every other cell is an input that is
 empty.
@@ -50,6 +50,7 @@ class Kept:
     entries: dict = field(default_factory=dict)
     traces: dict = field(default_factory=lambda: {way: {} for way in WAYS})
     store: dict = field(default_factory=dict)
+    chain: tuple = ()
 
 
 class Book:
@@ -155,8 +156,74 @@ def is_held(rebuilder, begun, book, key):
                for links, result in begun.traces[rebuilder].get(key, ()))
 
 
+def led_to(begun, book, targets):
+    """The rules that targets lead to by the needs of entries, whatever these are: those of the chain in its order, then the others."""
+    found, ahead = set(), list(targets)
+    while ahead:
+        entry = begun.entries.get(ahead.pop())
+        more = set(entry.needs if entry else ()) - found
+        found |= more
+        ahead += more
+    chained = [name for name in begun.chain if name in found and name in book.rules]
+    return chained + sorted(name for name in found if name in book.rules and name not in chained)
+
+
+class Restarting:
+    """A build that gives up what asks for an unfinished rule, and begins it anew when that is finished."""
+
+    def __init__(self, rebuilder, begun, book):
+        self.rebuilder, self.begun, self.book = rebuilder, begun, book
+        self.asked, self.order, self.given_up = set(), [], 0
+
+    def is_there(self, name):
+        return self.book.input(name) is not None or name in self.order
+
+    def traces(self, key):
+        entry, found = self.begun.entries.get(key), self.begun.traces.get(self.rebuilder, {}).get(key, [])
+        return [trace for trace in found if self.rebuilder != "verifying" or entry and entry.result == trace[1]]
+
+    def checked(self, key):
+        """Whether it is held, and the name that a check asked for in vain."""
+        if self.rebuilder == "dirty":
+            return is_held("dirty", self.begun, self.book, key), None
+        for links, _ in self.traces(key):
+            for name, seen in links:
+                if not self.is_there(name):
+                    return False, name
+                if now(self.book, self.rebuilder, name) != seen:
+                    break
+            else:
+                return True, None
+        return False, None
+
+    def drive(self, key):
+        """None where it comes to its end, or the name that it stops at."""
+        holds, stop = self.checked(key)
+        if not holds and stop is None:
+            stop = next((name for name in self.book.needs_of(key) if not self.is_there(name)), None)
+            self.given_up += stop is not None
+        return stop
+
+    def treat(self, name):
+        path = [name] if name in self.book.rules and name not in self.asked else []
+        while path:
+            self.asked.add(path[-1])
+            stop = self.drive(path[-1])
+            if stop is None:
+                self.order.append(path.pop())
+            elif stop in self.book.rules and stop not in self.asked:
+                path.append(stop)
+            else:
+                path = []
+
+    def build(self, targets):
+        for name in led_to(self.begun, self.book, targets) + list(targets):
+            self.treat(name)
+        return self
+
+
 def treated(scheduler, rebuilder, begun, book, targets):
-    found, ahead = [], list(targets)
+    found, ahead = [], list(targets) + (led_to(begun, book, targets) if scheduler == "restarting" else [])
     while ahead:
         name = ahead.pop(0)
         if name in found or name not in book.rules:
@@ -203,6 +270,12 @@ def build(kept, inputs, rules, targets, scheduler="suspending", rebuilder="verif
     if not (reason and scheduler == "topological"):
         done = [key for key in treated(scheduler, rebuilder, begun, book, targets) if book.clean(key) is not None]
     ran = [key for key in done if not is_held(rebuilder, begun, book, key)]
+    given_up = 0
+    if scheduler == "restarting":
+        work = Restarting(rebuilder, begun, book).build(targets)
+        assert sorted(work.order) == sorted(done), (work.order, done)
+        given_up = work.given_up
+        left.chain = (*work.order, *(name for name in begun.chain if name not in work.order))
     for key in done:
         finish(rebuilder, left, begun, book, key, key in ran)
     if done:
@@ -213,7 +286,7 @@ def build(kept, inputs, rules, targets, scheduler="suspending", rebuilder="verif
         return reason, sorted(ran), left
     lines = [target + b" = " + printed(book.clean(target)) + b"\n" for target in targets]
     lines += [b"ran " + key + b"\n" for key in sorted(ran)] if listed else []
-    return b"".join(lines) + b"ran %d, given up 0, reused %d\n" % (len(ran), len(done) - len(ran)), sorted(ran), left
+    return b"".join(lines) + b"ran %d, given up %d, reused %d\n" % (len(ran), given_up, len(done) - len(ran)), sorted(ran), left
 
 
 # Explanations

@@ -23,7 +23,7 @@ from reference import Fault, read_book
 from sheets import read_sheet
 
 REBUILDERS = ["dirty", "verifying", "constructive", "deep"]
-SCHEDULERS = ["topological", "suspending"]
+SCHEDULERS = ["topological", "restarting", "suspending"]
 
 
 class History:
