@@ -17,4 +17,4 @@ mod laws;
 mod planning;
 
 pub use laws::batches_have_one_length;
-pub use planning::plan;
+pub use planning::{plan, plan_chained};
