@@ -113,15 +113,17 @@ pub starts_once : (h : How) (M : SomeKept) (b : Book) (targets : List (List ℕ)
     → HasStarted built.ran built.runs × (built.given_up ≡ 0)
 starts_once h M b targets done w built work nothing reckoned =
     let fewer : length w.runs.starts ≤ length w.runs.ends = no_longer w.runs.starts w.runs.ends nothing.once nothing.only in
-    let ran : IsListOf (Among w.runs.ends) built.ran = subst (λ ks. IsListOf (Among ks) built.ran) (sym work.ends) reckoned.ran in
-    (rw reckoned.runs (record {
-      once = nothing.once;
-      all = record {
-        rising = ran.rising;
-        only = λ k there. nothing.each k (ran.only k there);
-        each = λ k there. ran.each k (nothing.only k there);
-      };
-    }), omega (arith, reckoned.given_up, fewer))
+    let ran : IsListOf (Among w.runs.ends) built.ran = subst (λ ks. IsListOf (Among ks) built.ran) (sym work.ends) reckoned.ran in (
+      rw reckoned.runs (record {
+        once = nothing.once;
+        all = record {
+          rising = ran.rising;
+          only = λ k there. nothing.each k (ran.only k there);
+          each = λ k there. ran.each k (nothing.only k there);
+        };
+      }),
+      omega (arith, reckoned.given_up, fewer),
+    )
 
 -- where rules are begun anew the ledger of the work tells how few
 pub gives_few : (h : How) (M : SomeKept) (b : Book) (targets : List (List ℕ)) (w : Work) (built : Built) → GivesUp b targets (IsTreatedRestarting h M b targets) w.runs
