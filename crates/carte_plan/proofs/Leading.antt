@@ -66,7 +66,7 @@ planned h K M b ms left same s fs old B rules base starts lefts is notes =
       traces = λ given w. all.traces given (opening_carries b (begin K b ms) s left) w ∙ ap (λ ts. ts ++ traces_made h b (finishes_of fs) w) (open_none s left w);
     }
 
-no_finishes : (fs : List Finished) → finishes_of fs ≡ [] → fs ≡ []
+pub no_finishes : (fs : List Finished) → finishes_of fs ≡ [] → fs ≡ []
 no_finishes [] is = refl
 no_finishes (f ∷ fs) is = cc
 

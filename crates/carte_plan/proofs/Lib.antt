@@ -6,3 +6,4 @@ pub mod Alike
 pub mod Orders
 pub mod OneSize
 pub mod Lengths
+pub mod Chained

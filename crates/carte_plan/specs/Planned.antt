@@ -1,5 +1,5 @@
 -- The batch of a build, from its finished keys.
-use Rattle.std.specs.Prelude.{ℕ, ◌≡◌, ◌⊎◌, false, List, [], ◌++◌, if◌then◌else◌}
+use Rattle.std.specs.Prelude.{ℕ, ◌≡◌, ◌⊎◌, false, List, [], ◌++◌, Some, if◌then◌else◌}
 use Rattle.carte_value.specs.Truths.{NoneTwice}
 use Rattle.carte_book.specs.Book.{Book}
 use Rattle.carte_book.specs.Digest.{rules_digest_of}
@@ -49,6 +49,14 @@ pub record IsPlanOf (h : How) (K : SomeKept) (b : Book) (ms : List (List ℕ)) (
 -- under other rules nothing, where nothing is finished
 abbrev pub Plans : How → SomeKept → Book → List (List ℕ) → List Finished → Batch → Type 0
 Plans h K b ms fs B = ((has_rules_of K b ≡ false) × (fs ≡ []) × (B ≡ empty_batch)) ⊎ ((has_rules_of K b ≡ false → ¬ (fs ≡ [])) × IsPlanOf h K b ms fs B)
+
+-- the chain was put into the batch, where it isn't the old one
+abbrev pub PutsChain : List (List ℕ) → List (List ℕ) → Batch → Batch → Type 0
+PutsChain old chain B C = ((old ≡ chain) × (C ≡ B)) ⊎ ((¬ (old ≡ chain)) × (C ≡ record B { chain = Some chain }))
+
+-- the same for a build that leaves this chain
+abbrev pub PlansChained : How → SomeKept → Book → List (List ℕ) → List Finished → List (List ℕ) → Batch → Type 0
+PlansChained h K b ms fs chain C = (B : Batch) × Plans h K b ms fs B × PutsChain (begin K b ms).chain chain B C
 
 -- a build has finished what is done, each key rightly, in an order in which it may
 pub record IsBuilt (h : How) (K : SomeKept) (b : Book) (ms : List (List ℕ)) (done : List ℕ → Type 0) (fs : List Finished) : Type 0 where

@@ -5,13 +5,13 @@ ghost use Rattle.carte_record.specs.declared.start.Start.TheVariants.{GoOn, Anew
 ghost use Rattle.carte_record.specs.Kept.{SomeKept, kept_view};
 ghost use Rattle.carte_sound.specs.LeadsTo.{LeadsInOrder, LeadsRefused, LeadsRestarting, LeadsSuspending, chain_behind, marks_left};
 ghost use Rattle.carte_sound.specs.Begun.{begin};
-ghost use Rattle.carte_sound.specs.Treated.{IsDoneInOrder, IsDoneRestarting, IsDoneSuspending};
 ghost use Rattle.carte_sound.specs.Left.{keys_of};
+ghost use Rattle.carte_sound.specs.Treated.{IsDoneInOrder, IsDoneRestarting, IsDoneSuspending};
 ghost use Rattle.carte_note.specs.Lists.{finished_of};
 ghost use Rattle.carte_note.specs.Notes.{AreUnmarked};
 ghost use Rattle.carte_note.specs.Right.{finishes_of};
 ghost use Rattle.carte_mark.specs.Bases.{BeginsWith};
-ghost use Rattle.carte_plan.specs.Planned.{IsBuilt, NotesAll, Plans, opening};
+ghost use Rattle.carte_plan.specs.Planned.{IsBuilt, NotesAll, Plans, PlansChained, PutsChain, opening};
 
 use carte_book::Book;
 use carte_mark::Begun;
@@ -42,7 +42,7 @@ pub fn plan<R: Rebuilder>(
     made(alloc, rebuilder, begun, base, rules, book, finished)
 }
 
-/// The same with a new chain, which is that of a build that begins rules anew: a stub, which has never memory.
+/// The same for a build that leaves a chain, which the batch has where it isn't that of `base`.
 pub fn plan_chained<R: Rebuilder>(
     alloc: Global,
     rebuilder: &R,
@@ -55,9 +55,25 @@ pub fn plan_chained<R: Rebuilder>(
 ) -> Result<Batch, NoMemory>
     requires { rules ≡ rules_digest_of (book_view book.now) }
     ensures unmarked { IfOk result (λ batch. AreUnmarked batch.entries) }
-    ensures restarting { let b = book_view book.now in let h = R.how rebuilder.now in (K : SomeKept) (targets : List (List ℕ)) → BeginsWith K b begun.now (kept_view base.now) → chain.now ≡ chain_behind (keys_of (finishes_of finished.now)) (kept_view base.now).chain → IsBuilt h K b begun.now.marks (IsDoneRestarting h (begin K b begun.now.marks) b targets) finished.now → IfOk result (LeadsRestarting h K b targets) }
+    ensures restarting { let b = book_view book.now in let h = R.how rebuilder.now in (K : SomeKept) (targets : List (List ℕ)) → BeginsWith K b begun.now (kept_view base.now) → IsBuilt h K b begun.now.marks (IsDoneRestarting h (begin K b begun.now.marks) b targets) finished.now
+        → chain.now ≡ chain_behind (keys_of (finishes_of finished.now)) (kept_view base.now).chain → IfOk result (LeadsRestarting h K b targets) }
+    // The same for whatever else may be done, as lemmas go on from it.
+    ensures plans { let b = book_view book.now in let h = R.how rebuilder.now in (K : SomeKept) → BeginsWith K b begun.now (kept_view base.now) → IfOk result (PlansChained h K b begun.now.marks finished.now chain.now) }
 {
-    Err(NoMemory)
+    let mut batch = made(alloc, rebuilder, begun, base, rules, book, finished)?;
+    put_chain(alloc, &base.chain, chain, &mut batch)?;
+    Ok(batch)
+}
+
+// A chain is written whole, so it is written only where it differs.
+fn put_chain(alloc: Global, old: &Names, chain: &Names, batch: &mut Batch) -> Result<(), NoMemory>
+    ensures { OnOk result (PutsChain old.now chain.now batch.old batch.new) }
+{
+    if old.as_slice() == chain.as_slice() {
+        return Ok(());
+    }
+    batch.chain = Some(chain.copy(alloc)?);
+    Ok(())
 }
 
 fn made<R: Rebuilder>(

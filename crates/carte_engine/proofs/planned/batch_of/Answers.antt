@@ -8,7 +8,7 @@ returns-in-Some-clause-brings g c K begins =
     let h = g.R.Rebuilder.how c.args.rebuilder.now in
     let M = kept_view c.args.base.now in
     let b = book_view c.args.book.now in
-    chained_batch h K M b c.args.begun.now.marks c.args.work.now c.in-Some.chain c.plan_chained.result c.in-Some.is (λ targets. c.plan_chained.ensures.restarting K targets begins)
+    chained_batch h K M b c.args.begun.now.marks c.args.work.now c.in-Some.chain c.plan_chained.result c.in-Some.is (λ targets new built. c.plan_chained.ensures.restarting K targets begins built new)
 
 pub returns-in-None-clause-brings : goal.returns-in-None-clause-brings
 returns-in-None-clause-brings g c K begins =
