@@ -196,24 +196,20 @@ impl Journal {
         ensures any_moment { D.tells → (bodies : List BodyAt) (new : List (List ℕ)) → IsAtRest self.old bodies (D.story disk.old) → IsRegionOf region.now new
             → StepsThrough (IsReadAs self.old.limit) (Ends self.old.gate bodies) (step_to region.now new ∷ []) (D.story disk.old) (D.story disk.new) }
     {
-        let needed = region.end();
-        if needed > self.limit {
+        let end = region.end();
+        if end > self.limit {
             return Err(CommitFault::Full {
-                needed,
+                needed: end,
                 limit: self.limit,
             });
         }
-        match turn(disk, region) {
-            Ok(roots) => {
-                self.gate = needed - 1;
-                self.bank = Some(roots);
-                self.frames = region.frames();
-                Ok(())
-            }
-            Err(_) => {
-                self.broken = true;
-                Err(CommitFault::DiskFault)
-            }
-        }
+        let Ok(roots) = turn(disk, region) else {
+            self.broken = true;
+            return Err(CommitFault::DiskFault);
+        };
+        self.gate = end - 1;
+        self.bank = Some(roots);
+        self.frames = region.frames();
+        Ok(())
     }
 }
