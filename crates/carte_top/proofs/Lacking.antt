@@ -1,8 +1,7 @@
 -- Where a book is lacking, for an explanation or a session, or a state for a session; and a session over a book that was read.
-use Rattle.std.proofs.Common.{◌≡◌, ℕ, Err, refl, inl, inr, ◌⊎◌}
+use Rattle.std.proofs.Common.{◌≡◌, ℕ, Err, inl, inr}
 use Rattle.carte_book.specs.Book.{Book}
 use Rattle.carte_words.specs.declared.words.Words.{Words as Asked}
-use Rattle.carte_session.specs.declared.end.SessionEnd.{SessionEnd}
 use Rattle.carte_report.specs.declared.status.Status.{Status}
 use Rattle.carte_report.specs.declared.status.Status.TheVariants.{Done, BookRefused, Usage, BuildRefused, ReadFault, WriteFault, DiskFault, BadState, StateFull, NoMemory, ScriptTooLong}
 use Rattle.carte_top.specs.Around.{OverSource, OverDisk, OverSink, IsUnread, IsUnvisited, IsUntouched}

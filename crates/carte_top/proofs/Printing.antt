@@ -1,5 +1,5 @@
 -- A reply that is written behind what stands in front of it.
-use Rattle.std.proofs.Common.{◌≡◌, ℕ, suc, ◌+◌, ◌≤◌, List, [], ◌∷◌, ◌++◌, length, take, length-append, append_assoc, refl, ap, sym, ◌∙◌, subst, arith}
+use Rattle.std.proofs.Common.{◌≡◌, ℕ, suc, ◌+◌, List, [], ◌∷◌, ◌++◌, length, take, length-append, append_assoc, ap, sym, ◌∙◌, subst, arith}
 use Rattle.std.proofs.lemmas.List.{take-append-le}
 use Rattle.carte_io.specs.Causes.{Rose}
 use Rattle.carte_io.specs.Streams.{SinkState, TakesFront as TakesFrontOf}

@@ -1,5 +1,5 @@
 -- What a commit makes of a disk on which was found what is kept.
-use Rattle.std.proofs.Common.{◌≡◌, ℕ, ◌+◌, ◌≤◌, Bool, true, false, if◌then◌else◌, List, [], ◌∷◌, refl, sym, ◌∙◌, ap, subst, inl, inr, ◌⊎◌}
+use Rattle.std.proofs.Common.{◌≡◌, ℕ, ◌+◌, ◌≤◌, Bool, true, false, if◌then◌else◌, List, [], ◌∷◌, sym, ◌∙◌, ap, subst, inl, inr, ◌⊎◌}
 use Rattle.carte_io.specs.Disk.{CountsUp, IsSettled, LeavesOnly, Story, moments}
 use Rattle.carte_io.specs.Stations.{IsAtOneOf, Step, StepsThrough}
 use Rattle.carte_io.proofs.Acknowledged.{steps_leave}

@@ -1,7 +1,7 @@
 -- What a session has done, from its loop over a shell.
 use Rattle.std.proofs.Common.{◌≡◌, ℕ, ◌+◌, List, [], ◌∷◌, ◌++◌, length, Result, Ok, Err, refl, sym, ◌∙◌, ap, subst, inl, inr, ◌⊎◌, append_assoc, append-nil, arith}
 use Rattle.carte_io.specs.Causes.{HasCauseOf, Rose}
-use Rattle.carte_io.specs.Disk.{IsSettled, LeavesOnly, Story}
+use Rattle.carte_io.specs.Disk.{LeavesOnly, Story}
 use Rattle.carte_io.proofs.Images.{leaves_more, leaves_then}
 use Rattle.carte_book.specs.Book.{Book}
 use Rattle.carte_record.specs.Kept.{SomeKept}
@@ -23,9 +23,8 @@ use Rattle.carte_sound.specs.Base.{HasDistinctDigests}
 use Rattle.carte_sound.specs.Sound.{IsSound}
 use Rattle.carte_sound.proofs.Begins.{behind_sound, front_distinct}
 use Rattle.carte_state.specs.Folding.{Keeps}
-use Rattle.carte_state.specs.States.{IsKeptOn, IsLoaded, kept_in}
+use Rattle.carte_state.specs.States.{IsKeptOn, kept_in}
 use Rattle.carte_state.proofs.Folds.{keeps_one}
-use Rattle.carte_words.specs.Lines.{Means}
 use Rattle.carte_words.specs.declared.line.Line.{Line}
 use Rattle.carte_words.specs.declared.line.Line.TheVariants as meaning
 use Rattle.carte_words.specs.declared.words.Words.{Words as Asked}

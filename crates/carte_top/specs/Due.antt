@@ -17,7 +17,7 @@ use Rattle.carte_engine.specs.declared.answer.Answer.{Answer}
 use Rattle.carte_engine.specs.Answers.{IsPlan}
 use Rattle.carte_engine.specs.Schedulers.{IsServed, IsRefusedFor}
 use Rattle.carte_report.specs.declared.status.Status.{Status}
-use Rattle.carte_report.specs.declared.status.Status.TheVariants.{Done, BookRefused, Usage, BuildRefused, ReadFault, WriteFault, DiskFault, BadState, StateFull, NoMemory, ScriptTooLong}
+use Rattle.carte_report.specs.declared.status.Status.TheVariants.{Done, BookRefused, Usage, BuildRefused, ReadFault, WriteFault, DiskFault, BadState, StateFull, NoMemory}
 use Rattle.carte_top.specs.Around.{OverSource, OverDisk}
 use Rattle.carte_top.specs.Chosen.{scheduler_of, how_of, BookOfKind}
 use Rattle.carte_top.specs.Found.{FitsIn, IsNeeded, IsClearing, Makes, for_last}

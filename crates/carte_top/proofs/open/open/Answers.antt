@@ -1,4 +1,4 @@
-use Rattle.std.proofs.Common.{refl, sym, ap, subst, ◌∙◌}
+use Rattle.std.proofs.Common.{sym, ap, subst, ◌∙◌}
 use Rattle.carte_book.specs.Book.{book_view}
 use Rattle.carte_state.specs.States.{IsLoaded, Stand}
 use Rattle.carte_top.proofs.open.open.Goals as goal
