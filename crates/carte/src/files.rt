@@ -29,8 +29,8 @@ pub(crate) struct Files {
     pub(crate) state: Option<File>,
 }
 
-/// The files, opened. One that can't be opened as it has to be isn't there, and neither is the book of a `clean`. Where the
-/// words are no command none is there, and none was opened.
+/// The files, opened. One that can't be opened as it has to be isn't there, and neither is the book of a `clean` or a
+/// `generate`. Where the words are no command none is there, and none was opened.
 pub(crate) fn open(rt: &HostRuntime, words: &[Word]) -> Result<Files, NoMemory>
     ensures book { (fault : WordsFault) → words_of words.now ≡ Err fault → IfOk result (λ f. IsNone f.book) }
     ensures state { (fault : WordsFault) → words_of words.now ≡ Err fault → IfOk result (λ f. IsNone f.state) }
@@ -61,7 +61,7 @@ fn open_asked(rt: &HostRuntime, asked: &Words) -> Result<Files, NoMemory> {
             rt,
             asked.book.text(),
         ))?,
-        Command::Clean => None,
+        Command::Clean | Command::Generate => None,
     };
     let state = there(open_state(rt, asked.state.text(), asked.book.text()))?;
     Ok(Files { book, state })
