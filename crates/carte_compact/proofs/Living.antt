@@ -1,12 +1,10 @@
 -- The live information makes of nothing what is kept.
-use Rattle.std.proofs.Common.{◌≡◌, ℕ, Bool, true, false, ◌&&◌, ◌||◌, List, [], ◌∷◌, length, Option, Some, None, refl, ap, sym, ◌∙◌, inl, inr, arith}
-use Rattle.std.specs.Prelude.{◌==◌, find, is_none, option_map, unwrap_or}
-use Rattle.std.specs.Option.{option_or}
-use Rattle.carte_name.specs.Names.{name_eq}
+use Rattle.std.proofs.Common.{◌≡◌, ℕ, Bool, true, false, ◌&&◌, List, [], ◌∷◌, length, Option, Some, None, refl, ap, sym, ◌∙◌, inl, inr}
+use Rattle.std.specs.Prelude.{◌==◌, is_none, option_map, unwrap_or}
 use Rattle.carte_value.specs.declared.digest.Digest.{Digest}
 use Rattle.carte_value.specs.declared.link.Link.{Link}
 use Rattle.carte_value.specs.Truths.{Among, IsListOf}
-use Rattle.carte_table.specs.Lookups.{digest_in, first_link, first_value, is_link_of, link_in}
+use Rattle.carte_table.specs.Lookups.{digest_in, first_link, first_value, link_in}
 use Rattle.carte_table.proofs.Found.{or_none}
 use Rattle.carte_table.proofs.Names.{name_eq_is}
 use Rattle.carte_record.specs.declared.batch.Batch.{Batch}
@@ -23,7 +21,7 @@ use Rattle.carte_record.proofs.Looked.{find_passes}
 use Rattle.carte_record.proofs.Marks.{none_marked}
 use Rattle.carte_state.specs.Runs.{applied}
 use Rattle.carte_compact.specs.Laws.{LiveIsKept}
-use Rattle.carte_compact.specs.Live.{IsAllOf, IsLive, IsSomeLive, and_marks, chain_for, entry_at, found_at, has_no_keys, has_no_traces, is_bare, is_stale, keys_of, link_at, marks_of, names_of, stale_at, start_for}
+use Rattle.carte_compact.specs.Live.{IsAllOf, and_marks, chain_for, entry_at, found_at, has_no_keys, has_no_traces, is_bare, is_stale, keys_of, link_at, marks_of, names_of, stale_at, start_for}
 use Rattle.carte_compact.proofs.Bare.{both, no_items, nothing_there}
 use Rattle.carte_compact.proofs.Found.{among_let, each_found, unlisted}
 use Rattle.carte_compact.proofs.Repeats.{last_count}

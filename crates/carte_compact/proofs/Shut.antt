@@ -1,5 +1,5 @@
 -- The live information as bodies.
-use Rattle.std.proofs.Common.{◌≡◌, ℕ, ◌+◌, ◌<◌, ◌≤◌, ◌^◌, true, false, zero, suc, List, [], ◌∷◌, ◌++◌, length, get_or, Option, Some, None, refl, ap, sym, ◌∙◌, inl, inr, arith}
+use Rattle.std.proofs.Common.{◌≡◌, ℕ, ◌<◌, ◌≤◌, ◌^◌, false, zero, suc, List, [], ◌∷◌, ◌++◌, length, get_or, Option, Some, None, refl, inl, inr, arith}
 use Rattle.std.specs.Prelude.{option_map}
 use Rattle.carte_codec.specs.Each.{EachFits}
 use Rattle.carte_journal.specs.Frames.{BodyAt}
@@ -13,7 +13,7 @@ use Rattle.carte_record.specs.Lookups.{first_entry}
 use Rattle.carte_record.specs.Marked.{marked_as}
 use Rattle.carte_state.specs.Folding.{IsFolded}
 use Rattle.carte_state.specs.Runs.{AreUnmarked, applied}
-use Rattle.carte_compact.specs.Lengths.{AreBodies, AreShort, region_length}
+use Rattle.carte_compact.specs.Lengths.{AreBodies, AreShort}
 use Rattle.carte_compact.specs.Live.{IsLive, and_marks, entry_at, found_at, put, stale_at}
 
 -- ---- no entry of it is marked

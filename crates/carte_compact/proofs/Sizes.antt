@@ -1,27 +1,26 @@
 -- How long the live information is: it has one length, since names in order and what is found of them are one list.
-use Rattle.std.proofs.Common.{◌≡◌, ℕ, ◌+◌, true, false, List, [], ◌∷◌, ◌++◌, length, refl, ap, sym, ◌∙◌, subst, inl, inr, ◌⊎◌, arith, length-append}
-use Rattle.std.specs.declared.cmp.Ordering.{Ordering}
-use Rattle.std.specs.declared.cmp.Ordering.TheVariants.{Less, Equal, Greater}
+use Rattle.std.proofs.Common.{◌≡◌, ℕ, ◌+◌, true, false, List, [], ◌∷◌, ◌++◌, Option, Some, None, Ok, length, map, reverse, refl, ap, sym, ◌∙◌, subst, inl, inr, ◌⊎◌, arith, length-append}
+use Rattle.std.specs.declared.cmp.Ordering.TheVariants.{Less, Greater}
 use Rattle.std.specs.List.{AllByRecursion, flat_map, sum_by}
 use Rattle.std.specs.List.Sorted.{IsPermutation, IsStrictlySortedBy}
+use Rattle.std.specs.Option.{ok_or}
 use Rattle.std.specs.Ordering.{ordering_reverse}
+use Rattle.std.specs.Prelude.{IfOk, IfSome}
 use Rattle.std.proofs.lemmas.Cmp.{nat_list_cmp_total}
-use Rattle.std.proofs.lemmas.List.Concat.{length-flat_map}
-use Rattle.std.proofs.lemmas.List.Sorted.{sum_by-IsPermutation}
+use Rattle.std.proofs.lemmas.List.Concat.{flat_map-append, length-flat_map}
+use Rattle.std.proofs.lemmas.List.Sorted.{IsPermutation-refl, IsPermutation-reverse, sum_by-IsPermutation}
 use Rattle.carte_name.specs.Names.{name_cmp}
 use Rattle.carte_value.specs.Spelling.{spelling}
 use Rattle.carte_value.specs.Truths.{Among, IsListOf}
 use Rattle.carte_value.specs.declared.value.Value.{Value}
-use Rattle.carte_codec.specs.Parts.{spelled_count, spelled_list}
+use Rattle.carte_codec.specs.Parts.{spelled_count, spelled_link, spelled_list, spelled_option}
 use Rattle.carte_record.specs.declared.batch.Batch.{Batch}
 use Rattle.carte_record.specs.declared.kept.Kept.{Kept}
-use Rattle.carte_record.specs.Bodies.{spelled_back, spelled_batch, spelled_start}
-use Rattle.carte_compact.specs.Lengths.{region_length}
-use Rattle.carte_compact.specs.Live.{IsAllOf, IsLive, IsSomeLive, and_marks, keys_of, marks_of, names_of, stale_at}
-
-pub length_more : (Bs : List Batch) (B : Batch) → region_length (Bs ++ B ∷ []) ≡ region_length Bs + 5 + length (spelled_batch B)
-length_more [] B = omega arith
-length_more (C ∷ Cs) B = let rest = length_more Cs B in omega (arith, rest)
+use Rattle.carte_record.specs.declared.trace.Trace.{Trace}
+use Rattle.carte_record.specs.Bodies.{spelled_back, spelled_entry, spelled_front, spelled_names, spelled_start, spelled_trace}
+use Rattle.carte_compact.specs.Lengths.{back_size, front_size, region_length}
+use Rattle.carte_compact.specs.Live.{IsAllOf, IsLive, and_marks, found_at, is_bare, keys_of, names_of, put, stale_at}
+use Rattle.carte_compact.proofs.Found.{found_more}
 
 -- ---- names in order are one list
 
@@ -69,47 +68,68 @@ values_long all vs ws first second =
     λ us moved. length-flat_map spelling us ∙ sum_by-IsPermutation (λ u. length (spelling u)) all us moved
     in length-append (spelled_count (length vs)) (flat_map spelling vs) ∙ ap (λ n. 4 + n) (flat vs first ∙ sym (flat ws second)) ∙ sym (length-append (spelled_count (length ws)) (flat_map spelling ws))
 
-middle_long : (s v w r t : List ℕ) → length v ≡ length w → length (1 ∷ ((s ++ (v ++ r)) ++ t)) ≡ length (1 ∷ ((s ++ (w ++ r)) ++ t))
-middle_long s v w r t same =
-    omega (arith, same, length-append (s ++ (v ++ r)) t, length-append s (v ++ r), length-append v r, length-append (s ++ (w ++ r)) t, length-append s (w ++ r), length-append w r)
+-- ---- how it is added up
 
-with_values : (B : Batch) (vs ws : List Value) → length (spelled_list spelling vs) ≡ length (spelled_list spelling ws)
-    → length (spelled_batch (record B { values = vs })) ≡ length (spelled_batch (record B { values = ws }))
-with_values B vs ws same = middle_long (spelled_start B.start) (spelled_list spelling vs) (spelled_list spelling ws) _ (spelled_back B) same
+-- what is found of one name more
+pub found_longer : {A : Type 0} (spelled : A → List ℕ) (f : List ℕ → Option A) (ns : List (List ℕ)) (n : List ℕ)
+    → length (flat_map spelled (found_at f (ns ++ n ∷ []))) ≡ length (flat_map spelled (found_at f ns)) + length (flat_map spelled (put (f n) []))
+found_longer spelled f ns n =
+    ap (λ xs. length (flat_map spelled xs)) (found_more f ns n) ∙ ap length (flat_map-append spelled (found_at f ns) (put (f n) [])) ∙ length-append (flat_map spelled (found_at f ns)) (flat_map spelled (put (f n) []))
 
-batches_long : (K : Kept) (names keys : List (List ℕ)) (B C : Batch) → IsAllOf K names keys B → IsAllOf K names keys C → length (spelled_batch B) ≡ length (spelled_batch C)
-batches_long K names keys B C all all' =
-    ap (λ (D : Batch). length (spelled_batch D)) like ∙ with_values C B.values C.values (values_long K.values B.values C.values all.values.same all'.values.same)
+-- the last ones from the last on are as long
+pub last_long : (rs ts : List Trace) → rs ≡ reverse ts → length (spelled_list spelled_trace rs) ≡ length (spelled_list spelled_trace ts)
+last_long rs ts is =
+    length-append (spelled_count (length rs)) (flat_map spelled_trace rs)
+    ∙ ap (λ n. 4 + n) (length-flat_map spelled_trace rs ∙ ap (sum_by (λ t. length (spelled_trace t))) is ∙ sum_by-IsPermutation (λ t. length (spelled_trace t)) ts (reverse ts) (IsPermutation-reverse ts) ∙ sym (length-flat_map spelled_trace ts))
+    ∙ sym (length-append (spelled_count (length ts)) (flat_map spelled_trace ts))
+
+back_long : (K : Kept) (names keys : List (List ℕ)) (B : Batch) → IsAllOf K names keys B → back_size K ≡ length (spelled_back B)
+back_long K names keys B all =
+    let vs = length-append (spelled_list spelled_trace B.verifying) (spelled_list spelled_trace B.constructive ++ (spelled_list spelled_trace B.deep ++ spelled_option spelled_names B.chain)) in
+    let cs = length-append (spelled_list spelled_trace B.constructive) (spelled_list spelled_trace B.deep ++ spelled_option spelled_names B.chain) in
+    let ds = length-append (spelled_list spelled_trace B.deep) (spelled_option spelled_names B.chain) in
+    rw (← all.verifying, ← all.constructive, ← all.deep, ← all.chain) (omega (arith, vs, cs, ds))
+
+front_long : (K : Kept) (names keys : List (List ℕ)) (B : Batch) → IsAllOf K names keys B → front_size K names keys ≡ length (spelled_front B)
+front_long K names keys B all =
+    let rest = spelled_list spelled_link B.seen ++ (spelled_names B.stale ++ spelled_list spelled_entry B.entries) in
+    let start = length-append (spelled_start B.start) (spelled_list spelling B.values ++ rest) in
+    let values = length-append (spelled_list spelling B.values) rest in
+    let seen = length-append (spelled_list spelled_link B.seen) (spelled_names B.stale ++ spelled_list spelled_entry B.entries) in
+    let stale = length-append (spelled_names B.stale) (spelled_list spelled_entry B.entries) in
+    let links = length-append (spelled_count (length B.seen)) (flat_map spelled_link B.seen) in
+    let entries = length-append (spelled_count (length B.entries)) (flat_map spelled_entry B.entries) in
+    let same = values_long K.values B.values K.values all.values.same (IsPermutation-refl K.values) in
+    let none : length (spelled_names B.stale) ≡ 4 = ap (λ ks. length (spelled_names ks)) all.stale in
+    rw (← all.start, ← all.seen, ← all.entries, ← same) (omega (arith, start, values, seen, stale, links, entries, none))
+
+-- what is spelled of items that stand elsewhere
+pub refs_long : {A R : Type 0} (spelled : A → List ℕ) (now : R → A) (rs : List R) → length (spelled_list (λ r. spelled (now r)) rs) ≡ length (spelled_list spelled (map now rs))
+refs_long spelled now rs =
+    length-append (spelled_count (length rs)) (flat_map (λ r. spelled (now r)) rs) ∙ ap (λ xs. 4 + length xs) (flat rs) ∙ sym (length-append (spelled_count (length (map now rs))) (flat_map spelled (map now rs)))
   where
-    like : B ≡ record C { values = B.values }
-    like i = record {
-      start = (all.start ∙ sym all'.start) i;
-      values = B.values;
-      seen = (all.seen ∙ sym all'.seen) i;
-      stale = (all.stale ∙ sym all'.stale) i;
-      entries = (all.entries ∙ sym all'.entries) i;
-      verifying = (all.verifying ∙ sym all'.verifying) i;
-      constructive = (all.constructive ∙ sym all'.constructive) i;
-      deep = (all.deep ∙ sym all'.deep) i;
-      chain = (all.chain ∙ sym all'.chain) i;
-    }
+    flat : (us : List _) → flat_map (λ r. spelled (now r)) us ≡ flat_map spelled (map now us)
+    flat [] = refl
+    flat (u ∷ us) = ap (λ xs. spelled (now u) ++ xs) (flat us)
 
--- ---- all of it
+-- a number that is there
+pub if_there : {E : Type 0} (o : Option ℕ) (e : E) (P Q : ℕ → Type 0) → ((n : ℕ) → P n → Q n) → IfSome o P → IfOk (ok_or o e) Q
+if_there (Some n) e P Q f is = f n is
+if_there None e P Q f is = tt
 
-marks_long : (B C : Batch) (ks : List (List ℕ)) → length (spelled_batch B) ≡ length (spelled_batch C) → region_length (and_marks B ks) ≡ region_length (and_marks C ks)
-marks_long B C [] same = ap (λ n. 5 + n + 1) same
-marks_long B C (k ∷ ks) same = ap (λ n. 5 + n + region_length (marks_of (k ∷ ks) ∷ [])) same
+abbrev pub AddsUp : List (List ℕ) → ℕ → ℕ → ℕ → Type 0
+AddsUp stale front back n = (B : Batch) → front ≡ length (spelled_front B) → back ≡ length (spelled_back B) → n ≡ region_length (and_marks B stale)
 
-some_long : (K : Kept) (Bs Cs : List Batch) → IsSomeLive K Bs → IsSomeLive K Cs → region_length Bs ≡ region_length Cs
-some_long K Bs Cs live live' =
-    let names = one_list (Among (names_of K.seen)) live'.names live.names live'.seen live.seen in
-    let keys = one_list (Among (keys_of K.entries)) live'.keys live.keys live'.listed live.listed in
-    let all : IsAllOf K live.names live.keys live'.first = subst (λ ks. IsAllOf K live.names ks live'.first) keys (subst (λ ns. IsAllOf K ns live'.keys live'.first) names live'.all) in
-    ap region_length live.batches ∙ marks_long live.first live'.first (stale_at K.entries live.keys) (batches_long K live.names live.keys live.first live'.first live.all all)
-    ∙ ap (λ ks. region_length (and_marks live'.first (stale_at K.entries ks))) (sym keys) ∙ sym (ap region_length live'.batches)
+pub in_all : (K : Kept) (names keys stale : List (List ℕ)) (front back n : ℕ) → is_bare K ≡ false → IsListOf (Among (names_of K.seen)) names → IsListOf (Among (keys_of K.entries)) keys
+    → stale ≡ stale_at K.entries keys → front ≡ front_size K names keys → back ≡ back_size K → AddsUp stale front back n → (Bs : List Batch) → IsLive K Bs → n ≡ region_length Bs
+in_all K names keys stale front back n some seen listed marks front_is back_is adds Bs (inl (bare, none)) = let clash : true ≡ false = sym bare ∙ some in cc
+in_all K names keys stale front back n some seen listed marks front_is back_is adds Bs (inr (some', live)) =
+    let same_names = one_list (Among (names_of K.seen)) names live.names seen live.seen in
+    let same_keys = one_list (Among (keys_of K.entries)) keys live.keys listed live.listed in
+    let front_so = front_is ∙ ap (λ ns. front_size K ns keys) same_names ∙ ap (front_size K live.names) same_keys ∙ front_long K live.names live.keys live.first live.all in
+    let back_so = back_is ∙ back_long K live.names live.keys live.first live.all in
+    adds live.first front_so back_so ∙ ap (λ ks. region_length (and_marks live.first ks)) (marks ∙ ap (stale_at K.entries) same_keys) ∙ sym (ap region_length live.batches)
 
-pub one_length : (K : Kept) (Bs Cs : List Batch) → IsLive K Bs → IsLive K Cs → region_length Bs ≡ region_length Cs
-one_length K Bs Cs (inl (bare, none)) (inl (bare', none')) = ap region_length (none ∙ sym none')
-one_length K Bs Cs (inl (bare, none)) (inr (some, live)) = let clash : true ≡ false = sym bare ∙ some in cc
-one_length K Bs Cs (inr (some, live)) (inl (bare, none)) = let clash : true ≡ false = sym bare ∙ some in cc
-one_length K Bs Cs (inr (some, live)) (inr (some', live')) = some_long K Bs Cs live live'
+pub from_ok : {E : Type 0} (o : Option ℕ) (e : E) (P : ℕ → Type 0) (n : ℕ) → IfSome o P → ok_or o e ≡ Ok n → P n
+from_ok (Some m) e P n is so = let same : m ≡ n = cc in subst P same is
+from_ok None e P n is so = cc

@@ -11,7 +11,7 @@ use Rattle.carte_name.specs.Names.{name_cmp, name_eq}
 use Rattle.carte_value.specs.declared.digest.Digest.{Digest}
 use Rattle.carte_value.specs.declared.value.Value.{Value}
 use Rattle.carte_value.specs.Spelling.{digest_of}
-use Rattle.carte_table.specs.Lookups.{digest_eq, first_value, is_value_of}
+use Rattle.carte_table.specs.Lookups.{first_value, is_value_of}
 use Rattle.carte_record.proofs.Looked.{digest_eq_is, find_passes}
 use Rattle.carte_compact.specs.Live.{IsByDigest, order_of}
 

@@ -35,7 +35,8 @@ fn some_live(alloc: Global, kept: &Kept) -> Result<Vec<Batch>, NoMemory>
     and_marks(alloc, first, stale, kept.hasher())
 }
 
-fn is_bare(kept: &Kept) -> bool
+/// Whether nothing is kept, and no rules.
+pub(crate) fn is_bare(kept: &Kept) -> bool
     ensures { result ≡ is_bare kept.now }
 {
     kept.rules.is_none() && has_no_keys(kept) && has_no_traces(kept)
@@ -74,7 +75,8 @@ fn all_of(alloc: Global, kept: &Kept, names: &[Name], keys: &[Name]) -> Result<B
     })
 }
 
-fn start_for(rules: Option<Digest>) -> Start
+/// What the first batch begins with.
+pub(crate) fn start_for(rules: Option<Digest>) -> Start
     ensures { result ≡ start_for rules }
 {
     match rules {

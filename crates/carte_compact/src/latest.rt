@@ -17,8 +17,8 @@ pub(crate) fn last_ones(alloc: Global, traces: &Traces, hasher: Seeded) -> Resul
     copied(alloc, &last, hasher)
 }
 
-// The same from the last one on.
-fn last_first<'a>(
+/// The same from the last one on.
+pub(crate) fn last_first<'a>(
     alloc: Global,
     traces: &'a [Trace],
     hasher: Seeded,

@@ -1,59 +1,138 @@
 // How many bytes the live information takes.
-ghost use Rattle.std.specs.Prelude.{◌≡◌, ◌+◌, ℕ, List, length, IfOk, IfSome};
-ghost use Rattle.carte_record.specs.Bodies.{spelled_back, spelled_batch, spelled_front};
+ghost use Rattle.std.specs.Prelude.{◌≡◌, ◌+◌, List, [], length, IfOk, IfSome};
+ghost use Rattle.std.specs.List.{flat_map};
+ghost use Rattle.carte_codec.specs.Parts.{spelled_link, spelled_list, spelled_option};
+ghost use Rattle.carte_record.specs.Bodies.{spelled_back, spelled_entry, spelled_front, spelled_names, spelled_trace};
 ghost use Rattle.carte_record.specs.declared.batch.Batch.{Batch as SomeBatch};
-ghost use Rattle.carte_compact.specs.Lengths.{region_length};
-ghost use Rattle.carte_compact.specs.Live.{IsLive};
+ghost use Rattle.carte_compact.specs.Latest.{last_ones};
+ghost use Rattle.carte_compact.specs.Lengths.{back_size, front_size, region_length};
+ghost use Rattle.carte_compact.specs.Live.{IsLive, and_marks, chain_for, entry_at, found_at, link_at, put};
 
-use crate::batches::live;
+use crate::batches::{is_bare, start_for};
+use crate::entries::stale_at;
+use crate::latest::last_first;
 use crate::measured::{Measured, list_length};
-use carte_record::{Batch, Kept};
-use carte_value::NoMemory;
+use crate::names::{entry_keys, seen_names};
+use carte_record::{Entries, Kept, Seen, Traces};
+use carte_value::{Name, Names, NoMemory, Seeded};
 use std::alloc::Global;
 
+/// The bytes of a batch that only marks, beside those of the marks: its kind, its start, six numbers of items, and that it
+/// has no chain.
+const BESIDE_MARKS: u64 = 27;
+
 /// The number of bytes of the live information as it is written behind roots: each body in its frame, and the gate byte
-/// behind the last. It is worked out over all that is kept. There is no memory either where the number doesn't fit 64 bits.
+/// behind the last. It is worked out over all that is kept, without a copy of it. There is no memory either where the
+/// number doesn't fit 64 bits.
 pub fn live_length(alloc: Global, kept: &Kept) -> Result<u64, NoMemory>
     ensures { IfOk result (λ n. (Bs : List SomeBatch) → IsLive kept.now Bs → n ≡ region_length Bs) }
 {
-    let batches = live(alloc, kept)?;
-    region_length(batches.as_slice()).ok_or(NoMemory)
+    if is_bare(kept) {
+        return Ok(1);
+    }
+    let names = seen_names(alloc, &kept.seen)?;
+    let keys = entry_keys(alloc, &kept.entries)?;
+    let stale = stale_at(alloc, &kept.entries, keys.as_slice())?;
+    let back = back_length(alloc, kept)?;
+    let front = front_length(kept, names.as_slice(), keys.as_slice()).ok_or(NoMemory)?;
+    region_length(front, back, &stale).ok_or(NoMemory)
 }
 
-fn region_length(batches: &[Batch]) -> Option<u64>
-    ensures { IfSome result (λ n. n ≡ region_length batches.now) }
+// The region of a batch of which the front and the back are so long, and of these marks.
+fn region_length(front: u64, back: u64, stale: &Names) -> Option<u64>
+    ensures { IfSome result (λ n. (B : SomeBatch) → front ≡ length (spelled_front B) → back ≡ length (spelled_back B) → n ≡ region_length (and_marks B stale.now)) }
 {
-    let mut sum = 1u64;
-    for batch in batches {
-        sum = sum.checked_add(5)?.checked_add(batch_length(batch)?)?;
+    let first = front.checked_add(back)?.checked_add(7)?;
+    if stale.is_empty() {
+        return Some(first);
+    }
+    let marks = stale.length()?.checked_add(BESIDE_MARKS)?;
+    first.checked_add(marks)?.checked_add(5)
+}
+
+fn front_length(kept: &Kept, names: &[Name], keys: &[Name]) -> Option<u64>
+    ensures { IfSome result (λ n. n ≡ front_size kept.now names.now keys.now) }
+{
+    start_for(kept.rules)
+        .length()?
+        .checked_add(list_length(kept.values.as_slice())?)?
+        .checked_add(links_length(&kept.seen, names)?)?
+        .checked_add(entries_length(&kept.entries, keys)?)?
+        .checked_add(12)
+}
+
+fn back_length(alloc: Global, kept: &Kept) -> Result<u64, NoMemory>
+    ensures { IfOk result (λ n. n ≡ back_size kept.now) }
+{
+    let hasher = kept.hasher();
+    let verifying = traces_length(alloc, &kept.verifying, hasher)?;
+    let constructive = traces_length(alloc, &kept.constructive, hasher)?;
+    let deep = traces_length(alloc, &kept.deep, hasher)?;
+    sum_of(verifying, constructive, deep, &kept.chain).ok_or(NoMemory)
+}
+
+fn sum_of(verifying: u64, constructive: u64, deep: u64, chain: &Names) -> Option<u64>
+    ensures { IfSome result (λ n. n ≡ verifying + constructive + deep + length (spelled_option spelled_names (chain_for chain.now))) }
+{
+    verifying
+        .checked_add(constructive)?
+        .checked_add(deep)?
+        .checked_add(chain_length(chain)?)
+}
+
+fn chain_length(chain: &Names) -> Option<u64>
+    ensures { IfSome result (λ n. n ≡ length (spelled_option spelled_names (chain_for chain.now))) }
+{
+    if chain.is_empty() {
+        return Some(1);
+    }
+    chain.length()?.checked_add(1)
+}
+
+// The traces behind which no equal one comes, with their number.
+fn traces_length(alloc: Global, traces: &Traces, hasher: Seeded) -> Result<u64, NoMemory>
+    ensures { IfOk result (λ n. n ≡ length (spelled_list spelled_trace (last_ones traces.now))) }
+{
+    let last = last_first(alloc, traces.as_slice(), hasher)?;
+    list_length(last.as_slice()).ok_or(NoMemory)
+}
+
+// The first links of these names, without their number.
+fn links_length(seen: &Seen, names: &[Name]) -> Option<u64>
+    ensures { IfSome result (λ n. n ≡ length (flat_map spelled_link (found_at (link_at seen.now) names.now))) }
+{
+    let mut sum = 0u64;
+    for name in names {
+        sum = sum.checked_add(link_length(seen, name)?)?;
     }
     Some(sum)
 }
 
-fn batch_length(batch: &Batch) -> Option<u64>
-    ensures { IfSome result (λ n. n ≡ length (spelled_batch batch.now)) }
+fn link_length(seen: &Seen, name: &Name) -> Option<u64>
+    ensures { IfSome result (λ n. n ≡ length (flat_map spelled_link (put (link_at seen.now name.now) []))) }
 {
-    1u64.checked_add(front_length(batch)?)?
-        .checked_add(back_length(batch)?)
+    match seen.find(name) {
+        Some(digest) => name.length()?.checked_add(digest.length()?),
+        None => Some(0),
+    }
 }
 
-fn front_length(batch: &Batch) -> Option<u64>
-    ensures { IfSome result (λ n. n ≡ length (spelled_front batch.now)) }
+// The first entries of these keys, without their number.
+fn entries_length(entries: &Entries, keys: &[Name]) -> Option<u64>
+    ensures { IfSome result (λ n. n ≡ length (flat_map spelled_entry (found_at (entry_at entries.now) keys.now))) }
 {
-    batch
-        .start
-        .length()?
-        .checked_add(list_length(batch.values.as_slice())?)?
-        .checked_add(list_length(batch.seen.as_slice())?)?
-        .checked_add(list_length(batch.stale.as_slice())?)?
-        .checked_add(list_length(batch.entries.as_slice())?)
+    let mut sum = 0u64;
+    for key in keys {
+        sum = sum.checked_add(entry_length(entries, key)?)?;
+    }
+    Some(sum)
 }
 
-fn back_length(batch: &Batch) -> Option<u64>
-    ensures { IfSome result (λ n. n ≡ length (spelled_back batch.now)) }
+fn entry_length(entries: &Entries, key: &Name) -> Option<u64>
+    ensures { IfSome result (λ n. n ≡ length (flat_map spelled_entry (put (entry_at entries.now key.now) []))) }
 {
-    list_length(batch.verifying.as_slice())?
-        .checked_add(list_length(batch.constructive.as_slice())?)?
-        .checked_add(list_length(batch.deep.as_slice())?)?
-        .checked_add(batch.chain.length()?)
+    match entries.find(key) {
+        Some(entry) => entry.length(),
+        None => Some(0),
+    }
 }

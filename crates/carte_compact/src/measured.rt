@@ -2,7 +2,7 @@
 ghost use Rattle.std.specs.Prelude.{◌≡◌, ℕ, List, length, IfSome};
 ghost use Rattle.std.specs.List.{flat_map};
 ghost use Rattle.carte_value.specs.Spelling.{spelling};
-ghost use Rattle.carte_codec.specs.Parts.{spelled_digest, spelled_link, spelled_list, spelled_name, spelled_option};
+ghost use Rattle.carte_codec.specs.Parts.{spelled_digest, spelled_link, spelled_list, spelled_name};
 ghost use Rattle.carte_record.specs.Bodies.{spelled_entry, spelled_names, spelled_start, spelled_trace};
 
 use carte_record::{Entry, Start, Trace};
@@ -31,6 +31,14 @@ fn total<T: Measured>(items: &[T]) -> Option<u64>
         sum = sum.checked_add(item.length()?)?;
     }
     Some(sum)
+}
+
+impl<T: Measured> Measured for &T {
+    ghost spelled = { λ item. T.spelled item.now };
+
+    fn length(&self) -> Option<u64> {
+        T::length(*self)
+    }
 }
 
 impl Measured for Name {
@@ -62,17 +70,6 @@ impl Measured for Names {
 
     fn length(&self) -> Option<u64> {
         list_length(self.as_slice())
-    }
-}
-
-impl Measured for Option<Names> {
-    ghost spelled = { spelled_option spelled_names };
-
-    fn length(&self) -> Option<u64> {
-        match self {
-            None => Some(1),
-            Some(names) => names.length()?.checked_add(1),
-        }
     }
 }
 

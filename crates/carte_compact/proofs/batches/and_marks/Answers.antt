@@ -1,7 +1,6 @@
-use Rattle.std.proofs.Common.{◌≡◌, List, ℕ, [], ◌∷◌, ◌++◌, length, ap, sym, ◌∙◌, rules}
+use Rattle.std.proofs.Common.{◌≡◌, List, ℕ, [], ◌∷◌, ◌++◌, length, ap, sym, ◌∙◌}
 use Rattle.std.specs.Prelude.{◌==◌, true, false}
 use Rattle.carte_record.specs.declared.batch.Batch.{Batch}
-use Rattle.carte_compact.specs.Live.{marks_of}
 use Rattle.carte_compact.proofs.Bare.{no_items, no_marks, some_marks}
 use Rattle.carte_compact.proofs.batches.and_marks.Goals as goal
 

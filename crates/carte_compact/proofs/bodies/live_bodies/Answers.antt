@@ -1,8 +1,7 @@
-use Rattle.std.proofs.Common.{◌≡◌, ◌<◌, ◌≤◌, ◌^◌, length, ap, sym, ◌∙◌, subst, arith}
+use Rattle.std.proofs.Common.{length, ap, subst, arith}
 use Rattle.std.proofs.lemmas.Result.{IfOk-weaker}
 use Rattle.carte_record.specs.Kept.{nothing_kept}
 use Rattle.carte_state.specs.Folding.{IsFolded}
-use Rattle.carte_state.specs.Runs.{AreUnmarked}
 use Rattle.carte_compact.proofs.Shut.{are_few, folded}
 use Rattle.carte_compact.specs.Lengths.{AreBodies}
 use Rattle.carte_compact.proofs.bodies.live_bodies.Goals as goal

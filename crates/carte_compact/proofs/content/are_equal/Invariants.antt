@@ -1,4 +1,4 @@
-use Rattle.std.proofs.Common.{◌≡◌, ◌≤◌, drop, length}
+use Rattle.std.proofs.Common.{◌≡◌, drop, length}
 use Rattle.carte_record.specs.Lookups.{links_eq}
 use Rattle.carte_compact.proofs.content.are_equal.Given as goal
 
