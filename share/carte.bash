@@ -19,7 +19,7 @@ _carte() {
     esac
   done
   case $place in
-    0) COMPREPLY=($(compgen -W "build explain session clean" -- "$word")) ;;
+    0) COMPREPLY=($(compgen -W "build explain session clean generate" -- "$word")) ;;
     1 | 2) compopt -o filenames 2>/dev/null; local IFS=$'\n'; COMPREPLY=($(compgen -f -- "$word")) ;;
   esac
   return 0

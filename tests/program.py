@@ -26,6 +26,10 @@ from engine import Kept, build
 from reference import read_book
 
 TOP = pathlib.Path(__file__).resolve().parent.parent
+sys.path.insert(0, str(TOP / "bench"))
+
+from generated import generated as rule_file  # noqa: E402
+
 SUMS = '[inputs]\na = 10\nb = 20\n[rules]\nsum = "a + b"\ntotal = "sum + sum"\n'
 TOTAL = (0, "total = 60\nran 2, given up 0, reused 0\n", "")
 AGAIN = (0, "total = 60\nran 0, given up 0, reused 2\n", "")
@@ -91,18 +95,42 @@ def builds(runs):
     runs.wants((0, "A9999 = 9999\nran 0, given up 0, reused 9999\n", ""), "build", "column.csv", "column.state", "A9999")
 
 
+def generated(runs):
+    """Generated books, with values and counts that weren't taken from the program; and the same books as rule files. BOOK isn't read."""
+    cases = [(1, 2, 1, 0, 1), (1, 1_000, 100, 242, 483), (1, 20_000, 2_000, 6, 10_386), (7, 20_000, 2_000, 153, 10_598), (7, 65_536, 6_553, 65, 34_449)]
+    for seed, count, inputs, value, ran in cases:
+        state = f"made.{seed}.{count}"
+        words = ("generate", "folder", state, str(seed), str(count))
+        last = f"k{count - 1} = {value}\n"
+        front = f"keys {count}, inputs {inputs}\n{last}"
+        runs.wants((0, f"{front}ran {ran}, given up 0, reused 0\n", ""), *words)
+        runs.wants((0, f"{front}ran 0, given up 0, reused {ran}\n", ""), *words)
+        runs.put("made.toml", rule_file(seed, count))
+        runs.wants((0, f"{last}ran 0, given up 0, reused {ran}\n", ""), "build", "made.toml", state, f"k{count - 1}")
+    front = "keys 1000, inputs 100\nk999 = 242\n"
+    for scheduler in histories.SCHEDULERS:
+        for rebuilder in histories.REBUILDERS:
+            words = ("generate", "none", f"made.{scheduler}.{rebuilder}", "1", "1000", "--scheduler", scheduler, "--rebuilder", rebuilder)
+            runs.wants((0, front + "ran 483, given up 0, reused 0\n", ""), *words)
+    runs.wants(DEVICE, "generate", "none", "folder", "1", "2")
+    with open("/dev/full", "w") as full:
+        runs.wants((5, "", ""), "generate", "none", "unheard", "1", "2", stdout=full)
+    runs.wants((0, "keys 2, inputs 1\nk1 = 0\nran 0, given up 0, reused 1\n", ""), "generate", "none", "unheard", "1", "2")
+
+
 def words(runs):
     """Words that are no command: no file is made."""
     runs.wants(NO_COMMAND)
     runs.wants(NO_COMMAND, "build", "sums.toml")
     runs.wants(NO_COMMAND, "build", b"sums\xff.toml", "unmade", "total")
     runs.wants(NO_COMMAND, "build", "sums.toml", "unmade", b"\xc3")
-    runs.wants(NO_COMMAND, "generate", "sums.toml", "unmade", "1", "2")
     runs.wants(NO_COMMAND, "build", "sums.toml", "unmade", "total", "--workers=2")
     runs.wants((2, "", "carte: usage: no target\n"), "build", "sums.toml", "unmade")
     runs.wants((2, "", "carte: usage: no target\n"), "explain", "sums.toml", "unmade")
     for command in ("clean", "session"):
         runs.wants((2, "", "carte: usage: targets not taken\n"), command, "sums.toml", "unmade", "total")
+    for numbers in (("1",), ("1", "1"), ("1", "65537"), ("-1", "2"), ("1", "+2"), ("1", "2", "3")):
+        runs.wants((2, "", "carte: usage: generate takes a seed and a count\n"), "generate", "sums.toml", "unmade", "--", *numbers)
     runs.wants((2, "", 'carte: usage: bad target "A1"\n'), "build", "sums.toml", "unmade", "A1")
     runs.same("a state of no command", (runs.folder / "unmade").exists(), False)
 
@@ -259,7 +287,7 @@ def main():
     said.add_argument("--seed", default="1")
     said = said.parse_args()
     parts = [
-        ("builds", builds), ("words", words), ("files", files), ("one file", one_file), ("streams", streams),
+        ("builds", builds), ("generated", generated), ("words", words), ("files", files), ("one file", one_file), ("streams", streams),
         ("full disks", full_disks), ("kills", lambda runs: killed(runs, said.kills, said.seed)),
         ("histories", lambda runs: random_histories(runs, said.histories, said.seed)),
     ]
@@ -272,7 +300,7 @@ def main():
             (pathlib.Path(folder) / "run").mkdir()
             runs = Runs(program, pathlib.Path(folder) / "run")
             runs.put("sums.toml", SUMS)
-            (runs.folder / "folder").mkdir() if name == "streams" else None
+            (runs.folder / "folder").mkdir() if name in ("streams", "generated") else None
             part(runs)
             print(f"{name}: {runs.passed} passed, {runs.failed} failed", flush=True)
             failed += runs.failed
