@@ -8,3 +8,5 @@ pub mod Bare
 pub mod Living
 pub mod Shut
 pub mod Sizes
+pub mod Ranks
+pub mod Alike

@@ -1,5 +1,5 @@
 -- The live information as bodies.
-use Rattle.std.proofs.Common.{◌≡◌, ℕ, ◌<◌, ◌≤◌, ◌^◌, false, zero, suc, List, [], ◌∷◌, ◌++◌, length, get_or, Option, Some, None, refl, inl, inr, arith}
+use Rattle.std.proofs.Common.{ap, ◌≡◌, ℕ, ◌<◌, ◌≤◌, ◌^◌, false, zero, suc, List, [], ◌∷◌, ◌++◌, length, get_or, Option, Some, None, refl, inl, inr, arith}
 use Rattle.std.specs.Prelude.{option_map}
 use Rattle.carte_codec.specs.Each.{EachFits}
 use Rattle.carte_journal.specs.Frames.{BodyAt}
@@ -13,7 +13,7 @@ use Rattle.carte_record.specs.Lookups.{first_entry}
 use Rattle.carte_record.specs.Marked.{marked_as}
 use Rattle.carte_state.specs.Folding.{IsFolded}
 use Rattle.carte_state.specs.Runs.{AreUnmarked, applied}
-use Rattle.carte_compact.specs.Lengths.{AreBodies, AreShort}
+use Rattle.carte_compact.specs.Lengths.{AreBodies, AreShort, bodies_length, region_length}
 use Rattle.carte_compact.specs.Live.{IsLive, and_marks, entry_at, found_at, put, stale_at}
 
 -- ---- no entry of it is marked
@@ -66,3 +66,9 @@ folded K [] [] are = refl
 folded K [] (c ∷ cs) are = absurd are
 folded K (B ∷ Bs) [] are = absurd are
 folded K (B ∷ Bs) (c ∷ cs) are = (B, are.0, folded (apply B K) Bs cs are.1)
+
+pub as_long : (Bs : List Batch) (bodies : List BodyAt) → AreBodies Bs bodies → bodies_length bodies ≡ region_length Bs
+as_long [] [] are = refl
+as_long [] (c ∷ cs) are = absurd are
+as_long (B ∷ Bs) [] are = absurd are
+as_long (B ∷ Bs) (c ∷ cs) are = let one = ap length are.0.bytes in let rest = as_long Bs cs are.1 in omega (arith, one, rest)

@@ -57,7 +57,7 @@ same_names (k ∷ ks) (j ∷ js) rising rising' into back =
     (λ q there. behind j q js ks rising'.0 there (subst (λ i. (q ≡ i) ⊎ Among ks q) same (back q (inr there))))
     in ap (λ i. i ∷ ks) same ∙ ap (λ is. j ∷ is) rest
 
-one_list : (P : List ℕ → Type 0) (ks js : List (List ℕ)) → IsListOf P ks → IsListOf P js → ks ≡ js
+pub one_list : (P : List ℕ → Type 0) (ks js : List (List ℕ)) → IsListOf P ks → IsListOf P js → ks ≡ js
 one_list P ks js listed listed' = same_names ks js listed.rising listed'.rising (λ q there. listed'.each q (listed.only q there)) (λ q there. listed.each q (listed'.only q there))
 
 -- ---- values in another order take as many bytes

@@ -27,7 +27,7 @@ found_front {A = A} p (x ∷ xs) = on (p x) (found_front p xs)
     on true rest = refl
     on false rest = rest
 
-abbrev below : Value → Value → Bool
+abbrev pub below : Value → Value → Bool
 below v w = is_lt (name_cmp (order_of v) (order_of w))
 
 -- what ties are the same digests
@@ -40,7 +40,7 @@ tie k j = ap (λ o. not (is_lt (name_cmp k j)) && not (is_lt o)) (nat_list_cmp_t
     on Greater = refl
 
 module _ (all listed : List Value) (by : IsByDigest all listed) where
-  of_one : (v : Value) → filter (is_value_of (digest_of v)) listed ≡ filter (is_value_of (digest_of v)) all
+  pub of_one : (v : Value) → filter (is_value_of (digest_of v)) listed ≡ filter (is_value_of (digest_of v)) all
   of_one v =
       let same : ties below v ≡ is_value_of (digest_of v) = λ i w. tie (order_of v) (order_of w) i in
       subst (λ p. filter p listed ≡ filter p all) same (by.stable v)

@@ -9,3 +9,7 @@ use Rattle.carte_compact.specs.Live.{IsLive}
 -- of nothing it makes what is kept
 abbrev pub LiveIsKept : Type 0
 LiveIsKept = (K : Kept) (Bs : List Batch) → IsLive K Bs → applied nothing_kept Bs ≡ kept_view K
+
+-- there is one
+abbrev pub OneLive : Type 0
+OneLive = (K : Kept) (Bs Cs : List Batch) → IsLive K Bs → IsLive K Cs → Bs ≡ Cs

@@ -32,6 +32,11 @@ AreBodies [] [] = Unit {0}
 AreBodies (B ∷ Bs) (body ∷ bodies) = IsBody B body.1 × AreBodies Bs bodies
 AreBodies Bs bodies = ⊥
 
+-- how many bytes such a region of bodies has
+abbrev pub bodies_length : List BodyAt → ℕ
+bodies_length [] = 1
+bodies_length (body ∷ bodies) = 5 + length body.1 + bodies_length bodies
+
 -- each has fewer bytes than a frame can state
 abbrev pub AreShort : List BodyAt → Type 0
 AreShort [] = Unit {0}

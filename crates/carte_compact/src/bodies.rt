@@ -6,7 +6,7 @@ ghost use Rattle.carte_record.specs.Kept.{kept_view, nothing_kept};
 ghost use Rattle.carte_record.specs.declared.batch.Batch.{Batch as SomeBatch};
 ghost use Rattle.carte_state.specs.Folding.{IsFolded};
 ghost use Rattle.carte_state.specs.Runs.{AreUnmarked};
-ghost use Rattle.carte_compact.specs.Lengths.{AreBodies, AreShort};
+ghost use Rattle.carte_compact.specs.Lengths.{AreBodies, AreShort, bodies_length, region_length};
 ghost use Rattle.carte_compact.specs.Live.{IsLive};
 
 use crate::batches::live;
@@ -23,6 +23,7 @@ const LONGEST: usize = 4294967295;
 pub fn live_bodies(alloc: Global, kept: &Kept) -> Result<Bodies, NoMemory>
     ensures live { IfOk result (λ bodies. (Bs : List SomeBatch) × IsLive kept.now Bs × AreBodies Bs bodies) }
     ensures kept { IfOk result (λ bodies. IsFolded nothing_kept bodies (kept_view kept.now)) }
+    ensures length { IfOk result (λ bodies. (Bs : List SomeBatch) → IsLive kept.now Bs → bodies_length bodies ≡ region_length Bs) }
     ensures short { IfOk result AreShort }
 {
     let batches = live(alloc, kept)?;

@@ -26,5 +26,5 @@ mod values;
 
 pub use batches::live;
 pub use bodies::live_bodies;
-pub use laws::live_is_kept;
+pub use laws::{live_is_kept, one_live};
 pub use lengths::live_length;

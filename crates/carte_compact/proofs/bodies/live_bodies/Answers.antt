@@ -1,9 +1,10 @@
-use Rattle.std.proofs.Common.{length, ap, subst, arith}
+use Rattle.std.proofs.Common.{◌∙◌, length, ap, subst, arith}
 use Rattle.std.proofs.lemmas.Result.{IfOk-weaker}
 use Rattle.carte_record.specs.Kept.{nothing_kept}
 use Rattle.carte_state.specs.Folding.{IsFolded}
-use Rattle.carte_compact.proofs.Shut.{are_few, folded}
-use Rattle.carte_compact.specs.Lengths.{AreBodies}
+use Rattle.carte_compact.proofs.Alike.{one_live}
+use Rattle.carte_compact.proofs.Shut.{are_few, as_long, folded}
+use Rattle.carte_compact.specs.Lengths.{AreBodies, region_length}
 use Rattle.carte_compact.proofs.bodies.live_bodies.Goals as goal
 
 pub bodies_of-requires-clause-few : goal.bodies_of-requires-clause-few
@@ -22,3 +23,9 @@ returns-clause-kept c =
     IfOk-weaker c.bodies_of.result _ _
     (λ bodies are. subst (IsFolded nothing_kept bodies) ((c.in_ok-batches.ensures {u = tt}).kept) (folded nothing_kept Bs bodies (subst (λ Cs. AreBodies Cs bodies) c.as_slice.ensures.value are)))
     c.bodies_of.ensures.bodies
+
+pub returns-clause-length : goal.returns-clause-length
+returns-clause-length c =
+    let Cs = c.in_ok-batches.batches.items in
+    IfOk-weaker c.bodies_of.result _ _
+    (λ bodies are Bs live. as_long Cs bodies (subst (λ Ds. AreBodies Ds bodies) c.as_slice.ensures.value are) ∙ ap region_length (one_live c.args.kept.now Cs Bs (c.in_ok-batches.ensures {u = tt}).live live)) c.bodies_of.ensures.bodies
