@@ -196,7 +196,7 @@ impl Journal {
         ensures any_moment { D.tells → (bodies : List BodyAt) (new : List (List ℕ)) → IsAtRest self.old bodies (D.story disk.old) → IsRegionOf region.now new
             → StepsThrough (IsReadAs self.old.limit) (Ends self.old.gate bodies) (step_to region.now new ∷ []) (D.story disk.old) (D.story disk.new) }
     {
-        let end = region.end();
+        let end = region.needed();
         if end > self.limit {
             return Err(CommitFault::Full {
                 needed: end,

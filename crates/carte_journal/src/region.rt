@@ -1,5 +1,5 @@
 // Bodies as a rewriting writes them.
-ghost use Rattle.std.specs.Prelude.{◌≡◌, ◌+◌, ◌<◌, ◌≤◌, ◌^◌, ◌++◌, ◌∷◌, [], length, IfOk, OnOk};
+ghost use Rattle.std.specs.Prelude.{◌≡◌, ◌+◌, ◌<◌, ◌≤◌, ◌^◌, ◌++◌, ◌∷◌, [], length, List, ℕ, IfOk, OnOk};
 ghost use Rattle.std.specs.Int.{to_be_bytes, w32};
 ghost use Rattle.carte_bank.specs.Roots.{start_of};
 ghost use Rattle.carte_bank.specs.Turns.{AreInFront};
@@ -99,8 +99,8 @@ impl Region {
     }
 
     /// How many bytes the file needs with it.
-    pub(crate) fn end(&self) -> u64
-        ensures end { result ≡ region_end self.now }
+    pub fn needed(&self) -> u64
+        ensures needed { result ≡ region_end self.now }
         ensures placed { IsPlaced self.now }
     {
         let start = match self.bank {
@@ -108,6 +108,13 @@ impl Region {
             None => self.gate + 1,
         };
         start + self.piece.len() as u64
+    }
+
+    /// How many bytes it has itself, without the move and the roots in front of a first one.
+    pub fn length(&self) -> u64
+        ensures { (bodies : List (List ℕ)) → IsRegionOf self.now bodies → result ≡ length (region_of bodies) }
+    {
+        self.needed() - self.at
     }
 }
 

@@ -12,10 +12,10 @@ returns-clause-ok g c told bodies new rest is =
     let s = g.D.Disk.story c.args.disk.now in
     let ready = ready_for c.args.self.now c.args.region.now bodies new s rest c.requires.planned c.requires.rewritable.some in
     rewritten_rest c.args.self.now c.args.region.now bodies new s rest c.requires.planned c.requires.rewritable.some _ _
-    (ap (λ n. n - 1) c.end-end.ensures.end) (ap (λ (j : Standing). j.limit) c.self.view_is) (ap (λ (j : Standing). j.fresh) c.self.view_is)
+    (ap (λ n. n - 1) c.needed-end.ensures.needed) (ap (λ (j : Standing). j.limit) c.self.view_is) (ap (λ (j : Standing). j.fresh) c.self.view_is)
     (ap Some c.in-Ok.ensures.roots) c.frames-self-inside.ensures is
     (c.in-Ok.ensures.ok told c.args.self.now.limit bodies new ready is
-    (omega (arith, ap (λ (j : Standing). j.limit) c.self.view_is, c.end-end.ensures.end)))
+    (omega (arith, ap (λ (j : Standing). j.limit) c.self.view_is, c.needed-end.ensures.needed)))
 
 pub returns-clause-any_moment : goal.returns-clause-any_moment
 returns-clause-any_moment g c told bodies new rest is =
@@ -23,7 +23,7 @@ returns-clause-any_moment g c told bodies new rest is =
     let ready = ready_for c.args.self.now c.args.region.now bodies new s rest c.requires.planned c.requires.rewritable.some in
     let limit_is = ap (λ (j : Standing). j.limit) c.self.view_is in
     rewrite_steps c.args.self.now c.args.region.now bodies new s rest c.requires.planned c.args.self.now.limit _ refl
-    (c.turn.ensures.any_moment told c.args.self.now.limit bodies new ready is (omega (arith, limit_is, c.end-end.ensures.end)))
+    (c.turn.ensures.any_moment told c.args.self.now.limit bodies new ready is (omega (arith, limit_is, c.needed-end.ensures.needed)))
 
 pub returns-in_default-clause-any_moment : goal.returns-in_default-clause-any_moment
 returns-in_default-clause-any_moment g c told bodies new rest is =
@@ -31,4 +31,4 @@ returns-in_default-clause-any_moment g c told bodies new rest is =
     let ready = ready_for c.args.self.now c.args.region.now bodies new s rest c.requires.planned c.requires.rewritable.some in
     let limit_is = ap (λ (j : Standing). j.limit) c.self.view_is in
     rewrite_steps c.args.self.now c.args.region.now bodies new s rest c.requires.planned c.args.self.now.limit _ refl
-    (c.turn.ensures.any_moment told c.args.self.now.limit bodies new ready is (omega (arith, limit_is, c.end-end.ensures.end)))
+    (c.turn.ensures.any_moment told c.args.self.now.limit bodies new ready is (omega (arith, limit_is, c.needed-end.ensures.needed)))
