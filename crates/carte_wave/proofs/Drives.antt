@@ -13,6 +13,10 @@ use Rattle.carte_wave.specs.declared.wave.Wave.{Wave}
 use Rattle.carte_wave.specs.Drives.{Drove, DroveAll}
 use Rattle.carte_wave.specs.Parts.{jobs_in, AllPassed, driven_in, runs_in, DrivesPart, DrivesEach}
 
+-- an empty ledger behind another
+pub later_nil : (r : Ledger) → with_later r no_runs ≡ r
+later_nil r = rw (append-nil r.starts, append-nil r.ends) refl
+
 module _ {J : Type 0} (name : J → List ℕ) (started : J → Bool) (gives : J → Truth → Answers → Step → J → Type 0) (sight : List ℕ → Sight) where
   -- whatever drives of the rest come to, with what was driven it is what all came to
   abbrev pub GoesOn : List J → List J → List (Driven J) → Ledger → Type 0
@@ -52,9 +56,6 @@ module _ {J : Type 0} (name : J → List ℕ) (started : J → Bool) (gives : J 
   drove_both (p ∷ ps) qs [] es r m r' never later = absurd never
   drove_both (p ∷ ps) qs (d ∷ ds) es r m r' (l, drove, rest) later = (l, drove, drove_both ps qs ds es l m r' rest later)
 
-  no_runs_before : (r : Ledger) → with_later r no_runs ≡ r
-  no_runs_before r = rw (append-nil r.starts, append-nil r.ends) refl
-
   -- the parts, one behind the other
   pub parts_drove : (ps : List (Part J)) (rs : List (Result (Wave J) NoMemory)) → length rs ≡ length ps → AllPassed rs → DrivesEach name started gives sight ps rs → DroveAll name started gives sight (jobs_in ps) (driven_in rs) no_runs (runs_in rs)
   parts_drove [] [] same passed each = refl
@@ -64,11 +65,8 @@ module _ {J : Type 0} (name : J → List ℕ) (started : J → Bool) (gives : J 
   parts_drove (p ∷ ps) (Ok w ∷ rs) same passed each =
       let first : DroveAll name started gives sight p.jobs.items w.driven.items no_runs w.runs = each 0 p (Ok w) (omega arith) in
       let rest = parts_drove ps rs (omega (arith, same)) passed (λ i q r below. each (suc i) q r (omega (arith, below))) in
-      let later : DroveAll name started gives sight (jobs_in ps) (driven_in rs) w.runs (with_later w.runs (runs_in rs)) = subst (λ l. DroveAll name started gives sight (jobs_in ps) (driven_in rs) l (with_later w.runs (runs_in rs))) (no_runs_before w.runs) (behind w.runs no_runs (runs_in rs) (jobs_in ps) (driven_in rs) rest) in
+      let later : DroveAll name started gives sight (jobs_in ps) (driven_in rs) w.runs (with_later w.runs (runs_in rs)) = subst (λ l. DroveAll name started gives sight (jobs_in ps) (driven_in rs) l (with_later w.runs (runs_in rs))) (later_nil w.runs) (behind w.runs no_runs (runs_in rs) (jobs_in ps) (driven_in rs) rest) in
       drove_both p.jobs.items (jobs_in ps) w.driven.items (driven_in rs) no_runs w.runs (with_later w.runs (runs_in rs)) first later
-
-later_nil : (r : Ledger) → with_later r no_runs ≡ r
-later_nil r = rw (append-nil r.starts, append-nil r.ends) refl
 
 later_later : (q r s : Ledger) → with_later q (with_later r s) ≡ with_later (with_later q r) s
 later_later q r s = rw (append_assoc q.starts r.starts s.starts, append_assoc q.ends r.ends s.ends) refl

@@ -1,2 +1,16 @@
 mod Drives
 mod Driving
+mod Sets
+mod Crossing
+mod Settled
+mod Lined
+mod Lighter
+mod Outs
+mod Stops
+mod Stepping
+mod Stepped
+mod Taken
+mod Waved
+mod Going
+mod Ended
+mod Builds
