@@ -67,6 +67,10 @@ written_from (Some roots) gate at = at
 abbrev pub region_end : Planned → ℕ
 region_end p = written_from p.bank p.gate p.at + length p.piece
 
+-- how many bytes the file of a journal needs with a region of so many
+abbrev pub needs_with : Standing → ℕ → ℕ
+needs_with j long = region_at j.bank j.gate long + long
+
 -- it has its place behind the roots and beside the bank, and ends behind its frames
 pub record IsPlaced (p : Planned) : Type 0 where
   pub gate : p.gate < 2 ^ 32

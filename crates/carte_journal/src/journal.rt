@@ -1,13 +1,14 @@
-ghost use Rattle.std.specs.Prelude.{◌≡◌, ◌+◌, ◌<◌, ◌≤◌, ◌^◌, ◌++◌, ◌∷◌, ◌↔◌, [], true, false, None, IsTrue, IsOkUnless, IfOk, OnOk, OnErr, Err, List, ℕ};
+ghost use Rattle.std.specs.Prelude.{◌≡◌, ◌+◌, ◌<◌, ◌≤◌, ◌^◌, ◌++◌, ◌∷◌, ◌↔◌, [], true, false, None, IsTrue, IsOkUnless, length, IfOk, OnOk, OnErr, Err, List, ℕ};
 ghost use Rattle.carte_io.specs.Causes.{HasCauseOf};
 ghost use Rattle.carte_io.specs.Stations.{StepsThrough};
 ghost use Rattle.carte_journal.specs.Frames.{BodyAt, Ends};
 ghost use Rattle.carte_journal.specs.Journals.{IsAtRest, IsReadAs, broke, calls_of, committed, needed_for, step_of};
 ghost use Rattle.carte_bank.specs.Roots.{start_of};
 ghost use Rattle.carte_bank.specs.Turns.{AreInFront};
-ghost use Rattle.carte_journal.specs.Regions.{AreShort, IsPlannedOn, IsRegionOf, IsRewritable, bytes_of, calls_to_turn, placed_at, region_end, rewritten, step_to, told_bank};
+ghost use Rattle.carte_journal.specs.Regions.{AreShort, IsPlannedOn, IsRegionOf, IsRewritable, bytes_of, calls_to_turn, needs_with, placed_at, region_end, region_of, rewritten, step_to, told_bank};
 
 use crate::load::first_gate;
+use crate::region::place;
 use crate::rewrite::turn;
 use crate::writes::append;
 use crate::{Bank, Bodies, CommitFault, Frame, Region};
@@ -111,8 +112,17 @@ impl Journal {
         requires { AreShort (bytes_of bodies.now) }
         ensures planned { IfOk result (λ r. IsPlannedOn self.now r) }
         ensures region { IfOk result (λ r. IsRegionOf r (bytes_of bodies.now)) }
+        ensures needs { IfOk result (λ r. region_end r ≡ needs_with self.now (length (region_of (bytes_of bodies.now)))) }
     {
         Region::of(alloc, self.gate, self.bank, bodies)
+    }
+
+    /// How many bytes the file needs with a region of this length, which needn't be planned yet.
+    pub fn needed_with(&self, length: u64) -> u64
+        requires { length < 2 ^ 63 }
+        ensures { result ≡ needs_with self.now length }
+    {
+        place(self.gate, self.bank, length) + length
     }
 
     /// How many bytes the file needs with one more body of this length.

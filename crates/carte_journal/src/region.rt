@@ -118,8 +118,8 @@ impl Region {
     }
 }
 
-// Where a region of this length goes.
-fn place(gate: u64, bank: Option<Roots>, length: u64) -> u64
+/// Where a region of this length goes.
+pub(crate) fn place(gate: u64, bank: Option<Roots>, length: u64) -> u64
     requires gate { gate < 2 ^ 32 }
     requires roots { AreInFront bank }
     ensures { result ≡ region_at bank gate length }

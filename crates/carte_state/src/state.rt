@@ -1,4 +1,4 @@
-ghost use Rattle.std.specs.Prelude.{◌≡◌, ◌≢◌, ◌+◌, ◌<◌, ◌≤◌, ℕ, false, option_copied, IfOk, IsOkUnless, OnOk, OnErr, Ok, Err};
+ghost use Rattle.std.specs.Prelude.{◌≡◌, ◌≢◌, ◌+◌, ◌<◌, ◌≤◌, ◌^◌, ℕ, false, length, option_copied, IfOk, IsOkUnless, OnOk, OnErr, Ok, Err};
 ghost use Rattle.carte_codec.specs.Each.{EachFits};
 ghost use Rattle.carte_state.specs.Around.{over_disk};
 ghost use Rattle.carte_record.specs.Bodies.{IsBody, IsUnmarked, spelled_batch};
@@ -12,7 +12,7 @@ ghost use Rattle.carte_state.specs.States.{IsKeptOn, Stand as SomeStand, kept_in
 ghost use Rattle.carte_io.specs.Causes.{HasCauseOf};
 ghost use Rattle.carte_io.specs.Stations.{StepsThrough};
 ghost use Rattle.carte_journal.specs.Journals.{broke};
-ghost use Rattle.carte_journal.specs.Regions.{AreShort, IsPlannedOn, IsRegionOf, IsRewritable, bytes_of, calls_to_turn, region_end, rewritten, told_bank};
+ghost use Rattle.carte_journal.specs.Regions.{AreShort, IsPlannedOn, IsRegionOf, IsRewritable, bytes_of, calls_to_turn, needs_with, region_end, region_of, rewritten, told_bank};
 
 use crate::ApplyFault;
 use crate::fault::fault_of;
@@ -93,11 +93,27 @@ impl State {
         self.journal.bank()
     }
 
+    /// The most bytes that its file may have.
+    pub fn limit(&self) -> u64
+        ensures { result ≡ self.now.journal.limit }
+    {
+        self.journal.limit()
+    }
+
+    /// How many bytes the file needs with a region of this length, which needn't be planned yet.
+    pub fn needed_with(&self, length: u64) -> u64
+        requires { length < 2 ^ 63 }
+        ensures { result ≡ needs_with self.now.journal length }
+    {
+        self.journal.needed_with(length)
+    }
+
     /// The region of these bodies, for a rewriting before the next batch is applied. No call of a disk is made.
     pub fn plan(&self, alloc: Global, bodies: &Bodies) -> Result<Region, NoMemory>
         requires { AreShort (bytes_of bodies.now) }
         ensures planned { IfOk result (λ r. IsPlannedOn self.now.journal r) }
         ensures region { IfOk result (λ r. IsRegionOf r (bytes_of bodies.now)) }
+        ensures needs { IfOk result (λ r. region_end r ≡ needs_with self.now.journal (length (region_of (bytes_of bodies.now)))) }
     {
         self.journal.plan(alloc, bodies)
     }
