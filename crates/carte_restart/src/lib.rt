@@ -1,7 +1,7 @@
 //! The restarting scheduler: a rule that asks for a rule without a value is given up, and begun anew once that one has a
 //! value.
 //!
-//! It needs no machine that can wait: of a job that stopped nothing stays but the name of its stop. The price are starts in
+//! It needs no machine that can wait: of a job that stopped nothing stays but the name of its stop. The price is starts in
 //! vain, so it begins with the order in which rules were finished last: those that the targets led to then, in the order of
 //! the kept chain, and the targets behind them. Where that order and the needs that entries tell of are still right,
 //! nothing is given up. What a build has finished goes before the old chain.
