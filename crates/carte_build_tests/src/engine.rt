@@ -50,7 +50,12 @@ fn printed(alloc: Global, built: &Built) -> Result<String, Fail> {
         Some(value) => value.print(alloc)?,
         None => String::new(alloc),
     };
-    Ok(format!(in alloc; "{value} {} {} {}; ", built.ran.len(), built.given_up, built.reused)?)
+    Ok(format!(in alloc;
+        "{value} {} {} {}; ",
+        built.ran.len(),
+        built.given_up,
+        built.reused
+    )?)
 }
 
 /// How many rules a build over the disk would finish.
