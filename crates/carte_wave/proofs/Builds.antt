@@ -1,12 +1,11 @@
 -- A whole build in waves.
-use Rattle.std.proofs.Common.{◌≡◌, ℕ, Bool, true, false, List, [], ◌∷◌, Some, None, Result, Ok, Err, refl, sym, ◌∙◌, subst, inl, inr}
-use Rattle.carte_value.specs.Truths.{Truth, Among}
+use Rattle.std.proofs.Common.{◌≡◌, ℕ, Bool, List, [], None, subst}
+use Rattle.carte_value.specs.Truths.{Truth}
 use Rattle.carte_book.specs.Book.{Book}
-use Rattle.carte_effect.specs.Ledger.{Ledger, no_runs}
+use Rattle.carte_effect.specs.Ledger.{no_runs}
 use Rattle.carte_record.specs.Kept.{SomeKept}
 use Rattle.carte_sound.specs.Held.{How}
 use Rattle.carte_sound.specs.Treated.{IsTreated}
-use Rattle.carte_note.specs.declared.finished.Finished.{Finished}
 use Rattle.carte_rebuild.specs.declared.work.Work.{Work}
 use Rattle.carte_bench.specs.Spots.{Spots, IsSame}
 use Rattle.carte_bench.specs.Steps.{FitsOf, GivesOf}

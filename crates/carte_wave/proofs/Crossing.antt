@@ -1,11 +1,11 @@
 -- A bench, and with it a book, may be looked at from other threads. A formula is a type that reaches itself, so its laws are
 -- taken from those of its parts.
-use denote.Param.Send.{IsSend, IsSync, recorded_send, recorded_sync, struct_send, struct_sync, enum_send, enum_sync, sendable}
+use denote.Param.Send.{IsSend, IsSync, recorded_sync, struct_sync, enum_sync, sendable}
 use denote.RattleType.{RattleType}
 use denote.Ref.{NamedLft}
 use denote.Enum.Declared as choice
 use denote.Struct.Declared as fields
-use Rattle.std.proofs.Crossing.{crosses, Arc-send, Arc-sync}
+use Rattle.std.proofs.Crossing.{crosses, Arc-sync}
 use Rattle.indexmap.proofs.map.IndexMap.TheSendSync as map
 use Rattle.carte_value.proofs.area.Area.TheSendSync as area
 use Rattle.carte_name.proofs.kind.Kind.TheSendSync as kind

@@ -1,17 +1,17 @@
 -- Drives of lists of jobs, one list behind another.
-use Rattle.std.proofs.Common.{◌≡◌, ℕ, zero, suc, ◌+◌, ◌<◌, Bool, List, [], ◌∷◌, ◌++◌, Result, Ok, Err, length, slice_index_or, refl, ap, sym, ◌∙◌, subst, append_assoc, append-nil, arith}
+use Rattle.std.proofs.Common.{◌≡◌, ℕ, suc, Bool, List, [], ◌∷◌, ◌++◌, Result, Ok, Err, length, refl, ap, sym, ◌∙◌, subst, append_assoc, append-nil, arith}
 use Rattle.std.specs.Prelude.{IfOk}
 use Rattle.carte_name.specs.declared.NoMemory.{NoMemory}
 use Rattle.carte_value.specs.Once.{Answers}
 use Rattle.carte_value.specs.Truths.{Truth}
-use Rattle.carte_effect.specs.Jobs.{Step, Counted}
+use Rattle.carte_effect.specs.Jobs.{Step}
 use Rattle.carte_effect.specs.Ledger.{Ledger, no_runs, with_later}
 use Rattle.carte_effect.specs.Sights.{Sight}
 use Rattle.carte_wave.specs.declared.parts.Part.{Part}
 use Rattle.carte_wave.specs.declared.wave.Driven.{Driven}
 use Rattle.carte_wave.specs.declared.wave.Wave.{Wave}
 use Rattle.carte_wave.specs.Drives.{Drove, DroveAll}
-use Rattle.carte_wave.specs.Parts.{jobs_in, AllPassed, driven_in, runs_in, DrivesPart, DrivesEach}
+use Rattle.carte_wave.specs.Parts.{jobs_in, AllPassed, driven_in, runs_in, DrivesEach}
 
 -- an empty ledger behind another
 pub later_nil : (r : Ledger) → with_later r no_runs ≡ r

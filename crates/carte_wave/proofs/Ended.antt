@@ -1,10 +1,9 @@
 -- Targets are demanded before the first wave, and behind the last one nothing can go on.
-use Rattle.std.proofs.Common.{◌≡◌, ◌⊎◌, ℕ, Bool, true, false, List, [], ◌∷◌, ◌++◌, Option, Some, None, refl, ap, sym, ◌∙◌, subst, inl, inr}
+use Rattle.std.proofs.Common.{◌≡◌, ℕ, Bool, true, false, List, [], ◌∷◌, ◌++◌, Option, Some, None, refl, ap, sym, ◌∙◌, subst, inl, inr}
 use Rattle.std.specs.BTreeMap.{is_at}
 use Rattle.std.specs.BTreeSet.{BTreeSet, contains}
 use Rattle.std.specs.List.{list_any}
 use Rattle.carte_name.specs.Names.{name_cmp}
-use Rattle.carte_value.specs.Truths.{Among}
 use Rattle.carte_book.specs.Book.{Book, content}
 use Rattle.carte_book.specs.Needs.{IsRule}
 use Rattle.carte_sound.specs.Held.{How}
@@ -12,7 +11,6 @@ use Rattle.carte_bench.specs.declared.slot.Slot.{Slot}
 use Rattle.carte_bench.specs.declared.slot.Slot.TheVariants.{Ready, Stopped, Out, Done}
 use Rattle.carte_bench.specs.Spots.{Spots, IsSame, is_done, is_ready}
 use Rattle.carte_bench.specs.Steps.{GivesOf}
-use Rattle.carte_bench.specs.Ended.{IsOpen}
 use Rattle.carte_progress.specs.Opening.{Opens}
 use Rattle.carte_progress.specs.Standing.{IsLeft, IsAside, IsStanding, IsDemanded, StaysKnown}
 use Rattle.carte_progress.proofs.Opened.{known_opens}

@@ -1,13 +1,11 @@
 -- What is known of a build, and of its ledger, is kept by each wave.
 use Rattle.std.proofs.Common.{◌≡◌, ℕ, Bool, true, false, List, [], ◌∷◌, Option, Some, None, Result, Ok, Err, refl, sym, ◌∙◌, subst, inl, inr}
 use Rattle.carte_value.specs.declared.value.Value.{Value}
-use Rattle.carte_value.specs.Once.{Answers}
 use Rattle.carte_value.specs.Truths.{Truth, Extends, Among, NoneTwice}
 use Rattle.carte_book.specs.Book.{Book, input, content}
 use Rattle.carte_book.specs.Needs.{IsRule}
 use Rattle.carte_effect.specs.declared.look.Stuck.{Stuck}
 use Rattle.carte_effect.specs.declared.outcome.Made.{Made}
-use Rattle.carte_effect.specs.Jobs.{Step, DriveFits}
 use Rattle.carte_effect.specs.Ledger.{Ledger}
 use Rattle.carte_record.specs.Kept.{SomeKept}
 use Rattle.carte_sound.specs.Held.{How}
@@ -16,12 +14,11 @@ use Rattle.carte_note.specs.declared.finished.Finished.{Finished}
 use Rattle.carte_note.specs.Right.{ran_in}
 use Rattle.carte_bench.specs.declared.slot.Slot.{Slot}
 use Rattle.carte_bench.specs.declared.slot.Slot.TheVariants.{Ready, Stopped, Out, Done}
-use Rattle.carte_bench.specs.Spots.{Spots, PutAt, IsSame, is_done, is_ready, job_in, name_of, slot_after, seen_in}
+use Rattle.carte_bench.specs.Spots.{Spots, is_done, is_ready, job_in, name_of, slot_after, seen_in}
 use Rattle.carte_bench.specs.Steps.{FitsOf, GivesOf, IsCore, IsPartOf}
 use Rattle.carte_bench.proofs.Cores.{put_core, job_fits, after_fits, sees_inputs}
 use Rattle.carte_bench.proofs.Puts.{put_here, put_apart}
 use Rattle.carte_progress.specs.Driven.{DroveOver, IsDriven}
-use Rattle.carte_progress.specs.Opening.{Opens, EndsKey}
 use Rattle.carte_progress.proofs.Alongs.{GoOn, FitAll, along_same}
 use Rattle.carte_progress.proofs.Driving.{along_stopped, along_ended, ran_ended, not_run, stop_treated}
 use Rattle.carte_progress.proofs.Puts.{job_undone, undone_none}
@@ -30,7 +27,7 @@ use Rattle.carte_suspend.specs.Going.{IsCounted, IsGoing}
 use Rattle.carte_suspend.proofs.Ledgers.{counted_same, counted_stop, counted_end}
 use Rattle.carte_suspend.proofs.Goings.{going_opens}
 use Rattle.carte_wave.specs.Laws.{FitsOn}
-use Rattle.carte_wave.specs.Waves.{State, DemandsOne, Follows, DrivesKey, DrivesKeys, IsWave, Waves, ended, next, DemandsEach}
+use Rattle.carte_wave.specs.Waves.{State, Follows, DrivesKey, DrivesKeys, IsWave, Waves, ended, next, DemandsEach}
 use Rattle.carte_wave.proofs.Sets.{rising_once}
 
 -- what a schedule of waves knows of jobs

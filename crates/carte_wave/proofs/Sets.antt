@@ -13,7 +13,7 @@ use Rattle.carte_name.specs.Names.{name_cmp}
 use Rattle.carte_value.specs.Truths.{Among, NoneTwice}
 use Rattle.carte_value.proofs.Members.{among_append, among_left, among_right}
 use Rattle.carte_book.proofs.Clean.{tied_name}
-use Rattle.carte_wave.specs.Front.{Line, AddsReady, AddsEach}
+use Rattle.carte_wave.specs.Front.{AddsEach}
 
 tied_self : (k : List ℕ) → eq_by_cmp name_cmp k k ≡ true
 tied_self k = (eq_by_cmp_equiv nat_list_cmp_total).refl k

@@ -1,6 +1,6 @@
 -- The jobs that are still to be put back.
-use Rattle.std.proofs.Common.{◌≡◌, ◌⊎◌, ℕ, Bool, List, [], ◌∷◌, Option, Some, None, Result, Ok, Err, refl, sym, ◌∙◌, subst, inl, inr}
-use Rattle.carte_value.specs.Truths.{Among, NoneTwice}
+use Rattle.std.proofs.Common.{◌≡◌, ℕ, Bool, List, [], ◌∷◌, Some, None, Result, Ok, Err, refl, sym, ◌∙◌, subst, inl, inr}
+use Rattle.carte_value.specs.Truths.{Among}
 use Rattle.carte_value.proofs.Members.{same_or_not}
 use Rattle.carte_book.specs.Book.{Book}
 use Rattle.carte_effect.specs.declared.look.Stuck.{Stuck}
@@ -8,7 +8,7 @@ use Rattle.carte_effect.specs.declared.outcome.Made.{Made}
 use Rattle.carte_sound.specs.Held.{How}
 use Rattle.carte_note.specs.declared.finished.Finished.{Finished}
 use Rattle.carte_bench.specs.declared.slot.Slot.TheVariants.{Ready, Out}
-use Rattle.carte_bench.specs.Spots.{Spots, IsSame, slot_after, name_of}
+use Rattle.carte_bench.specs.Spots.{Spots, slot_after, name_of}
 use Rattle.carte_bench.proofs.Puts.{put_apart}
 use Rattle.carte_progress.specs.Opening.{Opens}
 use Rattle.carte_wave.specs.declared.wave.Driven.{Driven}

@@ -1,11 +1,11 @@
 -- One job of a wave is put back, and what it came to is followed: one step of the schedule.
-use Rattle.std.proofs.Common.{◌≡◌, ◌⊎◌, ℕ, ◌≤◌, ◌<◌, Bool, true, false, cond, List, [], ◌∷◌, ◌++◌, Option, Some, None, Result, Ok, Err, refl, ap, sym, ◌∙◌, subst, inl, inr}
+use Rattle.std.proofs.Common.{◌≡◌, ◌⊎◌, ℕ, Bool, true, false, cond, List, [], ◌∷◌, ◌++◌, Option, Some, None, Result, Ok, Err, refl, sym, ◌∙◌, subst, inl, inr}
 use Rattle.std.specs.Prelude.{MatchBool}
 use Rattle.std.specs.Cmp.Lexicographic.{bytes_decides}
 use Rattle.carte_name.specs.Names.{name_eq}
-use Rattle.carte_value.specs.Truths.{Among, NoneTwice}
+use Rattle.carte_value.specs.Truths.{Among}
 use Rattle.carte_value.proofs.Members.{among_append, among_left, among_right}
-use Rattle.carte_book.specs.Book.{Book, content}
+use Rattle.carte_book.specs.Book.{Book}
 use Rattle.carte_book.specs.Needs.{IsRule}
 use Rattle.carte_effect.specs.declared.look.Stuck.{Stuck}
 use Rattle.carte_effect.specs.declared.look.Stuck.TheVariants.{NotDone, Missing}
@@ -15,13 +15,13 @@ use Rattle.carte_effect.specs.Ledger.{Ledger}
 use Rattle.carte_sound.specs.Held.{How}
 use Rattle.carte_note.specs.declared.finished.Finished.{Finished}
 use Rattle.carte_bench.specs.declared.slot.Slot.{Slot}
-use Rattle.carte_bench.specs.declared.slot.Slot.TheVariants.{Ready, Stopped, Out, Done}
+use Rattle.carte_bench.specs.declared.slot.Slot.TheVariants.{Ready, Stopped, Done}
 use Rattle.carte_bench.specs.Spots.{Spots, PutAt, IsSame, is_done, is_ready, job_in, name_of, slot_after, sight_in, seen_in}
 use Rattle.carte_bench.specs.Steps.{GivesOf}
 use Rattle.carte_bench.specs.Turns.{halted}
-use Rattle.carte_bench.proofs.Puts.{put_here, put_apart}
+use Rattle.carte_bench.proofs.Puts.{put_apart}
 use Rattle.carte_progress.specs.Driven.{DroveOver}
-use Rattle.carte_progress.specs.Opening.{IsStopIn, Demands, Leaves, Opens, EndsKey}
+use Rattle.carte_progress.specs.Opening.{IsStopIn, Opens, EndsKey}
 use Rattle.carte_progress.specs.Standing.{IsDemanded, StaysKnown}
 use Rattle.carte_progress.proofs.Standings.{known_put}
 use Rattle.carte_wave.specs.declared.wave.Driven.{Driven}
@@ -29,8 +29,8 @@ use Rattle.carte_wave.specs.Drives.{Drove}
 use Rattle.carte_wave.specs.Front.{Line, AddsReady, AddsFirst, Waits, Wakes}
 use Rattle.carte_wave.specs.Settling.{AreOut, Registers, Settles, SettlesAs}
 use Rattle.carte_wave.specs.Settling as settling
-use Rattle.carte_wave.specs.Standing.{IsLined, AreWanted, IsFewer}
-use Rattle.carte_wave.specs.Waves.{State, DrivesKey, DemandsOne}
+use Rattle.carte_wave.specs.Standing.{IsLined, IsFewer}
+use Rattle.carte_wave.specs.Waves.{DrivesKey}
 use Rattle.carte_wave.proofs.Outs.{among_or_not, ready_undone, put_in, out_same, out_put, none_seen, done_seen, out_demand, demanded_seen}
 use Rattle.carte_wave.proofs.Stops.{unseen_undone, gave_as, drove_gave, drove_counted, stop_unseen, stop_there}
 use Rattle.carte_wave.proofs.Stepping.{IsAmid, Registered, lined_done, wanted_done, fewer_done, lined_stopped, wanted_stopped, fewer_stopped, lined_more, wanted_more, fewer_more}

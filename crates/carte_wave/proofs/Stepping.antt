@@ -1,40 +1,22 @@
 -- One job of a wave is put back: what stands then, as it would be were the rest back too.
-use Rattle.std.proofs.Common.{◌≡◌, ◌⊎◌, ℕ, ◌≤◌, ◌<◌, Bool, true, false, cond, List, [], ◌∷◌, ◌++◌, Option, Some, None, Result, Ok, Err, refl, ap, sym, ◌∙◌, subst, inl, inr, arith}
-use Rattle.std.specs.Prelude.{MatchBool}
-use Rattle.std.specs.Cmp.Lexicographic.{bytes_decides}
-use Rattle.std.proofs.lemmas.Bool.{cases_Bool}
-use Rattle.carte_name.specs.Names.{name_eq}
+use Rattle.std.proofs.Common.{◌≡◌, ◌⊎◌, ℕ, ◌≤◌, ◌<◌, true, false, List, ◌∷◌, Some, None, refl, sym, ◌∙◌, subst, inl, inr, arith}
 use Rattle.carte_value.specs.Truths.{Among, NoneTwice}
-use Rattle.carte_value.proofs.Members.{same_or_not, among_append, among_left, among_right}
-use Rattle.carte_book.specs.Book.{Book, content}
+use Rattle.carte_value.proofs.Members.{same_or_not}
+use Rattle.carte_book.specs.Book.{Book}
 use Rattle.carte_book.specs.Needs.{IsRule}
-use Rattle.carte_effect.specs.declared.look.Stuck.{Stuck}
-use Rattle.carte_effect.specs.declared.look.Stuck.TheVariants.{NotDone, Missing}
 use Rattle.carte_effect.specs.declared.outcome.Made.{Made}
-use Rattle.carte_effect.specs.Ledger.{Ledger}
-use Rattle.carte_sound.specs.Held.{How}
-use Rattle.carte_note.specs.declared.finished.Finished.{Finished}
-use Rattle.carte_bench.specs.declared.slot.Slot.{Slot}
-use Rattle.carte_bench.specs.declared.slot.Slot.TheVariants.{Ready, Stopped, Out, Done}
-use Rattle.carte_bench.specs.Spots.{Spots, PutAt, IsSame, is_done, is_ready, job_in, name_of, slot_after, sight_in, seen_in}
-use Rattle.carte_bench.specs.Steps.{GivesOf}
-use Rattle.carte_bench.specs.Turns.{halted}
+use Rattle.carte_bench.specs.declared.slot.Slot.TheVariants.{Ready, Stopped, Done}
+use Rattle.carte_bench.specs.Spots.{Spots, PutAt, is_done, is_ready, job_in}
 use Rattle.carte_bench.proofs.Puts.{put_here, put_apart}
-use Rattle.carte_progress.specs.Driven.{DroveOver}
-use Rattle.carte_progress.specs.Opening.{IsStopIn, Demands, Leaves, Opens, EndsKey}
-use Rattle.carte_progress.specs.Standing.{IsDemanded, StaysKnown}
+use Rattle.carte_progress.specs.Standing.{IsDemanded}
 use Rattle.carte_progress.proofs.Puts.{not_both, job_undone, job_there}
 use Rattle.carte_progress.proofs.Standings.{known_put}
-use Rattle.carte_wave.specs.declared.wave.Driven.{Driven}
-use Rattle.carte_wave.specs.Drives.{Drove}
-use Rattle.carte_wave.specs.Front.{Line, AddsReady, AddsFirst, Waits, Wakes}
-use Rattle.carte_wave.specs.Settling.{AreOut, Registers, Settles, SettlesAs}
-use Rattle.carte_wave.specs.Settling as settling
+use Rattle.carte_wave.specs.Front.{Line, AddsReady, Wakes}
+use Rattle.carte_wave.specs.Settling.{AreOut}
 use Rattle.carte_wave.specs.Standing.{IsHeldBy, IsLined, AreWanted, IsFewer, weight, left}
-use Rattle.carte_wave.specs.Waves.{State, DrivesKey, DemandsOne}
 use Rattle.carte_wave.proofs.Lined.{Moves, lined_put}
 use Rattle.carte_wave.proofs.Lighter.{left_most, left_less, lighter_put, job_weight, done_weight, undone_weight}
-use Rattle.carte_wave.proofs.Outs.{put_in, ready_undone, out_same, out_put, none_seen, done_seen, out_demand, demanded_seen}
+use Rattle.carte_wave.proofs.Outs.{put_in}
 
 -- where the wave that began here has these keys still out
 pub record IsAmid {J : Type 0} (name : J → List ℕ) (b : Book) (v0 v s : Spots J) (ks : List (List ℕ)) (f : Line) : Type 0 where

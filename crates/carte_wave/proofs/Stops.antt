@@ -1,5 +1,5 @@
 -- What one drive of a wave tells.
-use Rattle.std.proofs.Common.{◌≡◌, ℕ, Bool, false, List, Option, Some, None, Result, Ok, Err, refl, sym, ◌∙◌, subst}
+use Rattle.std.proofs.Common.{◌≡◌, ℕ, Bool, false, List, Option, Some, None, Result, Ok, Err, refl, sym, subst}
 use Rattle.carte_value.specs.declared.value.Value.{Value}
 use Rattle.carte_tree.specs.Tree.{Tree}
 use Rattle.carte_book.specs.Book.{Item, input, rule, Book, content}

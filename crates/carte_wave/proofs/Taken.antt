@@ -1,22 +1,14 @@
 -- Keys that can go on are taken, one after another, and then nothing of the wave is back yet.
-use Rattle.std.proofs.Common.{◌≡◌, ◌⊎◌, ℕ, ◌<◌, ◌≤◌, Bool, true, false, cond, List, [], ◌∷◌, ◌++◌, length, Option, Some, None, refl, ap, sym, ◌∙◌, subst, inl, inr, append_assoc, append-nil, arith}
-use Rattle.std.specs.BTreeSet.{BTreeSet, contains, IsOrdered}
-use Rattle.std.specs.Ordering.{eq_by_cmp}
-use Rattle.carte_name.specs.Names.{name_eq, name_cmp}
-use Rattle.carte_value.specs.Truths.{Among, NoneTwice, IsListOf}
+use Rattle.std.proofs.Common.{◌≡◌, ℕ, ◌<◌, true, false, List, [], ◌∷◌, ◌++◌, length, Option, Some, None, refl, ap, sym, ◌∙◌, subst, inl, inr, append_assoc, append-nil, arith}
+use Rattle.carte_value.specs.Truths.{Among, NoneTwice}
 use Rattle.carte_value.proofs.Members.{same_or_not}
-use Rattle.carte_book.specs.Book.{Book}
 use Rattle.carte_bench.specs.declared.slot.Slot.{Slot}
 use Rattle.carte_bench.specs.declared.slot.Slot.TheVariants.{Ready, Stopped, Out, Done}
-use Rattle.carte_bench.specs.Spots.{Spots, PutAt, IsSame, Takes, is_done, is_ready, job_in}
+use Rattle.carte_bench.specs.Spots.{Spots, IsSame, Takes, is_ready, job_in}
 use Rattle.carte_bench.proofs.Puts.{put_here, put_apart}
 use Rattle.carte_progress.proofs.Puts.{not_both}
-use Rattle.carte_wave.specs.Front.{Line, IsTaken}
 use Rattle.carte_wave.specs.Settling.{AreOut, AreJobs, TakesOne}
-use Rattle.carte_wave.specs.Standing.{IsLined, AreWanted, IsFewer}
-use Rattle.carte_wave.proofs.Outs.{ready_undone, among_or_not}
-use Rattle.carte_wave.proofs.Sets.{in_keys, in_set}
-use Rattle.carte_wave.proofs.Stepping.{IsAmid}
+use Rattle.carte_wave.proofs.Outs.{ready_undone}
 
 module _ {J : Type 0} (v : Spots J) (all : List (List ℕ)) where
   -- these are still to be taken

@@ -1,9 +1,9 @@
 -- A whole wave: its jobs were driven, and put back one after another.
-use Rattle.std.proofs.Common.{◌≡◌, ◌⊎◌, ℕ, ◌<◌, ◌≤◌, Bool, true, false, List, [], ◌∷◌, ◌++◌, length, Option, Some, None, Result, Ok, Err, refl, ap, sym, ◌∙◌, subst, inl, inr, arith}
+use Rattle.std.proofs.Common.{◌≡◌, ℕ, ◌<◌, Bool, true, false, List, [], ◌∷◌, length, Option, Some, None, Result, Ok, Err, refl, ap, sym, ◌∙◌, subst, inl, inr, arith}
 use Rattle.std.specs.Prelude.{OnOk}
 use Rattle.std.specs.BTreeSet.{BTreeSet, contains}
 use Rattle.carte_name.specs.Names.{name_cmp}
-use Rattle.carte_value.specs.Truths.{Truth, Among, NoneTwice, IsListOf}
+use Rattle.carte_value.specs.Truths.{Among, NoneTwice, IsListOf}
 use Rattle.carte_book.specs.Book.{Book, content}
 use Rattle.carte_effect.specs.Ledger.{Ledger, no_runs, with_later}
 use Rattle.carte_effect.specs.Sights.{Sight}
@@ -16,18 +16,18 @@ use Rattle.carte_bench.specs.Steps.{GivesOf}
 use Rattle.carte_progress.specs.Standing.{StaysKnown}
 use Rattle.carte_progress.proofs.Puts.{undone_none}
 use Rattle.carte_wave.specs.declared.wave.Driven.{Driven}
-use Rattle.carte_wave.specs.Drives.{Drove, DroveAll}
+use Rattle.carte_wave.specs.Drives.{DroveAll}
 use Rattle.carte_wave.specs.Front.{Line, IsTaken}
 use Rattle.carte_wave.specs.Settling.{AreOut, AreJobs, AreBack, StopEach, names_in, SettlesEach}
-use Rattle.carte_wave.specs.Standing.{IsHeldBy, IsLined, AreWanted, IsFewer, waves_left, left}
-use Rattle.carte_wave.specs.Waves.{State, DrivesKeys, IsWave}
+use Rattle.carte_wave.specs.Standing.{IsLined, AreWanted, IsFewer, waves_left}
+use Rattle.carte_wave.specs.Waves.{DrivesKeys, IsWave}
 use Rattle.carte_wave.proofs.Drives.{behind, later_nil}
 use Rattle.carte_wave.proofs.Lighter.{left_most}
 use Rattle.carte_wave.proofs.Outs.{ready_undone, among_or_not}
 use Rattle.carte_wave.proofs.Sets.{in_keys, in_set, rising_once}
 use Rattle.carte_wave.proofs.Stops.{stops_in}
 use Rattle.carte_wave.proofs.Stepping.{IsAmid}
-use Rattle.carte_wave.proofs.Stepped.{Stepped, stepped}
+use Rattle.carte_wave.proofs.Stepped.{stepped}
 
 pub jobs_kept : {J : Type 0} (s d : Spots J) (ks : List (List ℕ)) (ps : List J) → ((q : List ℕ) → Among ks q → d q ≡ s q) → AreJobs s ks ps → AreJobs d ks ps
 jobs_kept s d [] [] keeps jobs = tt

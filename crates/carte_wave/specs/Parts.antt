@@ -1,5 +1,5 @@
 -- A list of jobs in parts, and what these came to.
-use Rattle.std.specs.Prelude.{ℕ, ◌≡◌, ◌<◌, Bool, List, [], ◌∷◌, ◌++◌, Result, Ok, Err, length, slice_index_or, IfOk}
+use Rattle.std.specs.Prelude.{ℕ, ◌<◌, Bool, List, [], ◌∷◌, ◌++◌, Result, Ok, Err, length, slice_index_or, IfOk}
 use Rattle.carte_value.specs.Once.{Answers}
 use Rattle.carte_value.specs.Truths.{Truth}
 use Rattle.carte_name.specs.declared.NoMemory.{NoMemory}

@@ -23,7 +23,8 @@ pub(crate) fn cut<J: Drop>(
     count: usize,
 ) -> Result<Vec<Part<J>>, NoMemory>
     requires { 0 < count }
-    ensures { IfOk result (λ parts. jobs_in parts.items ≡ jobs.items) }
+    ensures jobs { IfOk result (λ parts. jobs_in parts.items ≡ jobs.items) }
+    ensures count { IfOk result (λ parts. length parts.items ≡ count) }
 {
     let mut parts = Vec::new(alloc);
     let last = count - 1;
@@ -65,7 +66,9 @@ pub(crate) fn drive_part<J: Job + Drop, L: Look, G: Gate>(
     let Part { number, mut jobs } = part;
     let mut wave = Wave::new(alloc);
     let mut digests = Digests::new(alloc, hasher);
-    gate.enter(number);
+    if !jobs.is_empty() {
+        gate.enter(number);
+    }
     'jobs: while let Some(job) = jobs.pop_front() {
         wave.drive_one(alloc, job, look, &mut digests)?;
     }

@@ -1,4 +1,4 @@
-ghost use Rattle.std.specs.Prelude.{◌≡◌, ◌<◌, ◌≤◌, ℕ, length, slice_index_or, IfOk};
+ghost use Rattle.std.specs.Prelude.{◌≡◌, ◌<◌, ◌≤◌, false, ℕ, length, slice_index_or, IfOk};
 ghost use Rattle.carte_effect.specs.Ledger.{no_runs};
 ghost use Rattle.carte_wave.specs.Drives.{DroveAll};
 ghost use Rattle.carte_wave.specs.Parts.{DrivesEach, AllPassed, driven_in, runs_in};
@@ -34,9 +34,11 @@ pub fn run_wave<J: Job + Send + Drop, L: Look + Sync, G: Gate, T: Threads + Sync
     gather(alloc, waves)
 }
 
-// How many parts so many jobs have: none is empty but where there are no jobs.
+// How many parts so many jobs have: no more than there are workers, and one where they are few and the gate doesn't ask.
 fn part_count(jobs: usize, workers: usize, all: bool) -> usize
-    ensures { 0 < result }
+    ensures some { 0 < result }
+    ensures most { 0 < workers → result ≤ workers }
+    ensures few { all ≡ false → jobs < 128 → result ≡ 1 }
 {
     let most = if all { jobs } else { jobs / WORTH };
     most.min(workers).max(1)

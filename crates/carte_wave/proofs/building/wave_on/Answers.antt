@@ -1,6 +1,5 @@
-use Rattle.std.proofs.Common.{◌≡◌, ◌<◌, ℕ, List, [], None, true, false, length, refl, sym, ◌∙◌}
+use Rattle.std.proofs.Common.{◌≡◌, true, false, refl, sym, ◌∙◌}
 use Rattle.carte_book.specs.Book.{book_view}
-use Rattle.carte_record.specs.Kept.{kept_view}
 use Rattle.carte_bench.specs.Held.{spots_of}
 use Rattle.carte_wave.specs.Front.{line_of}
 use Rattle.carte_wave.specs.Waves.{ended, next}

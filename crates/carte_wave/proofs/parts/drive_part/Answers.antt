@@ -1,4 +1,4 @@
-use Rattle.std.proofs.Common.{◌≡◌, List, arith}
+use Rattle.std.proofs.Common.{arith}
 use Rattle.carte_wave.proofs.Drives.{goes_end, no_items}
 use Rattle.carte_wave.proofs.parts.drive_part.Goals as goal
 

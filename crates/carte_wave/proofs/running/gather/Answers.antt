@@ -1,8 +1,5 @@
-use Rattle.std.proofs.Common.{◌≡◌, List, [], ◌∷◌, ◌++◌, Result, Ok, ap, sym, ◌∙◌, subst}
-use Rattle.carte_name.specs.declared.NoMemory.{NoMemory}
+use Rattle.std.proofs.Common.{◌≡◌, ◌++◌, Ok, ap, sym, ◌∙◌}
 use Rattle.carte_effect.specs.Ledger.{with_later}
-use Rattle.carte_wave.specs.declared.wave.Wave.{Wave}
-use Rattle.carte_wave.specs.Parts.{AllPassed, driven_in, runs_in}
 use Rattle.carte_wave.proofs.Drives.{passed_end, driven_end, runs_end}
 use Rattle.carte_wave.proofs.running.gather.Goals as goal
 

@@ -1,6 +1,5 @@
-use Rattle.std.proofs.Common.{◌≡◌, ℕ, List, Ok, Err, refl, sym, ◌∙◌, subst}
+use Rattle.std.proofs.Common.{ℕ, List, Ok, refl, ◌∙◌, subst}
 use Rattle.carte_effect.specs.declared.outcome.Made.{Made}
-use Rattle.carte_effect.specs.declared.look.Stuck.{Stuck}
 use Rattle.carte_bench.specs.Held.{spots_of}
 use Rattle.carte_bench.specs.Spots.{PutAt, slot_after}
 use Rattle.carte_progress.proofs.Answered.{on_ok_by}

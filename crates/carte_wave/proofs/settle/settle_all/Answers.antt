@@ -1,9 +1,8 @@
-use Rattle.std.proofs.Common.{◌≡◌, ℕ, List, ◌∷◌, None, ◌∙◌, arith, refl}
+use Rattle.std.proofs.Common.{◌≡◌, ◌∷◌, None, ◌∙◌, arith, refl}
 use Rattle.carte_book.specs.Book.{book_view}
 use Rattle.carte_record.specs.Kept.{kept_view}
 use Rattle.carte_bench.specs.Held.{spots_of}
 use Rattle.carte_wave.specs.Front.{line_of}
-use Rattle.carte_wave.specs.Settling.{AreBack}
 use Rattle.carte_wave.proofs.Drives.{no_items}
 use Rattle.carte_wave.proofs.Settled.{back_out, back_stop, back_rest, went_one, went_all}
 use Rattle.carte_wave.proofs.settle.settle_all.Goals as goal

@@ -1,4 +1,4 @@
-use Rattle.std.proofs.Common.{◌≡◌, ℕ, List, None, length}
+use Rattle.std.proofs.Common.{◌≡◌, None, length}
 use Rattle.carte_book.specs.Book.{book_view}
 use Rattle.carte_record.specs.Kept.{kept_view}
 use Rattle.carte_bench.specs.Held.{spots_of, book_of}

@@ -1,6 +1,5 @@
-use Rattle.std.proofs.Common.{◌≡◌, ◌<◌, ℕ, List, [], ◌∷◌, Some, None, refl, ◌∙◌, length}
+use Rattle.std.proofs.Common.{refl, ◌∙◌}
 use Rattle.carte_bench.specs.Held.{spots_of}
-use Rattle.carte_wave.specs.Settling.{TakesOne}
 use Rattle.carte_wave.proofs.Taken.{taking_all, taken_next, taken_out, gathers_all, no_keys}
 use Rattle.carte_wave.proofs.waves.take_all.Goals as goal
 

@@ -1,10 +1,9 @@
-use Rattle.std.proofs.Common.{◌≡◌, ℕ, List, None, true, refl, sym, ◌∙◌, subst}
+use Rattle.std.proofs.Common.{◌≡◌, None, ◌∙◌, subst}
 use Rattle.carte_book.specs.Book.{Book, book_view}
 use Rattle.carte_record.specs.Kept.{kept_view}
 use Rattle.carte_effect.specs.Ledger.{no_runs, with_later}
-use Rattle.carte_bench.specs.Held.{spots_of, book_of}
+use Rattle.carte_bench.specs.Held.{spots_of}
 use Rattle.carte_bench.specs.Spots.{sight_in}
-use Rattle.carte_progress.proofs.Answered.{on_ok_by}
 use Rattle.carte_wave.specs.Drives.{DroveAll}
 use Rattle.carte_wave.specs.Front.{line_of}
 use Rattle.carte_wave.proofs.Waved.{taken_ready, taken_once, wave_back, whole, waves_fewer, on_ok_both}

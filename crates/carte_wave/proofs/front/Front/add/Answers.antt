@@ -1,4 +1,4 @@
-use Rattle.std.proofs.Common.{ℕ, List, refl}
+use Rattle.std.proofs.Common.{refl}
 use Rattle.std.specs.BTreeSet.{contains}
 use Rattle.carte_name.specs.Names.{name_cmp}
 use Rattle.carte_wave.proofs.Sets.{put_only, put_stays, put_there}
