@@ -93,6 +93,9 @@ def builds(runs):
     runs.put("column.csv", column)
     runs.wants((0, "A9999 = 9999\nran 9999, given up 0, reused 0\n", ""), "build", "column.csv", "column.state", "A9999")
     runs.wants((0, "A9999 = 9999\nran 0, given up 0, reused 9999\n", ""), "build", "column.csv", "column.state", "A9999")
+    anew = ("build", "column.csv", "column.anew", "A9999", "--scheduler", "restarting")
+    runs.wants((0, "A9999 = 9999\nran 9999, given up 9998, reused 0\n", ""), *anew)
+    runs.wants((0, "A9999 = 9999\nran 0, given up 0, reused 9999\n", ""), *anew)
 
 
 def generated(runs):
@@ -105,13 +108,17 @@ def generated(runs):
         front = f"keys {count}, inputs {inputs}\n{last}"
         runs.wants((0, f"{front}ran {ran}, given up 0, reused 0\n", ""), *words)
         runs.wants((0, f"{front}ran 0, given up 0, reused {ran}\n", ""), *words)
+        anew = ("generate", "none", f"{state}.anew", str(seed), str(count), "--scheduler", "restarting")
+        runs.wants((0, f"{front}ran {ran}, given up {ran - 1}, reused 0\n", ""), *anew)
+        runs.wants((0, f"{front}ran 0, given up 0, reused {ran}\n", ""), *anew)
         runs.put("made.toml", rule_file(seed, count))
         runs.wants((0, f"{last}ran 0, given up 0, reused {ran}\n", ""), "build", "made.toml", state, f"k{count - 1}")
     front = "keys 1000, inputs 100\nk999 = 242\n"
     for scheduler in histories.SCHEDULERS:
         for rebuilder in histories.REBUILDERS:
             words = ("generate", "none", f"made.{scheduler}.{rebuilder}", "1", "1000", "--scheduler", scheduler, "--rebuilder", rebuilder)
-            runs.wants((0, front + "ran 483, given up 0, reused 0\n", ""), *words)
+            given_up = 482 if scheduler == "restarting" else 0
+            runs.wants((0, f"{front}ran 483, given up {given_up}, reused 0\n", ""), *words)
     runs.wants(DEVICE, "generate", "none", "folder", "1", "2")
     with open("/dev/full", "w") as full:
         runs.wants((5, "", ""), "generate", "none", "unheard", "1", "2", stdout=full)
