@@ -83,9 +83,13 @@ def builds(runs):
     for scheduler in histories.SCHEDULERS:
         for rebuilder in histories.REBUILDERS:
             state, words = f"{scheduler}.{rebuilder}", ("--scheduler", scheduler, "--rebuilder", rebuilder)
-            reused = 1 if scheduler == "suspending" and rebuilder in ("dirty", "deep") else 2
+            # Deep traces lead to inputs alone, so a build that restarts finishes B2 first where it is held, and once writes that order.
+            is_reordered = (scheduler, rebuilder) == ("restarting", "deep")
+            reused = 1 if is_reordered or scheduler == "suspending" and rebuilder in ("dirty", "deep") else 2
             given_up = 1 if scheduler == "restarting" else 0
             runs.wants((0, f"B2 = 60\nran 2, given up {given_up}, reused 0\n", ""), "build", "p.csv", state, "B2", *words)
+            if is_reordered:
+                runs.wants((0, "B2 = 60\nran 0, given up 0, reused 1\n", ""), "build", "p.csv", state, "B2", *words)
             before = (runs.folder / state).read_bytes()
             runs.wants((0, f"B2 = 60\nran 0, given up 0, reused {reused}\n", ""), "build", "p.csv", state, "b2", *words)
             runs.same("a state that nothing changes", (runs.folder / state).read_bytes(), before)
