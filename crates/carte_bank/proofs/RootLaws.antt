@@ -1,10 +1,10 @@
 -- What a file with roots holds, both ways, and what keeps it.
-use Rattle.std.proofs.Common.{◌≡◌, ◌≢◌, ℕ, ◌+◌, ◌-◌, ◌<◌, ◌≤◌, true, false, Bool, Option, Some, None, List, ◌++◌, length, take, drop, get_or, arith, refl, sym, ◌∙◌, ap, subst, inl, inr, length-take, length-drop}
+use Rattle.std.proofs.Common.{◌≡◌, ◌≢◌, ℕ, ◌+◌, ◌<◌, ◌≤◌, true, false, Bool, Option, Some, None, List, ◌++◌, length, take, drop, get_or, arith, refl, sym, ◌∙◌, ap, subst, inl, inr, length-take, length-drop}
 use Rattle.std.specs.Prelude.{◌==◌, ◌&&◌, not, nat_le}
 use Rattle.std.proofs.lemmas.Bool.{cases_Bool}
 use Rattle.std.proofs.lemmas.Bool.Decides.{nat_tests}
 use Rattle.std.proofs.lemmas.Grind.{same_number_lists}
-use Rattle.std.proofs.lemmas.List.{drop-append-le, get_or-drop, get_or-take, take-append-drop}
+use Rattle.std.proofs.lemmas.List.{get_or-drop, get_or-take, take-append-drop}
 use Rattle.std.specs.Int.{from_be_bytes, w64}
 use Rattle.carte_bank.specs.Moves.{first_of, move_in, stated_at}
 use Rattle.carte_bank.specs.Roots.{Known, active_of, bank_at, bank_by, bank_of, greater_of, root_at, roots_as, roots_of, started}
@@ -182,7 +182,7 @@ no_move limit file is = no_move_of limit file (move_in limit file) is
 
 -- ---- what keeps it
 
-same_taken : (n lo hi : ℕ) (file c : List ℕ) → Same lo hi file c → lo + n ≤ hi → hi ≤ length file → hi ≤ length c
+pub same_taken : (n lo hi : ℕ) (file c : List ℕ) → Same lo hi file c → lo + n ≤ hi → hi ≤ length file → hi ≤ length c
     → take n (drop lo c) ≡ take n (drop lo file)
 same_taken n lo hi file c same fits in_file in_c = same_number_lists _ _
     (omega (arith, length-take n (drop lo c), length-take n (drop lo file), length-drop lo c, length-drop lo file))
@@ -190,7 +190,7 @@ same_taken n lo hi file c same fits in_file in_c = same_number_lists _ _
     let lt : k < n = omega (arith, length-take n (drop lo c), below) in
     get_or-take n (drop lo c) k 0 lt ∙ get_or-drop lo c k 0 ∙ same (lo + k) (omega arith) (omega (arith, lt)) ∙ sym (get_or-take n (drop lo file) k 0 lt ∙ get_or-drop lo file k 0))
 
-same_number : (at lo hi : ℕ) (file c : List ℕ) → Same lo hi file c → lo ≤ at → at + 8 ≤ hi → hi ≤ length file → hi ≤ length c
+pub same_number : (at lo hi : ℕ) (file c : List ℕ) → Same lo hi file c → lo ≤ at → at + 8 ≤ hi → hi ≤ length file → hi ≤ length c
     → stated_at at c ≡ stated_at at file
 unfolding stated_at
 same_number at lo hi file c same from fits in_file in_c =

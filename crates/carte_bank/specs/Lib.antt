@@ -1,3 +1,4 @@
 pub mod Moves
 pub mod Roots
 pub mod Found
+pub mod Turns

@@ -11,15 +11,18 @@
 //! its gate byte is opened alone, once the bank that it names is on the disk. The generation says which of two
 //! open ones is the later, so that the older needn't be closed in the same moment.
 //!
-//! This crate has what a file's bytes say of its bank; which bodies stand there is the journal's.
+//! This crate has what a file's bytes say of its bank, and what a rewriting makes of its roots; which bodies stand there
+//! is the journal's.
 #![tactic(auto)]
 
 mod frames;
 mod moves;
 mod reads;
 mod roots;
+mod turns;
 
 pub use frames::{FrameAt, read_frame};
 pub use moves::{Move, find_move};
 pub use reads::{read_byte, read_number};
 pub use roots::{Root, Roots, read_roots};
+pub use turns::root_bytes;

@@ -1,18 +1,17 @@
 -- What keeps the bank of a file: bytes that are the same up to a gate byte, and bodies that are no moves.
-use Rattle.std.proofs.Common.{◌≡◌, ℕ, suc, zero, ◌+◌, ◌<◌, ◌≤◌, true, false, Option, Some, None, List, [], ◌∷◌, ◌++◌, length, take, drop, get_or, arith, refl, sym, ◌∙◌, ap, subst, inl, inr, append-nil}
+use Rattle.std.proofs.Common.{◌≡◌, ℕ, suc, zero, ◌+◌, ◌<◌, ◌≤◌, false, Option, Some, None, List, [], ◌∷◌, ◌++◌, length, take, drop, arith, refl, sym, ◌∙◌, ap, subst, inl, inr, append-nil}
 use Rattle.std.specs.Prelude.{if◌then◌else◌}
 use Rattle.std.proofs.lemmas.Bool.{cases_Bool}
-use Rattle.std.proofs.lemmas.List.{get_or-take}
 use Rattle.carte_bank.specs.Moves.{body_behind, first_of, is_move, move_by, stated}
 use Rattle.carte_bank.specs.Roots.{Known, bank_at, bank_of, start_of}
 use Rattle.carte_bank.specs.declared.moves.Move.{Move}
 use Rattle.carte_bank.specs.declared.roots.Roots.{Roots}
 use Rattle.carte_bank.proofs.MoveLaws.{first_met, first_past, first_shut}
-use Rattle.carte_bank.proofs.RootLaws.{Rooted, Same, has_roots, no_move, rooted, same_roots}
+use Rattle.carte_bank.proofs.RootLaws.{Rooted, has_roots, no_move, rooted, same_roots}
 use Rattle.carte_journal.specs.Frames.{BodyAt, Ends, walk}
 use Rattle.carte_journal.specs.Ready.{HasFrames}
-use Rattle.carte_journal.proofs.Files.{gate_from}
-use Rattle.carte_journal.proofs.Walks.{Step, closes, opens, step}
+use Rattle.carte_journal.proofs.Files.{gate_from, same_front}
+use Rattle.carte_journal.proofs.Walks.{closes, opens, step}
 
 -- the first move among bodies
 abbrev pub first_move : List BodyAt → Option Move
@@ -48,11 +47,6 @@ none_more (body ∷ bodies) more none other =
 
 no_move_one : (gate : ℕ) (body : List ℕ) → is_move body ≡ false → first_move ((gate, body) ∷ []) ≡ None
 no_move_one gate body other = rw other refl
-
--- bytes that are the same in front of a gate byte
-pub same_front : (gate hi : ℕ) (file c : List ℕ) → take gate c ≡ take gate file → hi ≤ gate → Same 0 hi file c
-same_front gate hi file c same le i low high =
-    sym (get_or-take gate c i 0 (omega (arith, le, high))) ∙ ap (λ xs. get_or xs i 0) same ∙ get_or-take gate file i 0 (omega (arith, le, high))
 
 pub bank_stays : (limit gate end : ℕ) (bank : Option Roots) (bodies more : List BodyAt) (file c : List ℕ) → bank_at limit file ≡ Known bank
     → HasFrames limit (start_of bank) gate bodies file → take gate c ≡ take gate file → gate < length c → first_move more ≡ None

@@ -26,7 +26,7 @@ module _ (j : Standing) (bodies : List BodyAt) (s : Story) (rest : IsAtRest j bo
   is_short : j.fresh ≡ true → length s.now.reads ≤ 9
   is_short fresh = leb-true (length s.now.reads) 9 (sym rest.read.fresh_is ∙ fresh)
 
-  is_new : j.fresh ≡ true → Ends 8 [] ≡ Ends j.gate bodies
+  pub is_new : j.fresh ≡ true → Ends 8 [] ≡ Ends j.gate bodies
   is_new fresh = sym (new_reads j.limit s.now.reads (is_short fresh)) ∙ rest.read.reads
 
   -- while the header is written

@@ -2,5 +2,10 @@ pub mod Walks
 pub mod Files
 pub mod Banks
 pub mod Readings
+pub mod Regions
+pub mod Flips
+pub mod FirstFlip
+pub mod Rewritings
 pub mod Commits
+pub mod Rewritten
 pub mod ManyCommits

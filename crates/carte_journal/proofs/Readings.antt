@@ -93,7 +93,7 @@ pub started_torn : (limit : ℕ) (file c : List ℕ) → length file ≤ 9 → I
 started_torn limit file c short torn = new_reads limit c (omega (arith, torn.no_longer))
 
 module _ (limit : ℕ) (bank : Option Roots) (gate : ℕ) (bodies : List BodyAt) (file : List ℕ) (ready : IsReady limit bank gate bodies file) where
-  begins_too : (c : List ℕ) → take gate c ≡ take gate file → take 8 c ≡ header
+  pub begins_too : (c : List ℕ) → take gate c ≡ take gate file → take 8 c ≡ header
   begins_too c same =
       let from : 8 ≤ gate = omega (arith, start_from limit bank file ready.bank_is, gate_from limit (start_of bank) gate bodies file ready.frames) in
       sym (take-take 8 gate c from) ∙ ap (take 8) same ∙ take-take 8 gate file from ∙ ready.begins

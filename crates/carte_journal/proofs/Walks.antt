@@ -169,30 +169,32 @@ walk_past limit at (x ∷ front) bytes =
 length-piece_of : (body : List ℕ) → length (piece_of body) ≡ 5 + length body
 length-piece_of body = simp (length-append) (omega arith)
 
--- an open frame that is whole, and a closed gate byte behind it
-whole : (limit gate n : ℕ) (front behind body : List ℕ) → length front ≡ 4 + n → stated (front ++ 0 ∷ behind) ≡ n
-    → take n (drop 4 (front ++ 0 ∷ behind)) ≡ body → gate + 6 + n ≤ limit
-    → walk limit gate 0 (1 ∷ (front ++ 0 ∷ behind)) ≡ Ends (gate + 5 + n) ((gate, body) ∷ [])
-whole limit gate n front behind body len size is fits =
-    let bytes : List ℕ = front ++ 0 ∷ behind in
-    let total : length (front ++ 0 ∷ behind) ≡ 5 + n + length behind = simp (length-append) (omega arith) in
+stated_piece : (body rest : List ℕ) → length body < 2 ^ 32 → stated (to_be_bytes w32 (length body) ++ body ++ rest) ≡ length body
+unfolding stated
+stated_piece body rest short = from_be_bytes-to_be_bytes_4 (length body) short
+
+-- an open frame that is whole, and the frames behind it
+pub frame_then : (limit gate : ℕ) (body rest : List ℕ) → length body < 2 ^ 32 → 0 < length rest → end_of gate body + 1 ≤ limit
+    → walk limit gate 0 (1 ∷ (to_be_bytes w32 (length body) ++ body ++ rest)) ≡ add (gate, body) (walk limit (end_of gate body) 0 rest)
+frame_then limit gate body rest short some fits =
+    let front : List ℕ = to_be_bytes w32 (length body) ++ body in
+    let bytes : List ℕ = front ++ rest in
+    let size : stated bytes ≡ length body = stated_piece body rest short in
+    let len : length front ≡ 4 + length body = simp (length-append) (omega arith) in
+    let total : length bytes ≡ 4 + length body + length rest = omega (arith, len, length-append front rest) in
     walk_open limit gate 1 bytes refl (fits_lies limit gate bytes (omega (arith, total, size)) (omega (arith, size)))
     ∙ ap (λ k. add (gate, take k (drop 4 bytes)) (walk limit (suc gate) (4 + k) bytes)) size
-    ∙ ap (λ b. add (gate, b) (walk limit (suc gate) (4 + n) bytes)) is
+    ∙ ap (λ b. add (gate, b) (walk limit (suc gate) (4 + length body) bytes)) (take_at body rest (length body) refl)
     ∙ ap (λ k. add (gate, body) (walk limit (suc gate) k bytes)) (sym len)
-    ∙ ap (add (gate, body)) (walk_past limit (suc gate) front (0 ∷ behind) ∙ walk_closed limit (suc gate + length front) 0 behind (λ never. absurd (cc)))
-    ∙ ap (λ k. Ends k ((gate, body) ∷ [])) (let e : suc gate + length front ≡ gate + 5 + n = omega arith in e)
-
-stated_piece : (body behind : List ℕ) → length body < 2 ^ 32 → stated (to_be_bytes w32 (length body) ++ body ++ 0 ∷ behind) ≡ length body
-unfolding stated
-stated_piece body behind short = from_be_bytes-to_be_bytes_4 (length body) short
+    ∙ ap (add (gate, body)) (walk_past limit (suc gate) front rest)
+    ∙ ap (λ k. add (gate, body) (walk limit k 0 rest)) (let e : suc gate + length front ≡ end_of gate body = omega (arith, len) in e)
 
 pub walk_frame : (limit gate : ℕ) (body behind : List ℕ) → length body < 2 ^ 32 → end_of gate body + 1 ≤ limit
     → walk limit gate 0 (1 ∷ (piece_of body ++ behind)) ≡ Ends (end_of gate body) ((gate, body) ∷ [])
 walk_frame limit gate body behind short fits =
     ap (λ bytes. walk limit gate 0 (1 ∷ bytes)) (append_assoc (to_be_bytes w32 (length body) ++ body) (0 ∷ []) behind)
-    ∙ whole limit gate (length body) (to_be_bytes w32 (length body) ++ body) behind body (omega arith) (stated_piece body behind short)
-    (take_at body (0 ∷ behind) (length body) refl) (omega arith)
+    ∙ frame_then limit gate body (0 ∷ behind) short (omega arith) fits
+    ∙ ap (add (gate, body)) (walk_closed limit (end_of gate body) 0 behind (λ never. absurd (cc)))
 
 -- in one byte there is no frame
 pub one_byte : (limit at : ℕ) (bytes : List ℕ) (gate : ℕ) (bodies : List BodyAt) → length bytes ≤ 1

@@ -1,13 +1,21 @@
-ghost use Rattle.std.specs.Prelude.{◌≡◌, ◌+◌, ◌<◌, ◌≤◌, ◌^◌, ◌++◌, ◌∷◌, ◌↔◌, [], true, false, None, IsTrue, IsOkUnless, OnOk, OnErr, Err, List};
+ghost use Rattle.std.specs.Prelude.{◌≡◌, ◌+◌, ◌<◌, ◌≤◌, ◌^◌, ◌++◌, ◌∷◌, ◌↔◌, [], true, false, None, IsTrue, IsOkUnless, length, IfOk, OnOk, OnErr, Err, List, ℕ};
 ghost use Rattle.carte_io.specs.Causes.{HasCauseOf};
 ghost use Rattle.carte_io.specs.Stations.{StepsThrough};
 ghost use Rattle.carte_journal.specs.Frames.{BodyAt, Ends};
 ghost use Rattle.carte_journal.specs.Journals.{IsAtRest, IsReadAs, broke, calls_of, committed, needed_for, step_of};
+ghost use Rattle.carte_bank.specs.Roots.{start_of};
+ghost use Rattle.carte_bank.specs.Turns.{AreInFront};
+ghost use Rattle.carte_journal.specs.Regions.{AreShort, IsPlannedOn, IsRegionOf, IsRewritable, bytes_of, calls_to_turn, needs_with, placed_at, region_end, region_of, rewritten, step_to, told_bank};
 
+use crate::load::first_gate;
+use crate::region::place;
+use crate::rewrite::turn;
 use crate::writes::append;
-use crate::{CommitFault, Frame};
+use crate::{Bank, Bodies, CommitFault, Frame, Region};
 use carte_bank::Roots;
 use carte_io::Disk;
+use carte_value::NoMemory;
+use std::alloc::Global;
 use std::marker::Model;
 
 /// Where the frames of a file end. It doesn't hold the disk: each call that takes one is meant for the disk that
@@ -24,13 +32,15 @@ pub struct Journal {
 
 impl Model for Journal {
     ghost use Rattle.std.specs.Prelude.{◌<◌, ◌≤◌, ◌^◌};
+    ghost use Rattle.carte_bank.specs.Roots.{start_of};
+    ghost use Rattle.carte_bank.specs.Turns.{AreInFront};
     ghost use Rattle.carte_journal.specs.Journals.{Standing};
 
     ghost Value = { Standing };
 
     ghost view = { λ j. record { gate = j.gate; limit = j.limit; fresh = j.fresh; broken = j.broken; bank = j.bank; frames = j.frames } };
 
-    ghost invariant = { λ j. (j.gate < 2 ^ 32) × (j.limit < 2 ^ 32) × (j.frames ≤ j.gate) };
+    ghost invariant = { λ j. (j.gate < 2 ^ 32) × (j.limit < 2 ^ 32) × (j.frames ≤ j.gate) × (start_of j.bank ≤ j.gate) × AreInFront j.bank };
 }
 
 impl Journal {
@@ -54,6 +64,8 @@ impl Journal {
         requires gate { gate < 2 ^ 32 }
         requires limit { limit < 2 ^ 32 }
         requires frames { frames ≤ gate }
+        requires start { start_of bank ≤ gate }
+        requires roots { AreInFront bank }
         ensures { result ≡ record { gate = gate; limit = limit; fresh = false; broken = false; bank = bank; frames = frames } }
     {
         Journal {
@@ -80,6 +92,37 @@ impl Journal {
         ensures small { self.now.limit < 2 ^ 32 }
     {
         self.limit
+    }
+
+    /// The bank that has its frames.
+    pub fn bank(&self) -> Bank
+        ensures { result ≡ told_bank self.now }
+    {
+        Bank {
+            start: first_gate(self.bank),
+            end: self.gate + 1,
+            frames: self.frames,
+            generation: self.bank.map_or(0, |roots| roots.generation),
+        }
+    }
+
+    /// The region of these bodies, for a rewriting before the next commit. Their offsets don't count. No call of a
+    /// disk is made.
+    pub fn plan(&self, alloc: Global, bodies: &Bodies) -> Result<Region, NoMemory>
+        requires { AreShort (bytes_of bodies.now) }
+        ensures planned { IfOk result (λ r. IsPlannedOn self.now r) }
+        ensures region { IfOk result (λ r. IsRegionOf r (bytes_of bodies.now)) }
+        ensures needs { IfOk result (λ r. region_end r ≡ needs_with self.now (length (region_of (bytes_of bodies.now)))) }
+    {
+        Region::of(alloc, self.gate, self.bank, bodies)
+    }
+
+    /// How many bytes the file needs with a region of this length, which needn't be planned yet.
+    pub fn needed_with(&self, length: u64) -> u64
+        requires { length < 2 ^ 63 }
+        ensures { result ≡ needs_with self.now length }
+    {
+        place(self.gate, self.bank, length) + length
     }
 
     /// How many bytes the file needs with one more body of this length.
@@ -134,5 +177,49 @@ impl Journal {
                 Err(CommitFault::DiskFault)
             }
         }
+    }
+
+    /// Writes a region over the list or the bank that has the frames, as a bank of its own. After Ok every later image of
+    /// the file has the bodies of the region; at each moment before, an image has these or those that were there. It makes
+    /// 4 writing calls as the first one of a file, and 5 or 7 as a later one, and takes no memory.
+    pub fn rewrite<D: Disk>(&mut self, disk: &mut D, region: &Region) -> Result<(), CommitFault>
+        requires whole { self.old.broken ≡ false }
+        requires planned { IsPlannedOn self.old region.now }
+        requires rewritable { IsRewritable self.old }
+
+        // Where there is no room, no call of the disk is made.
+        ensures full { self.old.limit < region_end region.now
+            → (result ≡ Err (CommitFault.Full (region_end region.now) self.old.limit)) × (self.new ≡ self.old) × (disk.new ≡ disk.old) }
+        ensures room { region_end region.now ≤ self.old.limit → IsOkUnless result CommitFault.DiskFault }
+        ensures cause { HasCauseOf CommitFault.DiskFault (D.faults disk.old) (D.faults disk.new) result }
+
+        ensures place { OnOk result (self.new ≡ rewritten self.old region.now) }
+        ensures fault { result ≡ Err CommitFault.DiskFault → self.new ≡ broke self.old }
+        ensures broken { IsTrue self.new.broken ↔ (result ≡ Err CommitFault.DiskFault) }
+
+        ensures calls { D.tells → OnOk result ((D.story disk.new).now.passed ≡ (D.story disk.old).now.passed + calls_to_turn self.old.bank) }
+        ensures fewer { D.tells → OnErr result (((D.story disk.old).now.passed ≤ (D.story disk.new).now.passed)
+            × ((D.story disk.new).now.passed < (D.story disk.old).now.passed + calls_to_turn self.old.bank)) }
+
+        ensures ok { D.tells → (bodies : List BodyAt) (new : List (List ℕ)) → IsAtRest self.old bodies (D.story disk.old) → IsRegionOf region.now new
+            → OnOk result (IsAtRest self.new (placed_at region.now.at new) (D.story disk.new)) }
+        ensures any_moment { D.tells → (bodies : List BodyAt) (new : List (List ℕ)) → IsAtRest self.old bodies (D.story disk.old) → IsRegionOf region.now new
+            → StepsThrough (IsReadAs self.old.limit) (Ends self.old.gate bodies) (step_to region.now new ∷ []) (D.story disk.old) (D.story disk.new) }
+    {
+        let end = region.needed();
+        if end > self.limit {
+            return Err(CommitFault::Full {
+                needed: end,
+                limit: self.limit,
+            });
+        }
+        let Ok(roots) = turn(disk, region) else {
+            self.broken = true;
+            return Err(CommitFault::DiskFault);
+        };
+        self.gate = end - 1;
+        self.bank = Some(roots);
+        self.frames = region.frames();
+        Ok(())
     }
 }

@@ -14,10 +14,16 @@
 //! frames count in their place: see `carte_bank`. The contract of `commit` says what an image
 //! reads as, at each moment. For calls one after another that becomes a chain: see `commit_all`.
 //!
+//! A rewriting writes other bodies as a region, a bank of its own, and then has the file lead to it by the one byte
+//! that counts, as a commit does. The region goes where nothing stands that is still read, so that up to that byte
+//! each image has what was there. Writing a new file and renaming it would do without roots, but a disk is one
+//! open and locked file here. A region is planned before it is written, so that the rewriting takes no memory.
+//!
 //! A journal doesn't hold its disk. It would be simpler to use, but a program would have to take it apart for
 //! whatever else it does with the disk.
 #![tactic(auto)]
 
+mod bank;
 mod body;
 mod faults;
 mod frame;
@@ -25,10 +31,14 @@ mod journal;
 mod load;
 mod many;
 mod reads;
+mod region;
+mod rewrite;
 mod writes;
 
+pub use bank::Bank;
 pub use body::{Bodies, Body};
 pub use faults::{CommitFault, LoadFault};
 pub use frame::Frame;
 pub use journal::Journal;
 pub use many::commit_all;
+pub use region::Region;

@@ -2,6 +2,7 @@
 ghost use Rattle.std.specs.Prelude.{◌≡◌, ◌+◌, ◌-◌, ◌<◌, ◌≤◌, ◌^◌, ◌++◌, ◌∷◌, ℕ, [], true, false, length, MatchOption, IsOkUnless, IfOk, IfSome, Err};
 ghost use Rattle.carte_io.specs.Causes.{HasCauseOf};
 ghost use Rattle.carte_bank.specs.Roots.{Astray, Known, bank_at, bank_by, roots_of, start_of};
+ghost use Rattle.carte_bank.specs.Turns.{AreInFront};
 ghost use Rattle.carte_journal.specs.Frames.{Bad, Ends, add, end_of, frames_from, reading};
 ghost use Rattle.carte_journal.specs.Journals.{IsRead};
 
@@ -49,6 +50,7 @@ fn load_bank<D: Disk>(disk: &mut D, len: u64, limit: u64) -> Result<Option<Roots
     requires len { D.tells → len ≡ length (D.story disk.old).now.reads }
     ensures known { D.tells → IfOk result (λ bank. bank_at limit (D.story disk.old).now.reads ≡ Known bank) }
     ensures inside { IfOk result (λ bank. (start_of bank < len) × (start_of bank < 2 ^ 32)) }
+    ensures roots { IfOk result (λ bank. AreInFront bank) }
     ensures bad { D.tells → (offset : ℕ) → result ≡ Err (LoadFault.BadState offset)
         → bank_at limit (D.story disk.old).now.reads ≡ Astray offset }
     ensures cause { HasCauseOf LoadFault.DiskFault (D.faults disk.old) (D.faults disk.new) result }
@@ -72,6 +74,7 @@ fn load_roots<D: Disk>(
     requires len { D.tells → len ≡ length (D.story disk.old).now.reads }
     ensures known { D.tells → IfOk result (λ bank. bank_by found.gate (roots_of limit found (D.story disk.old).now.reads) ≡ Known bank) }
     ensures inside { IfOk result (λ bank. (start_of bank < len) × (start_of bank < 2 ^ 32)) }
+    ensures roots { IfOk result (λ bank. AreInFront bank) }
     ensures bad { D.tells → (offset : ℕ) → result ≡ Err (LoadFault.BadState offset)
         → bank_by found.gate (roots_of limit found (D.story disk.old).now.reads) ≡ Astray offset }
     ensures cause { HasCauseOf LoadFault.DiskFault (D.faults disk.old) (D.faults disk.new) result }
@@ -83,8 +86,8 @@ fn load_roots<D: Disk>(
     }
 }
 
-// Where the frames of a bank start.
-fn first_gate(bank: Option<Roots>) -> u64
+/// Where the frames of a bank start.
+pub(crate) fn first_gate(bank: Option<Roots>) -> u64
     ensures { result ≡ start_of bank }
 {
     match bank {
@@ -107,6 +110,7 @@ fn load_bodies<D: Disk>(
     requires len { D.tells → len ≡ length (D.story disk.old).now.reads }
     ensures read { D.tells → IfOk result (λ r. frames_from limit start (D.story disk.old).now.reads ≡ Ends r.0 r.1) }
     ensures gate { IfOk result (λ r. r.0 < 2 ^ 32) }
+    ensures behind { IfOk result (λ r. start ≤ r.0) }
     ensures frames { IfOk result (λ r. length r.1 ≤ r.0) }
     ensures bad { D.tells → (offset : ℕ) → result ≡ Err (LoadFault.BadState offset)
         → frames_from limit start (D.story disk.old).now.reads ≡ Bad offset }

@@ -49,14 +49,24 @@ fn write_piece<D: Disk>(disk: &mut D, gate: u64, frame: &Frame) -> Result<(), Fa
     write_through(disk, gate + 1, frame.piece())
 }
 
-// Opens a gate byte.
-fn open_gate<D: Disk>(disk: &mut D, gate: u64) -> Result<(), Failed>
+/// Opens a gate byte.
+pub(crate) fn open_gate<D: Disk>(disk: &mut D, gate: u64) -> Result<(), Failed>
     ensures ok { D.tells → OnOk result (D.story disk.new ≡ did_sync (wrote gate (1 ∷ []) (D.story disk.old))) }
     ensures any_moment { D.tells → IsSettled (D.story disk.old).now → IsWrittenThrough gate (1 ∷ []) (D.story disk.old) (D.story disk.new) }
     ensures fewer { D.tells → OnErr result (((D.story disk.old).now.passed ≤ (D.story disk.new).now.passed) × ((D.story disk.new).now.passed ≤ (D.story disk.old).now.passed + 1)) }
     ensures cause { HasCause (D.faults disk.old) (D.faults disk.new) result }
 {
     write_through(disk, gate, [1].as_slice())
+}
+
+/// Closes a gate byte.
+pub(crate) fn close_gate<D: Disk>(disk: &mut D, gate: u64) -> Result<(), Failed>
+    ensures ok { D.tells → OnOk result (D.story disk.new ≡ did_sync (wrote gate (0 ∷ []) (D.story disk.old))) }
+    ensures any_moment { D.tells → IsSettled (D.story disk.old).now → IsWrittenThrough gate (0 ∷ []) (D.story disk.old) (D.story disk.new) }
+    ensures fewer { D.tells → OnErr result (((D.story disk.old).now.passed ≤ (D.story disk.new).now.passed) × ((D.story disk.new).now.passed ≤ (D.story disk.old).now.passed + 1)) }
+    ensures cause { HasCause (D.faults disk.old) (D.faults disk.new) result }
+{
+    write_through(disk, gate, [0].as_slice())
 }
 
 /// Writes the header of a new file.

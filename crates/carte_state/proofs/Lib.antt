@@ -3,3 +3,4 @@ pub mod Applies
 pub mod Putting
 pub mod Runs
 pub mod History
+pub mod Rewritings

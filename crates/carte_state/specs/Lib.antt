@@ -2,5 +2,6 @@ pub mod Around
 pub mod Folding
 pub mod States
 pub mod Applying
+pub mod Rewriting
 pub mod Runs
 pub mod Histories

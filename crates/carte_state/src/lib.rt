@@ -14,6 +14,9 @@
 //! state is broken and is to be loaded again. So nothing is copied, and nothing has to be undone. A batch that changes
 //! nothing makes no call.
 //!
+//! A rewriting puts a region in the place of all bodies, which makes of nothing what is kept: so it is a step from that to
+//! the same. What the region has is the caller's, since it is worked out from what is kept and not from the file.
+//!
 //! The value of a state has the lists of what is kept, since a type's value can't hold functions; clauses go by
 //! `kept_in`, which sees them as functions, so that two that are alike are equal.
 #![tactic(auto)]
@@ -24,7 +27,7 @@ mod load;
 mod many;
 mod state;
 
-pub use carte_journal::LoadFault;
+pub use carte_journal::{Bank, CommitFault, LoadFault, Region};
 pub use fault::ApplyFault;
 pub use laws::{bad_at_one, history_keeps, keeps_one, keeps_or_bad};
 pub use many::apply_all;

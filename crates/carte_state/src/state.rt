@@ -1,4 +1,4 @@
-ghost use Rattle.std.specs.Prelude.{◌≡◌, ◌≢◌, ◌<◌, ◌≤◌, ℕ, false, option_copied, IfOk, OnOk, OnErr, Ok, Err};
+ghost use Rattle.std.specs.Prelude.{◌≡◌, ◌≢◌, ◌+◌, ◌<◌, ◌≤◌, ◌^◌, ℕ, false, length, option_copied, IfOk, IsOkUnless, OnOk, OnErr, Ok, Err};
 ghost use Rattle.carte_codec.specs.Each.{EachFits};
 ghost use Rattle.carte_state.specs.Around.{over_disk};
 ghost use Rattle.carte_record.specs.Bodies.{IsBody, IsUnmarked, spelled_batch};
@@ -6,12 +6,18 @@ ghost use Rattle.carte_record.specs.Folds.{apply, with_marks};
 ghost use Rattle.carte_record.specs.Kept.{kept_view};
 ghost use Rattle.carte_record.specs.Marked.{CanBeMarked, lists_marked};
 ghost use Rattle.carte_state.specs.Applying.{Applies};
-ghost use Rattle.carte_state.specs.States.{Stand as SomeStand, kept_in, needs_for};
+ghost use Rattle.carte_state.specs.Folding.{Keeps};
+ghost use Rattle.carte_state.specs.Rewriting.{IsRegionFor, step_over, with_journal};
+ghost use Rattle.carte_state.specs.States.{IsKeptOn, Stand as SomeStand, kept_in, needs_for};
+ghost use Rattle.carte_io.specs.Causes.{HasCauseOf};
+ghost use Rattle.carte_io.specs.Stations.{StepsThrough};
+ghost use Rattle.carte_journal.specs.Journals.{broke};
+ghost use Rattle.carte_journal.specs.Regions.{AreShort, IsPlannedOn, IsRegionOf, IsRewritable, bytes_of, calls_to_turn, needs_with, region_end, region_of, rewritten, told_bank};
 
 use crate::ApplyFault;
 use crate::fault::fault_of;
 use carte_io::Disk;
-use carte_journal::{Frame, Journal};
+use carte_journal::{Bank, Bodies, CommitFault, Frame, Journal, Region};
 use carte_record::{Batch, Kept};
 use carte_value::{Digest, Names, NoMemory, Value};
 use std::alloc::Global;
@@ -78,6 +84,67 @@ impl State {
         ensures { result ≡ self.now.journal.broken }
     {
         self.journal.is_broken()
+    }
+
+    /// The bank of its journal.
+    pub fn bank(&self) -> Bank
+        ensures { result ≡ told_bank self.now.journal }
+    {
+        self.journal.bank()
+    }
+
+    /// The most bytes that its file may have.
+    pub fn limit(&self) -> u64
+        ensures { result ≡ self.now.journal.limit }
+    {
+        self.journal.limit()
+    }
+
+    /// How many bytes the file needs with a region of this length, which needn't be planned yet.
+    pub fn needed_with(&self, length: u64) -> u64
+        requires { length < 2 ^ 63 }
+        ensures { result ≡ needs_with self.now.journal length }
+    {
+        self.journal.needed_with(length)
+    }
+
+    /// The region of these bodies, for a rewriting before the next batch is applied. No call of a disk is made.
+    pub fn plan(&self, alloc: Global, bodies: &Bodies) -> Result<Region, NoMemory>
+        requires { AreShort (bytes_of bodies.now) }
+        ensures planned { IfOk result (λ r. IsPlannedOn self.now.journal r) }
+        ensures region { IfOk result (λ r. IsRegionOf r (bytes_of bodies.now)) }
+        ensures needs { IfOk result (λ r. region_end r ≡ needs_with self.now.journal (length (region_of (bytes_of bodies.now)))) }
+    {
+        self.journal.plan(alloc, bodies)
+    }
+
+    /// Writes a region, whose bodies make what is kept, in the place of all bodies. At each moment an image of the file
+    /// keeps what is kept. It makes 4 writing calls as the first one of a file, and 5 or 7 as a later one, and takes no
+    /// memory.
+    pub fn rewrite<D: Disk>(&mut self, disk: &mut D, region: &Region) -> Result<(), CommitFault>
+        requires whole { self.old.journal.broken ≡ false }
+        requires planned { IsPlannedOn self.old.journal region.now }
+        requires rewritable { IsRewritable self.old.journal }
+        requires alike { IsRegionFor (kept_in self.old) region.now }
+
+        // Where there is no room, no call of the disk is made.
+        ensures full { self.old.journal.limit < region_end region.now
+            → (result ≡ Err (CommitFault.Full (region_end region.now) self.old.journal.limit)) × (self.new ≡ self.old) × (disk.new ≡ disk.old) }
+        ensures room { region_end region.now ≤ self.old.journal.limit → IsOkUnless result CommitFault.DiskFault }
+        ensures cause { HasCauseOf CommitFault.DiskFault (D.faults disk.old) (D.faults disk.new) result }
+
+        ensures place { OnOk result (self.new ≡ with_journal self.old (rewritten self.old.journal region.now)) }
+        ensures fault { result ≡ Err CommitFault.DiskFault → self.new ≡ with_journal self.old (broke self.old.journal) }
+
+        ensures calls { D.tells → OnOk result ((D.story disk.new).now.passed ≡ (D.story disk.old).now.passed + calls_to_turn self.old.journal.bank) }
+        ensures fewer { D.tells → OnErr result (((D.story disk.old).now.passed ≤ (D.story disk.new).now.passed)
+            × ((D.story disk.new).now.passed < (D.story disk.old).now.passed + calls_to_turn self.old.journal.bank)) }
+
+        ensures rest { D.tells → IsKeptOn self.old (D.story disk.old) → OnOk result (IsKeptOn self.new (D.story disk.new)) }
+        ensures steps { D.tells → IsKeptOn self.old (D.story disk.old)
+            → StepsThrough (Keeps self.old.journal.limit) (kept_in self.old) (step_over region.now (kept_in self.old)) (D.story disk.old) (D.story disk.new) }
+    {
+        self.journal.rewrite(disk, region)
     }
 
     /// Puts a batch into what is kept, on the disk and here. After Ok every later image of the file keeps it; at each

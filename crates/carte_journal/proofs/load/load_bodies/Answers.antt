@@ -30,6 +30,7 @@ frames-preserved g c =
     record {
       inside = omega (arith, e.fits.1, ok.0);
       small = omega (arith, e.fits.0, ok.0, c.requires.limit);
+      behind = omega (arith, c.frames.invariant.behind, ok.0);
       same = λ told. e.same told ∙ c.frames.invariant.same told;
       room = omega (arith, c.frames.invariant.room, ok.0, ap length ok.1, length-append c.frames.bodies ((c.frames.gate, c.in-Some.bytes.items) ∷ []));
       kept = e.cause.passed (λ never. absurd (cc)) ∙ c.frames.invariant.kept;

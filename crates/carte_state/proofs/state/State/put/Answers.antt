@@ -1,4 +1,4 @@
-use Rattle.std.proofs.Common.{◌≡◌, ◌+◌, ◌<◌, ◌≤◌, false, Ok, Err, refl, sym, ◌∙◌, ◌++◌, ◌∷◌, [], ap, subst, inr}
+use Rattle.std.proofs.Common.{◌≡◌, ◌+◌, ◌<◌, ◌≤◌, false, Err, refl, sym, ◌∙◌, ◌++◌, ◌∷◌, [], ap, subst, inr}
 use Rattle.std.proofs.lemmas.Result.{err_from_is_err_and}
 use Rattle.carte_state.specs.Around.{over_disk}
 use Rattle.carte_io.specs.Stations.{StepsThrough}
