@@ -10,3 +10,5 @@ pub mod Shut
 pub mod Sizes
 pub mod Ranks
 pub mod Alike
+pub mod Rewritten
+pub mod Behind

@@ -16,15 +16,19 @@
 mod batches;
 mod bodies;
 mod content;
+mod due;
 mod entries;
 mod latest;
 mod laws;
 mod lengths;
 mod measured;
 mod names;
+mod rewriting;
 mod values;
 
 pub use batches::live;
 pub use bodies::live_bodies;
-pub use laws::{live_is_kept, one_live};
+pub use due::is_due;
+pub use laws::{kept_throughout, live_is_kept, one_live, stations_behind, steps_behind};
 pub use lengths::live_length;
+pub use rewriting::{rewrite, rewriting_needs};

@@ -1,0 +1,35 @@
+-- When a build rewrites its state's file before it commits a batch.
+use Rattle.std.specs.Prelude.{ℕ, ◌+◌, ◌-◌, ◌*◌, ◌^◌, ◌&&◌, ◌||◌, not, nat_le, nat_lt, Bool}
+use Rattle.carte_journal.specs.Journals.{Standing}
+use Rattle.carte_journal.specs.Regions.{needs_with, told_bank}
+use Rattle.carte_journal.specs.declared.bank.Bank.{Bank}
+
+-- it has a frame, and there is a next generation
+abbrev pub can_turn : Bank → Bool
+can_turn b = nat_lt 0 b.frames && nat_lt b.generation (2 ^ 64 - 1)
+
+-- a rewriting is possible, where the live information takes so many bytes: the file has room for it too
+abbrev pub is_possible : Standing → ℕ → Bool
+is_possible j live = can_turn (told_bank j) && nat_le (needs_with j live) j.limit
+
+-- how many bytes it has
+abbrev pub size_of : Bank → ℕ
+size_of b = b.end - b.start
+
+-- it has more than 65,536 bytes
+abbrev pub is_wide : Bank → Bool
+is_wide b = nat_lt 65536 (size_of b)
+
+-- and more than twice as many as what is live
+abbrev pub is_large : Bank → ℕ → Bool
+is_large b live = is_wide b && nat_lt (2 * live) (size_of b)
+
+-- a batch whose body is so long fits behind its frames
+abbrev pub fits : Bank → ℕ → ℕ → Bool
+fits b limit long = nat_le (b.end + 5 + long) limit
+
+-- Before a first commit a rewriting is due where it is possible and the bank is large or the batch doesn't fit, and before a later one where it is possible and
+-- the batch doesn't fit
+abbrev pub is_due : Standing → ℕ → ℕ → Bool → Bool
+is_due j live long is_first =
+    is_possible j live && (not (fits (told_bank j) j.limit long) || (is_first && is_large (told_bank j) live))
