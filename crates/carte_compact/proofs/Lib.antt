@@ -12,3 +12,4 @@ pub mod Ranks
 pub mod Alike
 pub mod Rewritten
 pub mod Behind
+pub mod Room

@@ -1,8 +1,11 @@
 -- When a build rewrites its state's file before it commits a batch.
-use Rattle.std.specs.Prelude.{ℕ, ◌+◌, ◌-◌, ◌*◌, ◌^◌, ◌&&◌, ◌||◌, not, nat_le, nat_lt, Bool}
+use Rattle.std.specs.Prelude.{ℕ, ◌-◌, ◌*◌, ◌^◌, ◌&&◌, ◌||◌, not, nat_le, nat_lt, Bool}
 use Rattle.carte_journal.specs.Journals.{Standing}
 use Rattle.carte_journal.specs.Regions.{needs_with, told_bank}
 use Rattle.carte_journal.specs.declared.bank.Bank.{Bank}
+use Rattle.carte_record.specs.declared.batch.Batch.{Batch}
+use Rattle.carte_record.specs.Empty.{is_empty}
+use Rattle.carte_state.specs.States.{Stand, needs_for}
 
 -- it has a frame, and there is a next generation
 abbrev pub can_turn : Bank → Bool
@@ -24,12 +27,12 @@ is_wide b = nat_lt 65536 (size_of b)
 abbrev pub is_large : Bank → ℕ → Bool
 is_large b live = is_wide b && nat_lt (2 * live) (size_of b)
 
--- a batch whose body is so long fits behind its frames
-abbrev pub fits : Bank → ℕ → ℕ → Bool
-fits b limit long = nat_le (b.end + 5 + long) limit
+-- there is no room for the batch in the file as it stands
+abbrev pub is_over : Stand → Batch → Bool
+is_over s B = nat_lt s.journal.limit (needs_for s B)
 
--- Before a first commit a rewriting is due where it is possible and the bank is large or the batch doesn't fit, and before a later one where it is possible and
--- the batch doesn't fit
-abbrev pub is_due : Standing → ℕ → ℕ → Bool → Bool
-is_due j live long is_first =
-    is_possible j live && (not (fits (told_bank j) j.limit long) || (is_first && is_large (told_bank j) live))
+-- Before a first commit a rewriting is due where it is possible and the bank is large or there is no room for the batch, and before a later one where it is
+-- possible and there is no room for the batch. An empty batch isn't committed.
+abbrev pub is_due : Stand → ℕ → Batch → Bool → Bool
+is_due s live B is_first =
+    not (is_empty B) && (is_possible s.journal live && (is_over s B || (is_first && is_large (told_bank s.journal) live)))

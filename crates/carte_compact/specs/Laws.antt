@@ -1,5 +1,5 @@
 -- What the live information makes, and what images keep while it is written.
-use Rattle.std.specs.Prelude.{◌≡◌, ◌⊎◌, ◌+◌, List, ◌++◌}
+use Rattle.std.specs.Prelude.{◌≡◌, ◌⊎◌, ℕ, ◌+◌, Bool, true, List, ◌++◌}
 use Rattle.carte_io.specs.Disk.{CountsUp, LeavesOnly, Story, moments}
 use Rattle.carte_io.specs.Stations.{StepsThrough}
 use Rattle.carte_journal.specs.Regions.{calls_to_turn}
@@ -10,8 +10,10 @@ use Rattle.carte_record.specs.Kept.{kept_view, nothing_kept}
 use Rattle.carte_state.specs.Folding.{Keeps}
 use Rattle.carte_state.specs.Runs.{applied}
 use Rattle.carte_state.specs.States.{Stand, kept_in, step_for}
+use Rattle.carte_compact.specs.Due.{is_due}
+use Rattle.carte_compact.specs.Lengths.{region_length}
 use Rattle.carte_compact.specs.Live.{IsLive}
-use Rattle.carte_compact.specs.Rewriting.{step_again}
+use Rattle.carte_compact.specs.Rewriting.{IsCramped, step_again}
 
 -- of nothing it makes what is kept
 abbrev pub LiveIsKept : Type 0
@@ -47,3 +49,8 @@ StepsBehind = (s t : Stand) (B : Batch) (old mid new : Story) → TellsRenewed s
 abbrev pub StationsBehind : Type 0
 StationsBehind = (s t : Stand) (B : Batch) (old mid new : Story) → TellsRenewed s t old mid → TellsApplied t B mid new
     → LeavesOnly old new (λ image. Keeps s.journal.limit (kept_in s) image ⊎ Keeps s.journal.limit (apply B (kept_in s)) image)
+
+-- a rewriting that is due finds room
+abbrev pub DueHasRoom : Type 0
+DueHasRoom = (s : Stand) (B : Batch) (is_first : Bool) → ((Bs : List Batch) → IsLive s.kept Bs → is_due s (region_length Bs) B is_first ≡ true)
+    → (needed limit : ℕ) → ¬ (IsCramped s needed limit)

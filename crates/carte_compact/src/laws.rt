@@ -1,5 +1,5 @@
 // Laws of the live information.
-ghost use Rattle.carte_compact.specs.Laws.{KeptThroughout, LiveIsKept, OneLive, StationsBehind, StepsBehind};
+ghost use Rattle.carte_compact.specs.Laws.{DueHasRoom, KeptThroughout, LiveIsKept, OneLive, StationsBehind, StepsBehind};
 
 /// The live information makes of nothing just what is kept.
 pub fn live_is_kept()
@@ -24,4 +24,9 @@ pub fn steps_behind()
 /// At each moment of a rewriting and of a batch behind it, an image keeps what was kept, or what the batch makes of it.
 pub fn stations_behind()
     ensures { StationsBehind }
+{}
+
+/// A rewriting that is due isn't refused for want of room.
+pub fn due_has_room()
+    ensures { DueHasRoom }
 {}

@@ -29,6 +29,6 @@ mod values;
 pub use batches::live;
 pub use bodies::live_bodies;
 pub use due::is_due;
-pub use laws::{kept_throughout, live_is_kept, one_live, stations_behind, steps_behind};
+pub use laws::{due_has_room, kept_throughout, live_is_kept, one_live, stations_behind, steps_behind};
 pub use lengths::live_length;
 pub use rewriting::{rewrite, rewriting_needs};

@@ -1,6 +1,6 @@
 // A rewriting of the file with the live information.
 ghost use Rattle.std.specs.Prelude.{◌≡◌, ◌<◌, ◌^◌, false, ℕ, List, IfOk};
-ghost use Rattle.carte_journal.specs.Regions.{IsRewritable, needs_with};
+ghost use Rattle.carte_journal.specs.Regions.{IsRewritable, Planned, needs_with, region_end};
 ghost use Rattle.carte_record.specs.declared.batch.Batch.{Batch as SomeBatch};
 ghost use Rattle.carte_state.specs.Around.{over_disk};
 ghost use Rattle.carte_compact.specs.Lengths.{region_length};
@@ -22,7 +22,8 @@ const MOST: u64 = 9223372036854775807;
 /// How many bytes the file would need for a rewriting: the end of the region that `rewrite` would write. Nothing is
 /// planned, and no call of a disk is made. There is no memory either where what is live has 2^63 bytes.
 pub fn rewriting_needs(alloc: Global, state: &State) -> Result<u64, NoMemory>
-    ensures { IfOk result (λ n. (Bs : List SomeBatch) → IsLive state.now.kept Bs → n ≡ needs_with state.now.journal (region_length Bs)) }
+    ensures needs { IfOk result (λ n. (Bs : List SomeBatch) → IsLive state.now.kept Bs → n ≡ needs_with state.now.journal (region_length Bs)) }
+    ensures region { IfOk result (λ n. (p : Planned) → IsLiveRegion state.now p → n ≡ region_end p) }
 {
     let length = short_length(alloc, state.kept())?;
     Ok(state.needed_with(length))
