@@ -36,8 +36,8 @@ steps_behind s t B old mid new renewed applied =
     let K = kept_in s in
     let same : kept_in t ≡ K = ap kept_view renewed.kept in
     let more : StepsThrough (Keeps s.journal.limit) K (step_for t.journal K B) mid new =
-        subst (λ limit. StepsThrough (Keeps limit) K (step_for t.journal K B) mid new) renewed.limit
-        (subst (λ M. StepsThrough (Keeps t.journal.limit) M (step_for t.journal M B) mid new) same applied.steps) in
+    subst (λ limit. StepsThrough (Keeps limit) K (step_for t.journal K B) mid new) renewed.limit
+    (subst (λ M. StepsThrough (Keeps t.journal.limit) M (step_for t.journal M B) mid new) same applied.steps) in
     steps_then (Keeps s.journal.limit) K (step_again s) (step_for t.journal K B) old mid new renewed.steps (omega (arith, renewed.calls)) applied.ordered
     (made_if (is_empty B) (record { calls = calls_of t.journal; to = apply B K }) (omega (arith, some_calls t.journal.fresh))) more
 

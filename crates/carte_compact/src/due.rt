@@ -23,12 +23,7 @@ const BESIDE_BODY: u64 = 5;
 /// possible and the bank is large or the batch doesn't fit, and before a later one where it is possible and the batch
 /// doesn't fit. The live length is worked out only where it may decide: where the batch doesn't fit, or before a first
 /// commit to a bank of more than 65,536 bytes. There is no memory either where a length doesn't fit 63 bits.
-pub fn is_due(
-    alloc: Global,
-    state: &State,
-    batch: &Batch,
-    is_first: bool,
-) -> Result<bool, NoMemory>
+pub fn is_due(alloc: Global, state: &State, batch: &Batch, is_first: bool) -> Result<bool, NoMemory>
     ensures due { IfOk result (λ due. (Bs : List SomeBatch) → IsLive state.now.kept Bs → due ≡ is_due state.now (region_length Bs) batch.now is_first) }
     ensures possible { IfOk result (λ due. due ≡ true → IsRewritable state.now.journal) }
 {
