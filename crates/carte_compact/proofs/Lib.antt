@@ -10,3 +10,6 @@ pub mod Shut
 pub mod Sizes
 pub mod Ranks
 pub mod Alike
+pub mod Rewritten
+pub mod Behind
+pub mod Room

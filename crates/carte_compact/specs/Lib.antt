@@ -3,3 +3,5 @@ pub mod Contents
 pub mod Live
 pub mod Laws
 pub mod Lengths
+pub mod Rewriting
+pub mod Due

@@ -11,20 +11,33 @@
 //! and nothing is held but names. Equal traces are told by a set of those that come later, since a key that often comes
 //! back to the same ends has thousands, and to compare them in pairs is quadratic. Turned down: a rewriting that goes by
 //! the bytes of the file, which would have to know of each body what of it still counts.
+//!
+//! `rewrite` puts the live information in the place of all that stands in a file: what comes of it is `Rewrites` in
+//! `specs/Rewriting.antt`, in the form of a state's `Applies`, so that a commit behind it is told by both, one after
+//! another (`steps_behind`). Whether a rewriting is due before a commit is the rule `is_due` in `specs/Due.antt`, over the
+//! live length: that is a pass over all that is kept, so it is worked out only where it decides. Turned down: a rewriting
+//! at each build, which would write as much for one key as for all; and a live length that the state holds and each batch
+//! changes, since what a trace adds to it hangs on whether an equal one is kept.
 #![tactic(auto)]
 
 mod batches;
 mod bodies;
 mod content;
+mod due;
 mod entries;
 mod latest;
 mod laws;
 mod lengths;
 mod measured;
 mod names;
+mod rewriting;
 mod values;
 
 pub use batches::live;
 pub use bodies::live_bodies;
-pub use laws::{live_is_kept, one_live};
+pub use due::is_due;
+pub use laws::{
+    due_has_room, kept_throughout, live_is_kept, one_live, stations_behind, steps_behind,
+};
 pub use lengths::live_length;
+pub use rewriting::{rewrite, rewriting_needs};

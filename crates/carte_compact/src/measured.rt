@@ -2,10 +2,10 @@
 ghost use Rattle.std.specs.Prelude.{◌≡◌, ℕ, List, length, IfSome};
 ghost use Rattle.std.specs.List.{flat_map};
 ghost use Rattle.carte_value.specs.Spelling.{spelling};
-ghost use Rattle.carte_codec.specs.Parts.{spelled_digest, spelled_link, spelled_list, spelled_name};
-ghost use Rattle.carte_record.specs.Bodies.{spelled_entry, spelled_names, spelled_start, spelled_trace};
+ghost use Rattle.carte_codec.specs.Parts.{spelled_digest, spelled_link, spelled_list, spelled_name, spelled_option};
+ghost use Rattle.carte_record.specs.Bodies.{spelled_back, spelled_batch, spelled_entry, spelled_front, spelled_names, spelled_start, spelled_trace};
 
-use carte_record::{Entry, Start, Trace};
+use carte_record::{Batch, Entry, Start, Trace};
 use carte_value::{Digest, Link, Name, Names, Value};
 
 /// What is spelled, with the length of its spelling: none where that doesn't fit 64 bits.
@@ -117,5 +117,43 @@ impl Measured for Trace {
             .length()?
             .checked_add(list_length(self.links.as_slice())?)?
             .checked_add(self.result.length()?)
+    }
+}
+
+impl Measured for Batch {
+    ghost spelled = { spelled_batch };
+
+    fn length(&self) -> Option<u64> {
+        front_of(self)?.checked_add(back_of(self)?)?.checked_add(1)
+    }
+}
+
+fn front_of(batch: &Batch) -> Option<u64>
+    ensures { IfSome result (λ n. n ≡ length (spelled_front batch.now)) }
+{
+    batch
+        .start
+        .length()?
+        .checked_add(list_length(batch.values.as_slice())?)?
+        .checked_add(list_length(batch.seen.as_slice())?)?
+        .checked_add(batch.stale.length()?)?
+        .checked_add(list_length(batch.entries.as_slice())?)
+}
+
+fn back_of(batch: &Batch) -> Option<u64>
+    ensures { IfSome result (λ n. n ≡ length (spelled_back batch.now)) }
+{
+    list_length(batch.verifying.as_slice())?
+        .checked_add(list_length(batch.constructive.as_slice())?)?
+        .checked_add(list_length(batch.deep.as_slice())?)?
+        .checked_add(chain_of(&batch.chain)?)
+}
+
+fn chain_of(chain: &Option<Names>) -> Option<u64>
+    ensures { IfSome result (λ n. n ≡ length (spelled_option spelled_names chain.now)) }
+{
+    match chain {
+        Some(chain) => chain.length()?.checked_add(1),
+        None => Some(1),
     }
 }
