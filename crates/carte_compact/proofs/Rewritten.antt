@@ -1,5 +1,5 @@
 -- What a rewriting comes to.
-use Rattle.std.proofs.Common.{◌≡◌, ℕ, ◌+◌, ◌<◌, ◌≤◌, false, List, [], ◌∷◌, ◌++◌, Result, Ok, Err, length, refl, sym, ◌∙◌, ap, subst, inl, arith, length-append}
+use Rattle.std.proofs.Common.{◌≡◌, ◌+◌, ◌<◌, ◌≤◌, false, List, [], ◌∷◌, ◌++◌, Result, Ok, Err, length, refl, sym, ◌∙◌, ap, subst, inl, arith, length-append}
 use Rattle.std.specs.Int.{to_be_bytes, w32}
 use Rattle.std.specs.Prelude.{IfOk}
 use Rattle.carte_io.specs.Causes.{Rose}
@@ -8,11 +8,10 @@ use Rattle.carte_io.specs.Stations.{Step, StepsThrough}
 use Rattle.carte_io.proofs.Acknowledged.{steps_one}
 use Rattle.carte_io.proofs.Images.{throughout_none}
 use Rattle.carte_journal.specs.Frames.{BodyAt}
-use Rattle.carte_journal.specs.Journals.{Standing, broke}
+use Rattle.carte_journal.specs.Journals.{broke}
 use Rattle.carte_journal.specs.Regions as regions
 use Rattle.carte_journal.specs.Regions.{Planned, bytes_of, calls_to_turn, region_end, region_of, rewritten}
 use Rattle.carte_record.specs.Kept.{SomeKept, nothing_kept}
-use Rattle.carte_record.specs.declared.kept.Kept.{Kept}
 use Rattle.carte_state.specs.Applying.{IsStill}
 use Rattle.carte_state.specs.Around.{OverDisk}
 use Rattle.carte_state.specs.Folding.{IsFolded, Keeps}

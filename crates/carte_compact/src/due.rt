@@ -1,5 +1,5 @@
 // When a rewriting is made.
-ghost use Rattle.std.specs.Prelude.{◌≡◌, true, List, IfOk, IfSome};
+ghost use Rattle.std.specs.Prelude.{◌≡◌, ◌&&◌, ◌||◌, true, List, IfOk, IfSome};
 ghost use Rattle.carte_journal.specs.Regions.{IsRewritable};
 ghost use Rattle.carte_record.specs.declared.batch.Batch.{Batch as SomeBatch};
 ghost use Rattle.carte_compact.specs.Due.{can_turn, is_due, is_large, is_over, is_wide, size_of};
@@ -36,8 +36,15 @@ pub fn is_due(alloc: Global, state: &State, batch: &Batch, is_first: bool) -> Re
         return Ok(false);
     }
     let live = short_length(alloc, state.kept())?;
-    let is_wanted = is_over || is_large(&bank, live);
+    let is_wanted = is_wanted(&bank, live, is_over, is_first);
     Ok(is_wanted && state.needed_with(live) <= state.limit())
+}
+
+// Whether a rewriting is to be made where it is possible.
+fn is_wanted(bank: &Bank, live: u64, is_over: bool, is_first: bool) -> bool
+    ensures { result ≡ (is_over || (is_first && is_large bank.now live)) }
+{
+    is_over || (is_first && is_large(bank, live))
 }
 
 // Whether there is no room for a batch: the frames end at the bank's end, and a frame more has a length, the body, and

@@ -1,4 +1,4 @@
-use Rattle.std.proofs.Common.{List, ap, subst, sym, ◌∙◌}
+use Rattle.std.proofs.Common.{ap, subst, sym, ◌∙◌}
 use Rattle.carte_journal.specs.Regions.{needs_with}
 use Rattle.carte_record.specs.declared.kept.Kept.{Kept}
 use Rattle.carte_compact.specs.Live.{IsLive}
