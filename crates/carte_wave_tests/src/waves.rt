@@ -154,6 +154,32 @@ fn waves_come_to_what_waiting_does(rt: HostRuntime) -> Result<(), Fail> {
     Ok(())
 }
 
+/// 200 rules over one input, and all of them as targets.
+fn many(alloc: Global) -> Result<(Book, Names), Fail> {
+    let mut text = String::from_str(alloc, "[inputs]\nx = 1\n[rules]\n")?;
+    let mut targets = Names::new(alloc);
+    for number in 0..200u32 {
+        let name = format!(in alloc; "r{number}")?;
+        let rule = format!(in alloc; "{name} = 'x + {number}'\n")?;
+        text.push_str(rule.as_str())?;
+        targets.push(Name::rule(alloc, name.as_str())?)?;
+    }
+    Ok((book_of(alloc, text.as_str())?, targets))
+}
+
+/// One wave of 200 jobs: it has parts of several lengths, and three where the gate asks for none.
+#[test]
+fn so_do_waves_of_many_jobs(rt: HostRuntime) -> Result<(), Fail> {
+    let alloc = rt.alloc();
+    let (book, targets) = many(alloc)?;
+    let want = by_suspending(alloc, &book, &targets)?;
+    assert!(&rt;
+        want.as_str()
+            .starts_with("200 r0 r0=1 r1 r10 r100 r100=101 r101 r101=102 ")
+    );
+    comes_to(&rt, alloc, &book, &targets, want.as_str())
+}
+
 /// One wave of two jobs, in two parts: were one begun only when the other had ended, the test would wait until its time is up.
 #[test]
 fn two_jobs_meet(rt: HostRuntime) -> Result<(), Fail> {
