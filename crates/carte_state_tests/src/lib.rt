@@ -1,4 +1,4 @@
-//! Tests of how data and batches are spelled, and of what a state keeps.
+//! Tests of how data and batches are spelled, of what a state keeps, and of its rewriting.
 //!
 //! They stand in a crate of their own, on which nothing stands: a crate with tests is proved a second time with them. Each module has
 //! the tests of one crate, through its public calls.
@@ -8,5 +8,7 @@
 mod codec;
 #[cfg(test)]
 mod record;
+#[cfg(test)]
+mod rewriting;
 #[cfg(test)]
 mod state;

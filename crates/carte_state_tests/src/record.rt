@@ -1,6 +1,6 @@
 //! Look-ups in what is kept, and a batch as bytes.
 
-mod bytes;
+pub(crate) mod bytes;
 
 use carte_record::{Seen, Store, Trace, Traces};
 use carte_value::{Digest, Link, Links, Name, NoMemory, Seeded, SharedLinks, Value};

@@ -21,7 +21,7 @@ const PARTS: [&[u8]; 10] = [
     b"\0",
 ];
 
-fn small(alloc: Global) -> Result<Vec<u8>, NoMemory> {
+pub(crate) fn small(alloc: Global) -> Result<Vec<u8>, NoMemory> {
     let mut body = Vec::new(alloc);
     for part in PARTS {
         body.extend_from_slice(part)?;

@@ -1,0 +1,165 @@
+//! A state that is rewritten: how many bytes and calls that takes, and where its frames stand then. The numbers are worked out by hand
+//! from the format of a file.
+
+ghost use Rattle.std.specs.Prelude.{◌≡◌, ◌<◌, ◌^◌, false, true};
+ghost use Rattle.carte_journal.specs.Regions.{IsRewritable};
+
+use crate::record::bytes::small;
+use carte_compact::{is_due, live, live_bodies, live_length, rewrite, rewriting_needs};
+use carte_io::MemDisk;
+use carte_record::Batch;
+use carte_state::{ApplyFault, State};
+use carte_value::{Name, Names, NoMemory, Seeded};
+use std::alloc::Global;
+use std::test::Fail;
+
+// The file of the small example, of 437 bytes: the header, an open frame with a body of 423 bytes, and a closed gate byte.
+fn small_file(alloc: Global) -> Result<Vec<u8>, NoMemory> {
+    let mut file = Vec::new(alloc);
+    file.extend_from_slice(b"CARTE01\n\x01\0\0\x01\xa7")?;
+    file.extend_from_slice(small(alloc)?.as_slice())?;
+    file.push(0)?;
+    Ok(file)
+}
+
+fn loaded(alloc: Global, disk: &mut MemDisk, limit: u64) -> Result<State, Fail>
+    requires { limit < 2 ^ 32 }
+{
+    match State::load(alloc, disk, limit, Seeded::of(7)) {
+        Ok(state) => Ok(state),
+        Err(_) => Err(Fail::from("it loads")),
+    }
+}
+
+fn b1(alloc: Global) -> Result<Names, Fail> {
+    let mut names = Names::new(alloc);
+    names.push(Name::rule(alloc, "b1")?)?;
+    Ok(names)
+}
+
+/// How many batches and bodies are live, and how many bytes.
+fn measured(alloc: Global, state: &State) -> Result<(usize, usize, u64), NoMemory> {
+    let batches = live(alloc, state.kept())?;
+    let bodies = live_bodies(alloc, state.kept())?;
+    let length = live_length(alloc, state.kept())?;
+    Ok((batches.len(), bodies.len(), length))
+}
+
+/// The same of a file, of which these keys are marked.
+fn live_of(alloc: Global, file: &[u8], stale: &Names) -> Result<(usize, usize, u64), Fail> {
+    let mut disk = MemDisk::of(alloc, file, &[])?;
+    let mut state = loaded(alloc, &mut disk, 437)?;
+    state.mark(stale);
+    Ok(measured(alloc, &state)?)
+}
+
+/// A region has 5 bytes beside each body, and a gate byte. The body that marks b1 has 34 bytes.
+#[test]
+fn what_is_live_is_measured(rt: HostRuntime) -> Result<(), Fail> {
+    let alloc = rt.alloc();
+    let file = small_file(alloc)?;
+    let none = Names::new(alloc);
+    assert_eq!(&rt; live_of(alloc, b"", &none)?, (0, 0, 1));
+    assert_eq!(&rt; live_of(alloc, &file, &none)?, (1, 1, 429));
+    assert_eq!(&rt; live_of(alloc, &file, &b1(alloc)?)?, (2, 2, 468));
+    Ok(())
+}
+
+/// Where the frames of a state start and end, how many there are, and how often it was rewritten.
+fn place(state: &State) -> (u64, u64, u64, u64) {
+    let bank = state.bank();
+    (bank.start, bank.end, bank.frames, bank.generation)
+}
+
+fn can_turn(state: &State) -> bool
+    ensures whole { result ≡ true → state.now.journal.broken ≡ false }
+    ensures rewritable { result ≡ true → IsRewritable state.now.journal }
+{
+    let bank = state.bank();
+    !state.is_broken() && bank.frames > 0 && bank.generation < u64::MAX
+}
+
+/// How many bytes the file needs for a rewriting, by what is live and with 429 bytes, and whether that is due before a
+/// first batch of 34 bytes.
+fn wanted(alloc: Global, disk: &mut MemDisk, limit: u64) -> Result<(u64, u64, bool), Fail>
+    requires { limit < 2 ^ 32 }
+{
+    let state = loaded(alloc, disk, limit)?;
+    let mut marks = Batch::new(alloc, Seeded::of(7));
+    marks.stale = b1(alloc)?;
+    let needs = rewriting_needs(alloc, &state)?;
+    let is_due = is_due(alloc, &state, &marks, true)?;
+    Ok((needs, state.needed_with(429), is_due))
+}
+
+/// How many bytes were needed and what the limit was, where there was no room for a rewriting, and where the frames stand
+/// behind it.
+fn rewritten(
+    alloc: Global,
+    disk: &mut MemDisk,
+    limit: u64,
+) -> Result<(Option<(u64, u64)>, (u64, u64, u64, u64)), Fail>
+    requires { limit < 2 ^ 32 }
+{
+    let mut state = loaded(alloc, disk, limit)?;
+    if !can_turn(&state) {
+        return Err(Fail::from("it has a frame"));
+    }
+    match rewrite(alloc, &mut state, disk) {
+        Ok(()) => Ok((None, place(&state))),
+        Err(ApplyFault::Full { needed, limit }) => Ok((Some((needed, limit)), place(&state))),
+        Err(_) => Err(Fail::from("nothing else fails")),
+    }
+}
+
+/// Where the frames stand that are loaded, and whether the one body that is live has these bytes.
+fn again(
+    alloc: Global,
+    disk: &mut MemDisk,
+    body: &[u8],
+) -> Result<((u64, u64, u64, u64), bool), Fail> {
+    let state = loaded(alloc, disk, 1343)?;
+    let bodies = live_bodies(alloc, state.kept())?;
+    let first = bodies.get(0).ok_or("a body")?;
+    Ok((place(&state), bodies.len() == 1 && first.bytes() == body))
+}
+
+// The limit, what is wanted of a file, what its rewriting gives, and its bytes and the calls that passed then. The closed
+// gate byte of the first file is at 436: the move stands behind it up to 451, the roots up to 485, and the 429 bytes of the
+// region up to 914. No place in front of the region is free then, so that the second goes behind it; and the third goes to
+// where the first was.
+const TURNS: [(
+    u64,
+    (u64, u64, bool),
+    (Option<(u64, u64)>, (u64, u64, u64, u64)),
+    (usize, u64),
+); 4] = [
+    (
+        913,
+        (914, 914, false),
+        (Some((914, 913)), (8, 437, 1, 0)),
+        (437, 0),
+    ),
+    (1343, (914, 914, false), (None, (485, 914, 1, 1)), (914, 4)),
+    (
+        1343,
+        (1343, 1343, false),
+        (None, (914, 1343, 1, 2)),
+        (1343, 9),
+    ),
+    (1343, (914, 914, true), (None, (485, 914, 1, 3)), (1343, 16)),
+];
+
+#[test]
+fn a_state_is_rewritten(rt: HostRuntime) -> Result<(), Fail> {
+    let alloc = rt.alloc();
+    let body = small(alloc)?;
+    let mut disk = MemDisk::of(alloc, &small_file(alloc)?, &[])?;
+    for (limit, want, done, size) in TURNS {
+        assert_eq!(&rt; wanted(alloc, &mut disk, limit)?, want);
+        assert_eq!(&rt; rewritten(alloc, &mut disk, limit)?, done);
+        assert_eq!(&rt; (disk.bytes().len(), disk.passed()), size);
+        assert_eq!(&rt; again(alloc, &mut disk, &body)?, (done.1, true));
+    }
+    Ok(())
+}
