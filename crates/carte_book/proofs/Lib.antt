@@ -11,3 +11,4 @@ pub mod Stuck
 pub mod Reasoned
 pub mod Named
 pub mod FirstDynamic
+pub mod Added

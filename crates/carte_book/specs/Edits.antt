@@ -18,12 +18,11 @@ keys_of b = length (entries b.items)
 abbrev pub with_item : Book → List ℕ → Item → Book
 with_item b k x = record { kind = b.kind; items = insert b.items k x }
 
--- it hasn't the key, and has fewer than 65,536
-abbrev pub Admits : Book → List ℕ → Result (Unit {0}) AddFault → Type 0
-Admits b k (Ok u) = (get b.items k ≡ None) × (keys_of b < 65536)
-Admits b k (Err add.Twice) = is_some (get b.items k) ≡ true
-Admits b k (Err add.Limit) = (get b.items k ≡ None) × (65536 ≤ keys_of b)
-Admits b k (Err add.NoMemory) = ⊥
+-- why a key isn't added: the first of these
+abbrev pub IsRefused : Book → List ℕ → AddFault → Type 0
+IsRefused b k add.Twice = is_some (get b.items k) ≡ true
+IsRefused b k add.Limit = (get b.items k ≡ None) × (65536 ≤ keys_of b)
+IsRefused b k add.NoMemory = (get b.items k ≡ None) × (keys_of b < 65536)
 
 -- a key that the book hasn't, where it has fewer than 65,536, gets the item; else nothing changes
 abbrev pub Adds : Book → Book → List ℕ → Item → Result (Unit {0}) AddFault → Type 0

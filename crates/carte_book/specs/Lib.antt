@@ -6,6 +6,7 @@ pub mod Reason
 pub mod Dynamic
 pub mod Looked
 pub mod Edits
+pub mod Added
 pub mod Digest
 pub mod Stuck
 pub mod Order

@@ -1,12 +1,12 @@
-ghost use Rattle.std.specs.Prelude.{◌≡◌, ◌<◌, None, IsTrue};
-ghost use Rattle.std.specs.FinMap.{get};
+ghost use Rattle.std.specs.Prelude.{◌≡◌, IsTrue};
 ghost use Rattle.carte_name.specs.Kinds.{is_name_of};
 ghost use Rattle.carte_tree.specs.Code.{tree_of};
 ghost use Rattle.carte_tree.specs.Formula.{IsExpr, HasNames};
 ghost use Rattle.carte_book.specs.Fits.{FitsItem};
 ghost use Rattle.carte_book.specs.Book.{book_view, item_view, input, rule};
-ghost use Rattle.carte_book.specs.Edits.{keys_of, Admits, Adds, IsInput, Sets};
+ghost use Rattle.carte_book.specs.Edits.{keys_of, IsRefused, Adds, IsInput, Sets};
 
+use crate::items::put_new;
 use crate::{AddFault, Book, Item, Looked, SetFault};
 use carte_tree::Expr;
 use carte_value::{Name, Value};
@@ -28,7 +28,6 @@ impl Book {
         requires { IsTrue (is_name_of (book_view self.old).kind name) }
         ensures { Adds (book_view self.old) (book_view self.new) name (input value) result }
     {
-        self.admit(&name)?;
         self.add(name, Item::Input(value))
     }
 
@@ -39,37 +38,34 @@ impl Book {
         requires names { HasNames (book_view self.old).kind (tree_of expr) }
         ensures { Adds (book_view self.old) (book_view self.new) name (rule (tree_of expr)) result }
     {
-        self.admit(&name)?;
-        let Ok(formula) = Arc::new(self.alloc, expr) else {
-            return Err(AddFault::NoMemory);
-        };
-        self.add(name, Item::Rule(formula))
+        match Arc::new(self.alloc, expr) {
+            Ok(formula) => self.add(name, Item::Rule(formula)),
+            Err(_) => Err(self.refusal(&name)),
+        }
     }
 
-    // Whether a name may be added, so far as memory isn't asked.
-    fn admit(&self, name: &Name) -> Result<(), AddFault>
-        ensures { Admits (book_view self.now) name.now result }
+    // Why a name isn't added for which there is no memory.
+    fn refusal(&self, name: &Name) -> AddFault
+        ensures { IsRefused (book_view self.now) name.now result }
     {
         if self.has(name) {
-            return Err(AddFault::Twice);
+            AddFault::Twice
+        } else if self.keys() >= MOST_KEYS {
+            AddFault::Limit
+        } else {
+            AddFault::NoMemory
         }
-        if self.keys() >= MOST_KEYS {
-            return Err(AddFault::Limit);
-        }
-        Ok(())
     }
 
     fn add(&mut self, name: Name, item: Item) -> Result<(), AddFault>
         requires name { IsTrue (is_name_of (book_view self.old).kind name) }
         requires item { FitsItem (book_view self.old).kind item }
-        requires absent { get (book_view self.old).items name ≡ None }
-        requires room { keys_of (book_view self.old) < 65536 }
         ensures { Adds (book_view self.old) (book_view self.new) name (item_view item) result }
     {
-        match self.put(name, item) {
-            Ok(()) => Ok(()),
-            Err(_) => Err(AddFault::NoMemory),
+        if self.keys() >= MOST_KEYS {
+            return Err(self.refusal(&name));
         }
+        put_new(&mut self.items, name, item)
     }
 
     /// Gives an input, or a cell that holds nothing yet, another value. After a fault the book is as before.

@@ -33,6 +33,7 @@ mod book;
 mod digest;
 mod edits;
 mod fault;
+mod items;
 mod key_text;
 mod laws;
 mod needs;
