@@ -8,6 +8,7 @@ ghost use Rattle.carte_book.specs.Looked.{Answers, IsFormula, IsFormulaAt, HasNo
 ghost use Rattle.carte_book.specs.Needs.{IsRule};
 
 use crate::book::Items;
+use crate::edits::MOST_KEYS;
 use crate::{Book, Item, Looked};
 use carte_tree::Expr;
 use carte_value::{Kind, Name, NoMemory, Seeded, Value};
@@ -28,6 +29,26 @@ impl Book {
             items: Items::with_hasher(alloc, hasher),
             nothing: Value::Empty,
         }
+    }
+
+    /// The same, with room for so many keys, or for as many as a book has at most.
+    pub fn with_room(
+        alloc: Global,
+        kind: Kind,
+        keys: usize,
+        hasher: Seeded,
+    ) -> Result<Book, NoMemory>
+        ensures kind { IfOk result (λ b. (book_view b).kind ≡ kind) }
+        ensures items { IfOk result (λ b. (book_view b).items ≡ empty) }
+        ensures hasher { IfOk result (λ b. hasher_in b ≡ hasher) }
+    {
+        let items = Items::with_capacity_and_hasher(alloc, keys.min(MOST_KEYS as usize), hasher)?;
+        Ok(Book {
+            alloc,
+            kind,
+            items,
+            nothing: Value::Empty,
+        })
     }
 
     /// It takes no memory.

@@ -9,9 +9,10 @@
 //! in a sheet each cell that the map doesn't hold is an empty input, and this default has one place. Two types for the
 //! two kinds would have doubled every layer above.
 //!
-//! Names are added, and inputs are set. Each call says exactly when each fault comes, and after one the book is as
-//! before. That there are 65,536 names at most is tested where one is added, so no reader of bytes counts. The faults of
-//! the readers stand here too, since both share them.
+//! Names are added, each by one look at the map, and inputs are set. Each call says exactly when each fault comes, and
+//! after one the book is as before. That there are 65,536 names at most is tested where one is added, so no reader of bytes
+//! tests it; those that count keys in advance have room made for them. The faults of the readers stand here too, since both
+//! share them.
 //!
 //! The clean values are defined by rounds of evaluation, as many as there are rules and one more. That is
 //! a function without order, trace or file in it; that one more round changes nothing is proved once, and
