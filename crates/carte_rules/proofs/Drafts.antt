@@ -1,5 +1,5 @@
 -- Drafts beside what they hold.
-use Rattle.std.proofs.Common.{◌≡◌, ℕ, zero, suc, not, ◌+◌, ◌<◌, ◌≤◌, Bool, true, false, cond, ◌||◌, List, length, Option, Some, None, is_some, refl, ap, sym, ◌∙◌, arith}
+use Rattle.std.proofs.Common.{◌≡◌, ℕ, zero, suc, not, ◌+◌, ◌<◌, ◌≤◌, Bool, true, false, cond, ◌||◌, List, length, Option, Some, None, is_some, Result, Ok, Err, refl, ap, sym, subst, ◌∙◌, arith}
 use Rattle.std.specs.Ordering.{eq_by_cmp}
 use Rattle.std.specs.FinMap.{get, insert, empty, entries, get-insert, len-empty, len-insert, len-entries}
 use Rattle.std.specs.BTreeSet.{BTreeSet, contains, btree_set_len}
@@ -8,9 +8,13 @@ use Rattle.std.proofs.lemmas.Bool.{false≢true}
 use Rattle.std.proofs.lemmas.Cmp.{nat_list_cmp_total}
 use Rattle.std.proofs.lemmas.List.{nil_from_length}
 use Rattle.carte_name.specs.Names.{name_cmp}
-use Rattle.carte_book.specs.Book.{Item}
+use Rattle.carte_book.specs.Book.{Item, Book, book_view}
+use Rattle.carte_book.specs.Edits.{Adds}
+use Rattle.carte_book.specs.declared.fault.AddFault.{AddFault}
+use Rattle.carte_book.specs.declared.fault.AddFault.TheVariants.{Twice, Limit, NoMemory}
 use Rattle.carte_rules.specs.Reading.{Content}
 use Rattle.carte_rules.specs.Drafts.{items_of, Holds, IsFree}
+use Rattle.carte_rules.specs.Steps.{LeavesItem}
 use Rattle.carte_rules.specs.declared.draft.Draft.{Draft}
 
 -- how many keys there are with one more
@@ -72,6 +76,31 @@ holds_more d e m k x h room put beside =
       full = λ p. absurd (omega (arith, none_now, p));
       more = λ p. absurd (omega (arith, none_now, p));
     }
+
+nothing : (o : Option Item) → is_some o ≡ false → o ≡ None
+nothing None e = refl
+nothing (Some x) e = absurd (false≢true (sym e))
+
+taken : (a b : Bool) → a ≡ true → (a || b) ≡ true
+taken true b e = refl
+taken false b e = absurd (false≢true e)
+
+-- where there is room and nothing in the book, nothing stands in the content
+free_in : (d : Draft) (m : Content) (k : List ℕ) → Holds d m → length (entries (items_of d)) < 65536 → get (items_of d) k ≡ None → get m k ≡ None
+free_in d m k h room none =
+    let alone : btree_set_len d.beyond ≡ 0 = no_number (btree_set_len d.beyond) (λ p. still_room (h.full p) room) in
+    nothing (get m k) (h.names k ∙ sym (or_false (is_some (get (items_of d) k)) (contains name_cmp d.beyond k) (no_other d.beyond k alone)) ∙ ap is_some none)
+
+-- one more that the book is asked to take
+pub leaves : (d e : Draft) (m : Content) (k : List ℕ) (x : Item) (r : Result (Unit {0}) AddFault) → Holds d m → length (entries (items_of d)) < 65536 → Adds (book_view d.book) (book_view e.book) k x r → btree_set_len e.beyond ≡ btree_set_len d.beyond → LeavesItem k x m e r
+leaves d e m k x (Ok u) h room a beside = (free_in d m k h room a.0, holds_more d e m k x h room (ap (λ (b : Book). b.items) a.2) beside)
+leaves d e m k x (Err Twice) h room a beside = h.names k ∙ taken (is_some (get (items_of d) k)) (contains name_cmp d.beyond k) a.0
+leaves d e m k x (Err Limit) h room a beside = absurd (still_room a.1 room)
+leaves d e m k x (Err NoMemory) h room a beside = tt
+
+-- what was refused as standing twice stands
+pub stands : (k : List ℕ) (x : Item) (m : Content) (d : Draft) (r : Result (Unit {0}) AddFault) → LeavesItem k x m d r → r ≡ Err Twice → is_some (get m k) ≡ true
+stands k x m d r a is = subst (λ (s : Result (Unit {0}) AddFault). LeavesItem k x m d s) is a
 
 named : (t a b c d : Bool) (x : Item) (o : Option Item) → is_some o ≡ (a || b) → c ≡ cond t true b → is_some (cond t (Some x) o) ≡ (a || c)
 named true true b c d x o h e = refl

@@ -1,7 +1,7 @@
 -- One key, its value and what comes of them.
-use Rattle.std.proofs.Common.{◌≡◌, ℕ, Bool, true, false, cond, List, Option, Some, None, is_some, Result, Ok, Err, refl, ap, sym, ◌∙◌, subst}
+use Rattle.std.proofs.Common.{◌≡◌, ℕ, Bool, true, false, cond, List, Option, Some, None, is_some, Result, Ok, Err, refl, ap, sym, subst}
 use Rattle.std.specs.FinMap.{get, insert}
-use Rattle.toml.specs.Data.{Data, as_str}
+use Rattle.toml.specs.Data.{Data, string, as_str}
 use Rattle.carte_value.specs.declared.value.Value.{Value}
 use Rattle.carte_name.specs.Names.{is_rule_name}
 use Rattle.carte_tree.specs.Tree.{Tree}
@@ -9,9 +9,7 @@ use Rattle.carte_book.specs.Book.{Item, input}
 use Rattle.carte_book.specs.declared.fault.BookFault.{BookFault}
 use Rattle.carte_book.specs.declared.fault.BookFault.TheVariants.{BadName, BadValue, Twice}
 use Rattle.carte_rules.specs.Tables.{◌>>=◌}
-use Rattle.carte_rules.specs.Reading.{Content, name_of, new_name, or_fault, value_of, input_into, text_at, Then, FormulaOf, RuleAt}
-use Rattle.carte_rules.specs.Steps.{LeavesFormula, LeavesRule}
-use Rattle.carte_rules.specs.declared.draft.Draft.{Draft}
+use Rattle.carte_rules.specs.Reading.{Content, name_of, new_name, or_fault, value_of, input_into, FormulaOf, RuleAt}
 
 good_name : (good : Bool) (k j : List ℕ) → ◌≡◌ {A = Result (List ℕ) BookFault} (cond good (Ok k) (Err (BadName k))) (Ok j) → j ≡ k
 good_name true k j e = cc
@@ -34,28 +32,46 @@ taken false k o m n e = absurd (cc)
 pub one_input : (k : List ℕ) (d : Data) (m n : Content) → input_into k d m ≡ Ok n → (x : Item) × (n ≡ insert m k x)
 one_input k d m n e = taken (is_rule_name k) k (value_of d) m n e
 
-named : (good : Bool) (k j : List ℕ) (o : Option Item) → ◌≡◌ {A = Result (List ℕ) BookFault} (cond good (cond (is_some o) (Err (Twice k)) (Ok k)) (Err (BadName k))) (Ok j) → (j ≡ k) × (o ≡ None)
-named true k j None e = (cc, refl)
+told : (good : Bool) (k j : List ℕ) → ◌≡◌ {A = Result (List ℕ) BookFault} (cond good (Ok k) (Err (BadName k))) (Ok j) → good ≡ true
+told true k j e = refl
+told false k j e = cc
+
+-- a key that is a name is one
+pub is_name : (k j : List ℕ) → name_of k ≡ Ok j → is_rule_name k ≡ true
+is_name k j e = told (is_rule_name k) k j e
+
+untold : (good : Bool) (k : List ℕ) (o : Option Item) (fault : BookFault) → ◌≡◌ {A = Result (List ℕ) BookFault} (cond good (Ok k) (Err (BadName k))) (Err fault) → ◌≡◌ {A = Result (List ℕ) BookFault} (cond good (cond (is_some o) (Err (Twice k)) (Ok k)) (Err (BadName k))) (Err fault)
+untold true k o fault e = absurd (cc)
+untold false k o fault e = e
+
+named : (good : Bool) (k j : List ℕ) (o : Option Item) → ◌≡◌ {A = Result (List ℕ) BookFault} (cond good (cond (is_some o) (Err (Twice k)) (Ok k)) (Err (BadName k))) (Ok j) → j ≡ k
+named true k j None e = cc
 named true k j (Some x) e = cc
 named false k j o e = cc
 
--- nothing stands at a new name
-pub fresh : (k j : List ℕ) (m : Content) → new_name k m ≡ Ok j → (j ≡ k) × (get m k ≡ None)
-fresh k j m e = named (is_rule_name k) k j (get m k) e
+-- a name that is a new one has the key's bytes
+pub new_is_key : (k j : List ℕ) (m : Content) → new_name k m ≡ Ok j → j ≡ k
+new_is_key k j m e = named (is_rule_name k) k j (get m k) e
 
-pub fresh_name : (k j : List ℕ) (m : Content) → new_name k m ≡ Ok j → get m j ≡ None
-fresh_name k j m e = let f = fresh k j m e in ap (get m) f.0 ∙ f.1
+-- the fault of a new name is the rule's
+pub name_fault : (k : List ℕ) (d : Data) (m : Content) (fault : BookFault) → new_name k m ≡ Err fault → RuleAt k d m (Err fault)
+name_fault k d m fault e = rw e refl
 
-text_found : (k j text : List ℕ) (d : Data) (m : Content) → new_name k m ≡ Ok j → Some text ≡ as_str d → text_at k d m ≡ Ok text
-text_found k j text d m e is = rw (e, ← is) refl
+-- and so is that of a key that is no name
+pub key_fault : (k : List ℕ) (d : Data) (m : Content) (fault : BookFault) → name_of k ≡ Err fault → RuleAt k d m (Err fault)
+key_fault k d m fault e = name_fault k d m fault (untold (is_rule_name k) k (get m k) fault e)
 
-rule_so : (k text : List ℕ) (d : Data) (m : Content) (o : Result Tree BookFault) → text_at k d m ≡ Ok text → FormulaOf k text o → RuleAt k d m o
-rule_so k text d m o is h = subst (λ (t : Result (List ℕ) BookFault). Then t (FormulaOf k) o) (sym is) h
+-- or of one at which something stands
+pub taken_fault : (k : List ℕ) (d : Data) (m : Content) → is_rule_name k ≡ true → is_some (get m k) ≡ true → RuleAt k d m (Err (Twice k))
+taken_fault k d m name there = name_fault k d m (Twice k) (rw (name, there) refl)
 
-rule_here : (k text : List ℕ) (d : Data) (m : Content) (draft : Draft) (r : Result (Unit {0}) BookFault) → text_at k d m ≡ Ok text → LeavesFormula k text m draft r → LeavesRule k d m draft r
-rule_here k text d m draft (Ok u) is (e, f, h) = (e, rule_so k text d m (Ok e) is f, h)
-rule_here k text d m draft (Err fault) is f = λ cause. rule_so k text d m (Err fault) is (f cause)
+-- what is no text is a fault after these
+pub value_fault : (k j : List ℕ) (d : Data) (m : Content) → new_name k m ≡ Ok j → as_str d ≡ None → RuleAt k d m (Err (BadValue j))
+value_fault k j d m e none = rw (e, none) refl
 
--- what is left of a text is left of the key and its value
-pub rule_left : (k j text : List ℕ) (d : Data) (m : Content) (draft : Draft) (r : Result (Unit {0}) BookFault) → new_name k m ≡ Ok j → Some text ≡ as_str d → LeavesFormula j text m draft r → LeavesRule k d m draft r
-rule_left k j text d m draft r e is h = rule_here k text d m draft r (text_found k j text d m e is) (subst (λ (q : List ℕ). LeavesFormula q text m draft r) (fresh k j m e).0 h)
+-- and then comes what the text is read as
+pub text_rule : (k j text : List ℕ) (m : Content) (o : Result Tree BookFault) → new_name k m ≡ Ok j → FormulaOf j text o → RuleAt k (string text) m o
+text_rule k j text m o e h = rw e (subst (λ (q : List ℕ). FormulaOf q text o) (new_is_key k j m e) h)
+
+pub new_here : (k : List ℕ) (m : Content) → is_rule_name k ≡ true → get m k ≡ None → new_name k m ≡ Ok k
+new_here k m name none = rw (name, none) refl

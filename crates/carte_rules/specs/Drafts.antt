@@ -18,10 +18,6 @@ pub record Holds (d : Draft) (m : Content) : Type 0 where
   pub full : 0 < btree_set_len d.beyond → 65536 ≤ length (entries (items_of d))
   pub more : 0 < btree_set_len d.beyond → 65536 < length (entries m)
 
--- it has some content
-abbrev pub HoldsSome : Draft → Type 0
-HoldsSome d = (m : Content) × Holds d m
-
--- and nothing stands at the name
+-- it has some content, in which nothing stands at the name
 abbrev pub IsFree : Draft → List ℕ → Type 0
 IsFree d k = (m : Content) × Holds d m × (get m k ≡ None)

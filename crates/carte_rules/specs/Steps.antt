@@ -1,14 +1,16 @@
 -- What the steps of reading answer.
-use Rattle.std.specs.Prelude.{ℕ, ◌≡◌, List, Result, Ok, Err}
-use Rattle.std.specs.FinMap.{insert}
+use Rattle.std.specs.Prelude.{ℕ, ◌≡◌, true, List, None, is_some, Result, Ok, Err}
+use Rattle.std.specs.FinMap.{get, insert}
 use Rattle.toml.specs.Data.{Data, Members}
 use Rattle.carte_tree.specs.Tree.{Tree}
 use Rattle.carte_tree.specs.declared.fault.FormulaFault.TheVariants.{NoMemory as NoFormulaMemory}
-use Rattle.carte_book.specs.Book.{rule, Book, book_view}
+use Rattle.carte_book.specs.Book.{Item, rule, Book, book_view}
 use Rattle.carte_book.specs.declared.book.Book.{Book as CodeBook}
+use Rattle.carte_book.specs.declared.fault.AddFault.{AddFault}
+use Rattle.carte_book.specs.declared.fault.AddFault.TheVariants as add
 use Rattle.carte_book.specs.declared.fault.BookFault.{BookFault}
 use Rattle.carte_book.specs.declared.fault.BookFault.TheVariants.{Formula, NoMemory}
-use Rattle.carte_rules.specs.Reading.{Content, FormulaOf, RuleAt, RulesInto}
+use Rattle.carte_rules.specs.Reading.{Content, RuleAt, RulesInto}
 use Rattle.carte_rules.specs.Drafts.{Holds}
 use Rattle.carte_rules.specs.declared.draft.Draft.{Draft}
 
@@ -33,12 +35,14 @@ abbrev pub Leaves : Result Content BookFault → Draft → Result (Unit {0}) Boo
 Leaves o d (Ok u) = (m : Content) × (o ≡ Ok m) × Holds d m
 Leaves o d (Err fault) = IsCause fault → o ≡ Err fault
 
--- the draft holds the rule of the text too
-abbrev pub LeavesFormula : List ℕ → List ℕ → Content → Draft → Result (Unit {0}) BookFault → Type 0
-LeavesFormula k text m draft (Ok u) = (e : Tree) × FormulaOf k text (Ok e) × Holds draft (insert m k (rule e))
-LeavesFormula k text m draft (Err fault) = IsCause fault → FormulaOf k text (Err fault)
+-- the draft holds the item too, at a name at which nothing stood
+abbrev pub LeavesItem : List ℕ → Item → Content → Draft → Result (Unit {0}) AddFault → Type 0
+LeavesItem k x m draft (Ok u) = (get m k ≡ None) × Holds draft (insert m k x)
+LeavesItem k x m draft (Err add.Twice) = is_some (get m k) ≡ true
+LeavesItem k x m draft (Err add.Limit) = ⊥
+LeavesItem k x m draft (Err add.NoMemory) = Unit {0}
 
--- the same of the value, at the key of the content so far
+-- the draft holds what the value gives at the key, too
 abbrev pub LeavesRule : List ℕ → Data → Content → Draft → Result (Unit {0}) BookFault → Type 0
 LeavesRule k d m draft (Ok u) = (e : Tree) × RuleAt k d m (Ok e) × Holds draft (insert m k (rule e))
 LeavesRule k d m draft (Err fault) = IsCause fault → RuleAt k d m (Err fault)

@@ -3,7 +3,7 @@ ghost use Rattle.std.specs.Prelude.{◌≡◌, None, IfOk};
 ghost use Rattle.std.specs.FinMap.{empty, get};
 ghost use Rattle.std.specs.List.Sorted.{IsStrictlySortedBy};
 ghost use Rattle.carte_name.specs.Names.{name_cmp};
-ghost use Rattle.carte_rules.specs.Drafts.{Holds, HoldsSome, IsFree};
+ghost use Rattle.carte_rules.specs.Drafts.{Holds, IsFree};
 ghost use Rattle.carte_rules.specs.Entries.{data_of, keys_of, members_of};
 ghost use Rattle.carte_rules.specs.Reading.{Content, input_into, inputs_into, value_of};
 ghost use Rattle.carte_rules.specs.Steps.{Leaves, LeavesRule, LeavesRules};
@@ -11,8 +11,7 @@ ghost use Rattle.carte_rules.specs.Steps.{Leaves, LeavesRule, LeavesRules};
 use crate::draft::Draft;
 use crate::entry::{Entry, Held};
 use crate::inputs::read_input;
-use crate::names::new_name;
-use crate::rules::read_formula;
+use crate::rules::{no_text, read_formula};
 use carte_book::BookFault;
 use carte_formula::Room;
 use carte_value::{NoMemory, Text, TextFault, Value};
@@ -60,7 +59,6 @@ pub(crate) fn put_rules(
     entries: &[Entry<'_>],
     draft: &mut Draft,
 ) -> Result<(), BookFault>
-    requires { HoldsSome draft.old }
     ensures { (m : Content) → Holds draft.old m → LeavesRules (members_of entries.now) m draft.new result }
 {
     let mut room = Room::new(alloc);
@@ -76,12 +74,10 @@ fn put_rule(
     entry: &Entry<'_>,
     draft: &mut Draft,
 ) -> Result<(), BookFault>
-    requires { HoldsSome draft.old }
     ensures { (m : Content) → Holds draft.old m → LeavesRule entry.now.key.now (data_of entry.now.held) m draft.new result }
 {
-    let name = new_name(alloc, entry.key, draft)?;
     match entry.held {
-        Held::Text(text) => read_formula(alloc, room, name, text, draft),
-        Held::Number(_) => Err(BookFault::BadValue(name)),
+        Held::Text(text) => read_formula(alloc, room, entry.key, text, draft),
+        Held::Number(_) => Err(no_text(alloc, entry.key, draft)),
     }
 }

@@ -59,7 +59,8 @@ fn read_lines(alloc: Global, tables: PlainTables<'_>, hasher: Seeded) -> Result<
     requires { IsStrictlySortedBy name_cmp (keys_of tables.inputs.items) }
     ensures { Answers (InTables (plain_view tables.entry)) result }
 {
-    let mut draft = Draft::new(alloc, hasher);
+    let keys = tables.inputs.len().saturating_add(tables.rules.len());
+    let mut draft = Draft::new(alloc, keys, hasher)?;
     put_inputs(alloc, &tables.inputs, &mut draft)?;
     put_rules(alloc, &tables.rules, &mut draft)?;
     draft.finish()
@@ -92,7 +93,8 @@ fn read_tables(alloc: Global, found: Found, hasher: Seeded) -> Result<Book, Book
     ensures { Answers (InTables (tables_view found)) result }
 {
     let Found { inputs, rules } = found;
-    let mut draft = Draft::new(alloc, hasher);
+    let keys = inputs.len().saturating_add(rules.len());
+    let mut draft = Draft::new(alloc, keys, hasher)?;
     read_inputs(alloc, inputs, &mut draft)?;
     read_formulas(alloc, rules, &mut draft)?;
     draft.finish()

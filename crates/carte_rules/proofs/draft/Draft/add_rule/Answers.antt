@@ -1,7 +1,9 @@
-use Rattle.std.proofs.Common.{refl, ap}
-use Rattle.carte_book.specs.Book.{Book}
-use Rattle.carte_rules.proofs.Drafts.{holds_more}
+use Rattle.std.proofs.Common.{refl}
+use Rattle.carte_rules.proofs.Drafts.{leaves}
 use Rattle.carte_rules.proofs.draft.Draft.add_rule.Goals as goal
 
-pub returns-in-Ok : goal.returns-in-Ok
-returns-in-Ok c = λ m h new. holds_more c.args.self.now _ m c.args.name _ h c.in-Ok.ensures.1 (ap (λ (b : Book). b.items) c.in-Ok.ensures.2) refl
+pub returns-then-is_full : goal.returns-then-is_full
+returns-then-is_full c = λ m h. c.add_last.ensures m _ h
+
+pub returns : goal.returns
+returns c = λ m h. leaves c.args.self.now _ m c.args.name _ c.add_rule.result h (c.is_full.ensures.room c.if-is_full.false) c.add_rule.ensures refl

@@ -1,5 +1,5 @@
 use Rattle.carte_rules.proofs.Drafts.{holds_none}
 use Rattle.carte_rules.proofs.draft.Draft.new.Goals as goal
 
-pub returns : goal.returns
-returns c = holds_none _ c.new.ensures.items c.new-2.ensures.len
+pub returns-in-Ok-clause-draft : goal.returns-in-Ok-clause-draft
+returns-in-Ok-clause-draft c = holds_none _ c.in-Ok.ensures.items c.new.ensures.len
