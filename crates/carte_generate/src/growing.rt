@@ -32,7 +32,7 @@ pub fn generated(alloc: Global, seed: u64, count: u64, hasher: Seeded) -> Result
 {
     let inputs = inputs_of(count);
     let mut draws = Draws { state: seed };
-    let mut book = Book::new(alloc, Kind::Rules, hasher);
+    let mut book = Book::with_room(alloc, Kind::Rules, count as usize, hasher)?;
     for number in 0..count {
         add_key(alloc, inputs, number, &mut draws, &mut book)?;
     }

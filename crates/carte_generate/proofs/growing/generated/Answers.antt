@@ -4,7 +4,7 @@ use Rattle.carte_generate.proofs.Made.{no_keys, none_made, whole}
 use Rattle.carte_generate.proofs.growing.generated.Goals as goal
 
 pub loop-number-init : goal.loop-number-init
-loop-number-init c = (no_keys _ c.new-book.ensures.kind c.new-book.ensures.items, none_made _ _ _)
+loop-number-init c = (no_keys _ c.in_ok-book.ensures.kind c.in_ok-book.ensures.items, none_made _ _ _)
 
 pub loop-number-preserved : goal.loop-number-preserved
 loop-number-preserved c = (c.in_ok-add_key.ensures.keys, c.in_ok-add_key.ensures.made c.args.seed c.loop-number.invariant.1)
