@@ -82,11 +82,16 @@ is_rule (Some (rule e)) = true
 abbrev pub rules_needed : Book → List ℕ → List (List ℕ)
 rules_needed b k = filter (λ j. is_rule (content b j)) (needs b k)
 
--- only what is treated was started; a key that is reached was given up at most once for each rule that it needs, and any other at most once for each name that it needs
-pub record GivesUp (b : Book) (targets : List (List ℕ)) (treated : List ℕ → Type 0) (r : Ledger) : Type 0 where
+-- only what is treated was started, and each that has ended was; a key was given up at most once for each name that it needs
+pub record StartsAnew (b : Book) (treated : List ℕ → Type 0) (r : Ledger) : Type 0 where
   pub only : (k : List ℕ) → Among r.starts k → treated k
-  pub reached : (k : List ℕ) → IsReachedRule b targets k → GivenUpAtMost r k (length (rules_needed b k))
+  pub each : (k : List ℕ) → Among r.ends k → Among r.starts k
   pub others : (k : List ℕ) → GivenUpAtMost r k (length (needs b k))
+
+-- so it is, and a key that is reached was given up at most once for each rule that it needs
+pub record GivesUp (b : Book) (targets : List (List ℕ)) (treated : List ℕ → Type 0) (r : Ledger) : Type 0 where
+  pub starts : StartsAnew b treated r
+  pub reached : (k : List ℕ) → IsReachedRule b targets k → GivenUpAtMost r k (length (rules_needed b k))
 
 -- the finished keys come before the old chain
 abbrev pub IsNewChain : SomeKept → Work → Type 0
@@ -97,4 +102,4 @@ abbrev pub EndsRestarting : How → SomeKept → Book → List (List ℕ) → Wo
 EndsRestarting h K b targets (All w) = IsNewChain K w
     × (IsGiven K b → AllClean b targets × IsWork h K b (IsDoneRestarting h K b targets) w × GivesUp b targets (IsTreatedRestarting h K b targets) w.runs × (IsRightChain K b targets → AllEnded w.runs))
 EndsRestarting h K b targets (Refused w reason) = IsNewChain K w
-    × (IsGiven K b → IsReason b targets reason × IsWork h K b (IsDoneRestarting h K b targets) w)
+    × (IsGiven K b → IsReason b targets reason × IsWork h K b (IsDoneRestarting h K b targets) w × StartsAnew b (IsTreatedRestarting h K b targets) w.runs)

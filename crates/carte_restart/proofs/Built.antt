@@ -15,7 +15,7 @@ use Rattle.carte_sound.specs.Treated.{IsTreated, IsDoneSuspending}
 use Rattle.carte_note.specs.Right.{ran_in}
 use Rattle.carte_rebuild.specs.declared.work.Work.{Work}
 use Rattle.carte_rebuild.specs.declared.work.WorkEnd.TheVariants.{All, Refused}
-use Rattle.carte_rebuild.specs.Ends.{AllEnded, GivesUp, IsNewChain, IsWork}
+use Rattle.carte_rebuild.specs.Ends.{AllEnded, GivesUp, IsNewChain, IsWork, StartsAnew}
 use Rattle.carte_bench.specs.declared.slot.Slot.{Slot}
 use Rattle.carte_bench.specs.Spots.{Spots}
 use Rattle.carte_bench.specs.Steps.{FitsOf}
@@ -26,7 +26,7 @@ use Rattle.carte_progress.proofs.Ending.{is_work, targets_clean, targets_reason}
 use Rattle.carte_restart.specs.Ending.{EndsFrom}
 use Rattle.carte_restart.specs.Going.{IsRestarting}
 use Rattle.carte_restart.specs.Straight.{IsPrepared}
-use Rattle.carte_restart.proofs.Ending.{gives_up}
+use Rattle.carte_restart.proofs.Ending.{gives_up, starts_anew}
 
 -- the rules of both were demanded
 pub both_demanded : {J : Type 0} (b : Book) (mid s : Spots J) (list targets : List (List ℕ)) → ((t : List ℕ) → Among list t → IsRule b t → IsDemanded mid t) → StaysKnown mid s → ((t : List ℕ) → Among targets t → IsRule b t → IsDemanded s t) → (t : List ℕ) → Among (list ++ targets) t → IsRule b t → IsDemanded s t
@@ -61,5 +61,6 @@ module _ {J : Type 0} (name : J → List ℕ) (started : J → Bool) (fits : Fit
         let now = going H base in (
           targets_reason name b s standing fits begun h K (list ++ targets) w.finished now.along demanded targets (λ t here. among_right list targets t here) es are reason first,
           work H base,
+          subst (λ (l : Ledger). StartsAnew b (IsTreated h K b (list ++ targets)) l) (sym runs) (starts_anew started b s (ran_in w.finished) w.runs now.tallied (IsTreated h K b (list ++ targets)) (λ k there. now.along.known.treated k there.0 there.1)),
         ),
   )

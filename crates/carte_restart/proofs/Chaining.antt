@@ -1,5 +1,5 @@
 -- The finished keys before the others of the old chain.
-use Rattle.std.proofs.Common.{◌≡◌, ℕ, Bool, true, false, not, ◌||◌, cond, List, [], ◌∷◌, ◌++◌, Option, Some, None, is_some, option_copied, filter, find, refl, ap, sym, ◌∙◌, append_assoc, inl, inr}
+use Rattle.std.proofs.Common.{◌≡◌, ℕ, zero, suc, Bool, true, false, not, ◌||◌, cond, List, [], ◌∷◌, ◌++◌, Option, Some, None, is_some, option_copied, slice_get, filter, find, refl, ap, sym, ◌∙◌, append_assoc, inl, inr}
 use Rattle.std.proofs.lemmas.List.Elements.{filter-append}
 use Rattle.std.specs.Borrow.{Bor}
 use Rattle.carte_name.specs.Names.{name_eq}
@@ -43,16 +43,26 @@ copied_some : (o : Option (Bor Finished)) → is_some (option_copied o) ≡ is_s
 copied_some None = refl
 copied_some (Some f) = refl
 
-module _ (fs : List Finished) (chain : List (List ℕ)) (k : List ℕ) (o : Option (Bor Finished)) (is : option_copied o ≡ finished_of fs k) (none : Bool) (told : is_some o ≡ not none) where
-  finished_so : is_among (keys_in fs) k ≡ not none
-  finished_so = found_some fs k ∙ ap is_some (sym is) ∙ copied_some o ∙ told
+-- what a look-up tells
+pub found_so : (fs : List Finished) (k : List ℕ) (o : Option (Bor Finished)) → option_copied o ≡ finished_of fs k → is_some o ≡ is_among (keys_in fs) k
+found_so fs k o is = sym (copied_some o) ∙ ap is_some is ∙ sym (found_some fs k)
 
-  -- so it is put behind the chain, or not
-  pub other_put : none ≡ true → chain ++ k ∷ [] ≡ with_other fs chain k
-  other_put so = rw (finished_so, so) refl
+-- what stands at a place was finished
+pub finished_at : (fs : List Finished) (i : ℕ) (f : Finished) (k : List ℕ) → slice_get fs i ≡ Some f → name_eq (key_of f) k ≡ true → is_among (keys_in fs) k ≡ true
+finished_at [] i f k is same = cc
+finished_at (x ∷ xs) zero f k is same = let one : x ≡ f = cc in rw (ap (λ (y : Finished). name_eq (key_of y) k) one ∙ same) refl
+finished_at (x ∷ xs) (suc i) f k is same = at (name_eq (key_of x) k) (finished_at xs i f k is same)
+  where
+    at : (t : Bool) → is_among (keys_in xs) k ≡ true → (t || is_among (keys_in xs) k) ≡ true
+    at true rest = refl
+    at false rest = rest
 
-  pub other_left : none ≡ false → chain ≡ with_other fs chain k
-  other_left so = rw (finished_so, so) refl
+-- so it is put behind the chain, or not
+pub other_put : (fs : List Finished) (chain : List (List ℕ)) (k : List ℕ) → is_among (keys_in fs) k ≡ false → chain ++ k ∷ [] ≡ with_other fs chain k
+other_put fs chain k so = rw so refl
+
+pub other_left : (fs : List Finished) (chain : List (List ℕ)) (k : List ℕ) → is_among (keys_in fs) k ≡ true → chain ≡ with_other fs chain k
+other_left fs chain k so = rw so refl
 
 -- with nothing of the old chain
 pub none_behind : (ks : List (List ℕ)) → ks ≡ chain_behind ks []

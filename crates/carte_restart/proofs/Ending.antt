@@ -9,7 +9,7 @@ use Rattle.carte_book.specs.Edits.{IsInput}
 use Rattle.carte_book.specs.Needs.{needs, need}
 use Rattle.carte_book.specs.Reason.{IsClean, AllClean}
 use Rattle.carte_book.proofs.Clean.{clean_nothing}
-use Rattle.carte_rebuild.specs.Ends.{GivenUpAtMost, GivesUp, is_rule, rules_needed}
+use Rattle.carte_rebuild.specs.Ends.{GivenUpAtMost, GivesUp, StartsAnew, is_rule, rules_needed}
 use Rattle.carte_sound.proofs.Reached.{reached_clean}
 use Rattle.carte_bench.specs.Spots.{Spots}
 use Rattle.carte_progress.specs.Standing.{IsDemanded}
@@ -37,10 +37,16 @@ module _ {J : Type 0} (started : J → Bool) (b : Book) (s : Spots J) (ran : Lis
   at_most : (k : List ℕ) (ns : List (List ℕ)) → ((n : List ℕ) → Among (tallied.given_up k).names n → Among ns n) → GivenUpAtMost r k (length ns)
   at_most k ns within = omega (arith, (tallied.given_up k).bound, no_longer (tallied.given_up k).names ns (tallied.given_up k).once within)
 
+  pub starts_anew : (treated : List ℕ → Type 0) → ((k : List ℕ) → IsDemanded s k → treated k) → StartsAnew b treated r
+  starts_anew treated known = record {
+    only = λ k here. known k (tallied.demanded k here);
+    each = tallied.each;
+    others = λ k. at_most k (needs b k) (λ n here. ((tallied.given_up k).waited n here).need);
+  }
+
   -- where the targets have clean values, no key that they reach waits for a name that has nothing
   pub gives_up : (targets : List (List ℕ)) (treated : List ℕ → Type 0) → AllClean b targets → ((k : List ℕ) → IsDemanded s k → treated k) → GivesUp b targets treated r
   gives_up targets treated all known = record {
-    only = λ k here. known k (tallied.demanded k here);
+    starts = starts_anew treated known;
     reached = λ k reached. at_most k (rules_needed b k) (λ n here. (let w = (tallied.given_up k).waited n here in picked (λ j. is_rule (content b j)) (needs b k) n w.need (clean_rule_there b n (reached_clean b targets all n (need reached.1 w.need)) w.no_input)));
-    others = λ k. at_most k (needs b k) (λ n here. ((tallied.given_up k).waited n here).need);
   }

@@ -7,6 +7,7 @@ pub mod Ending
 pub mod Leading
 pub mod Picking
 pub mod Chaining
+pub mod Taking
 pub mod Right
 pub mod Restarted
 pub mod Built

@@ -6,9 +6,7 @@ use Rattle.carte_book.specs.Book.{Book}
 use Rattle.carte_record.specs.Kept.{SomeKept}
 use Rattle.carte_sound.specs.Chains.{ArePicked, IsFirstList}
 use Rattle.carte_sound.specs.Treated.{IsLedRule}
-use Rattle.carte_mark.specs.Puts.{put_all}
 use Rattle.carte_mark.proofs.Listing.{IsInOrder, in_order}
-use Rattle.carte_mark.proofs.Putting.{put_only, put_there}
 use Rattle.carte_restart.specs.Led.{AreLed, IsOther, IsRuleAmong, PushesIf}
 
 -- one name more
@@ -41,18 +39,12 @@ picked_each P (x ∷ xs) ys k (inr (other, rest)) (inl same) has = absurd (other
 picked_each P (x ∷ xs) ys k (inr (other, rest)) (inr later) has = picked_each P xs ys k rest later has
 
 -- those besides the chain, in name order
-pub besides_all : (b : Book) (led chain set ms sorted listed : List (List ℕ)) → set ≡ put_all [] chain → ArePicked (IsOther b set) led ms → IsInOrder ms sorted listed → IsListOf (λ k. IsRuleAmong b led k × ¬ (Among chain k)) listed
-besides_all b led chain set ms sorted listed is picked order =
+pub besides_all : (b : Book) (led chain ms sorted listed : List (List ℕ)) → ArePicked (IsOther b chain) led ms → IsInOrder ms sorted listed → IsListOf (λ k. IsRuleAmong b led k × ¬ (Among chain k)) listed
+besides_all b led chain ms sorted listed picked order =
     let l = in_order ms sorted listed order in record {
       rising = l.rising;
-      only = λ k here. (let p = picked_only (IsOther b set) led ms k picked (l.only k here) in ((p.0.0, p.1), (λ there. p.0.1 (subst (λ ks. Among ks k) (sym is) (put_there [] chain k there)))));
-      each = λ k ((held, among), off). l.each k (picked_each (IsOther b set) led ms k picked among (
-        held,
-        (λ there. elim (put_only [] chain k (subst (λ ks. Among ks k) is there)) [
-          | inl nowhere ↦ nowhere
-          | inr here ↦ off here
-        ]),
-      ));
+      only = λ k here. (let p = picked_only (IsOther b chain) led ms k picked (l.only k here) in ((p.0.0, p.1), p.0.1));
+      each = λ k ((held, among), off). l.each k (picked_each (IsOther b chain) led ms k picked among (held, off));
     }
 
 -- the list with which a build begins

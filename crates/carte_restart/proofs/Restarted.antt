@@ -1,6 +1,7 @@
 -- What a build that began with its first list has come to.
 use Rattle.std.proofs.Common.{ℕ, List, ◌++◌, inl, inr}
 use Rattle.carte_value.proofs.Members.{among_append, among_left, among_right}
+use Rattle.carte_effect.specs.Ledger.{Ledger}
 use Rattle.carte_book.specs.Book.{Book}
 use Rattle.carte_record.specs.Kept.{SomeKept}
 use Rattle.carte_sound.specs.Chains.{IsFirstList}
@@ -9,7 +10,7 @@ use Rattle.carte_sound.specs.Treated.{IsDoneRestarting, IsDoneSuspending, IsTrea
 use Rattle.carte_rebuild.specs.declared.work.Work.{Work}
 use Rattle.carte_rebuild.specs.declared.work.WorkEnd.{WorkEnd}
 use Rattle.carte_rebuild.specs.declared.work.WorkEnd.TheVariants.{All, Refused}
-use Rattle.carte_rebuild.specs.Ends.{EndsRestarting, IsWork}
+use Rattle.carte_rebuild.specs.Ends.{EndsRestarting, IsWork, StartsAnew}
 use Rattle.carte_restart.specs.Ending.{EndsFrom}
 use Rattle.carte_restart.proofs.Picking.{first_only, first_each}
 use Rattle.carte_restart.proofs.Right.{first_prepared, targets_prepared}
@@ -40,6 +41,13 @@ module _ (h : How) (K : SomeKept) (b : Book) (targets list : List (List ℕ)) (f
     ends = work.ends;
   }
 
+  starts_to : (r : Ledger) → StartsAnew b (IsTreated h K b (list ++ targets)) r → StartsAnew b (IsTreatedRestarting h K b targets) r
+  starts_to r starts = record {
+    only = λ k here. treated_to k (starts.only k here);
+    each = starts.each;
+    others = starts.others;
+  }
+
   pub restarted : (end : WorkEnd) → EndsFrom h K b list targets end → EndsRestarting h K b targets end
   restarted (All w) (chain, known) = (
     chain,
@@ -48,9 +56,8 @@ module _ (h : How) (K : SomeKept) (b : Book) (targets list : List (List ℕ)) (f
           r.0,
           work_to w r.1,
           record {
-            only = λ k here. treated_to k (r.2.only k here);
+            starts = starts_to w.runs r.2.starts;
             reached = r.2.reached;
-            others = r.2.others;
           },
           λ right. r.3 (first_prepared K b given.0 given.1 targets r.0 right list first) (targets_prepared K b given.0 given.1 targets r.0 right list first),
         ),
@@ -59,5 +66,5 @@ module _ (h : How) (K : SomeKept) (b : Book) (targets list : List (List ℕ)) (f
     chain,
     λ given.
         let r = known given in
-        (r.0, work_to w r.1),
+        (r.0, work_to w r.1, starts_to w.runs r.2),
   )

@@ -1,7 +1,7 @@
 -- What the ledger says after each step of a build: a job is given up at most once for each name that its key waits for.
 use Rattle.std.proofs.Common.{◌≡◌, ◌⊎◌, ℕ, ◌+◌, ◌≤◌, Bool, true, false, cond, not, ◌&&◌, List, [], ◌∷◌, ◌++◌, length, Some, None, Ok, Err, refl, ap, sym, ◌∙◌, subst, inl, inr, arith}
 use Rattle.carte_value.specs.Truths.{Among}
-use Rattle.carte_value.proofs.Members.{same_or_not, among_append}
+use Rattle.carte_value.proofs.Members.{same_or_not, among_append, among_left, among_right}
 use Rattle.carte_effect.specs.declared.look.Stuck.{Stuck}
 use Rattle.carte_effect.specs.declared.outcome.Made.{Made}
 use Rattle.carte_effect.specs.declared.outcome.Made.TheVariants.{Ran, Reused}
@@ -90,6 +90,7 @@ waited_done b s k n ready w = elim (w.now) [
 pub tallied_none : {J : Type 0} (started : J → Bool) (b : Book) (s : Spots J) → IsSame (λ q. None) s → IsTallied started b s [] (record { starts = []; ends = [] })
 tallied_none started b s none = record {
   ends = refl;
+  each = λ k here. absurd here;
   demanded = λ k here. absurd here;
   idle = λ k j is. (let both : None ≡ Some j = rw (none k) at is in cc);
   given_up = λ k. record { names = []; once = tt; waited = λ n here. absurd here; bound = omega arith };
@@ -98,6 +99,7 @@ tallied_none started b s none = record {
 pub tallied_same : {J : Type 0} (started : J → Bool) (b : Book) (s d : Spots J) (ran : List (List ℕ)) (r : Ledger) → IsSame s d → IsTallied started b s ran r → IsTallied started b d ran r
 tallied_same started b s d ran r same t = record {
   ends = t.ends;
+  each = t.each;
   demanded = λ k here. (let there = t.demanded k here in (there.0, same k ∙ there.1));
   idle = λ k j is. t.idle k j (rw (same k) at is);
   given_up = λ k. (let g = t.given_up k in record {
@@ -119,6 +121,7 @@ tallied_same started b s d ran r same t = record {
 pub tallied_demand : {J : Type 0} (started : J → Bool) (b : Book) (s d : Spots J) (k : List ℕ) (j : J) (ran : List (List ℕ)) (r : Ledger) → IsTallied started b s ran r → PutAt s d k (Ready j) → s k ≡ None → started j ≡ false → IsTallied started b d ran r
 tallied_demand {J = J} started b s d k j ran r t put none idle = record {
   ends = t.ends;
+  each = t.each;
   demanded = λ q here. (let there = t.demanded q here in known_put s d k (Ready j) put q there.0 there.1);
   idle = jobs_put (λ q i. started i ≡ false) s d k (Ready j) put t.idle (λ i is. (let same : j ≡ i = cc in rw (← same) idle));
   given_up = λ q. elim (same_or_not k q) [
@@ -163,6 +166,7 @@ module _ {J : Type 0} (started : J → Bool) (b : Book) (s d : Spots J) (k : Lis
   pub tallied_stop : (x : Stuck) (j : J) → PutAt s d k (Stopped j (name_of x)) → started j ≡ false → IsDemanded s k → Among (needs b k) (name_of x) → ¬ (IsInput b (name_of x)) → is_done (d (name_of x)) ≡ false → Counted {S = Stuck} k (started p) (started q) r r' (halted (Err x)) → IsTallied started b d ran r'
   tallied_stop x j put idle there need no_input stuck by = record {
     ends = ends ∙ t.ends;
+    each = λ i here. rw by.starts (among_left r.starts (added more k) i (t.each i (rw ends at here)));
     demanded = λ i here. elim (added_among more r.starts k i (rw by.starts at here)) [
       | inl before ↦ (let known = t.demanded i before in known_put s d k (Stopped j (name_of x)) put i known.0 known.1)
       | inr same ↦ known_put s d k (Stopped j (name_of x)) put i there.0 (rw same there.1)
@@ -211,6 +215,10 @@ module _ {J : Type 0} (started : J → Bool) (b : Book) (s d : Spots J) (k : Lis
   pub tallied_end : (m : Made) → PutAt s d k (Done m) → IsDemanded s k → Counted {S = Stuck} k (started p) (started q) r r' (halted (Ok m)) → IsTallied started b d (ran ++ added (has_run m) k) r'
   tallied_end m put there by = record {
     ends = (ended_by m by).1 ∙ ap (λ ks. ks ++ added (has_run m) k) t.ends;
+    each = λ i here. rw ((ended_by m by).0) (elim (among_append r.ends (added (has_run m) k) i (rw ((ended_by m by).1) at here)) [
+      | inl before ↦ among_left r.starts (added (has_run m) k) i (t.each i before)
+      | inr last ↦ among_right r.starts (added (has_run m) k) i last
+    ]);
     demanded = λ i here. elim (added_among (has_run m) r.starts k i (rw ((ended_by m by).0) at here)) [
       | inl before ↦ (let known = t.demanded i before in known_put s d k (Done m) put i known.0 known.1)
       | inr same ↦ known_put s d k (Done m) put i there.0 (rw same there.1)

@@ -31,9 +31,10 @@ pub record IsGivenUp {J : Type 0} (b : Book) (s : Spots J) (r : Ledger) (k : Lis
   pub waited : (n : List ℕ) → Among names n → HasWaited b s k n
   pub bound : GivenUpAtMost r k (length names)
 
--- the tasks that ended are those that ran; what was started was demanded, and no job that is on the bench was started
+-- the tasks that ended are those that ran, and were started; what was started was demanded, and no job that is on the bench was started
 pub record IsTallied {J : Type 0} (started : J → Bool) (b : Book) (s : Spots J) (ran : List (List ℕ)) (r : Ledger) : Type 0 where
   pub ends : r.ends ≡ ran
+  pub each : (k : List ℕ) → Among r.ends k → Among r.starts k
   pub demanded : (k : List ℕ) → Among r.starts k → IsDemanded s k
   pub idle : (k : List ℕ) (j : J) → job_in (s k) ≡ Some j → started j ≡ false
   pub given_up : (k : List ℕ) → IsGivenUp b s r k

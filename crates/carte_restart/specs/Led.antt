@@ -1,6 +1,6 @@
 -- Which names targets lead to by entries, and which of them begin a build.
-use Rattle.std.specs.Prelude.{ℕ, ◌≡◌, ◌⊎◌, List, [], ◌∷◌, ◌++◌, Option, Some, None}
-use Rattle.carte_value.specs.Truths.{Among}
+use Rattle.std.specs.Prelude.{ℕ, ◌≡◌, ◌⊎◌, ◌↔◌, ◌<◌, Bool, true, false, List, [], ◌∷◌, ◌++◌, Option, Some, None, length, get_or}
+use Rattle.carte_value.specs.Truths.{Among, NoneTwice}
 use Rattle.carte_book.specs.Book.{Book}
 use Rattle.carte_book.specs.Needs.{IsRule}
 use Rattle.carte_record.specs.declared.entry.Entry.{Entry}
@@ -35,6 +35,12 @@ IsRuleAmong b names k = IsRule b k × Among names k
 
 abbrev pub IsOther : Book → List (List ℕ) → List ℕ → Type 0
 IsOther b names k = IsRule b k × ¬ (Among names k)
+
+-- beside each of these names, which come once, whether it is among the keys that were taken
+pub record AreTaken (names keys : List (List ℕ)) (taken : List Bool) : Type 0 where
+  pub once : NoneTwice names
+  pub beside : length taken ≡ length names
+  pub told : (i : ℕ) → i < length names → (get_or taken i false ≡ true) ↔ Among keys (get_or names i [])
 
 -- the name was put behind the others where it has the property
 abbrev pub PushesIf : (List ℕ → Type 0) → List (List ℕ) → List (List ℕ) → List ℕ → Type 0

@@ -96,14 +96,18 @@ fn treat_all<R: Rebuilder>(
     ensures demanded { OnOk result ((t : List ℕ) → Among names.now t → IsRule (book_view book.now) t → IsDemanded (spots_of bench.new) t) }
     ensures straight { OnOk result ((ts : List (List ℕ)) → ((t : List ℕ) → Among names.now t → Among ts t) → GoesStraight R.Job.started R.Job.fits (R.begun rebuilder.now (kept_view kept.now) (book_view book.now)) (R.how rebuilder.now) (kept_view kept.now) (book_view book.now) ts (spots_of bench.old) (spots_of bench.new) work.old work.new (IsPreparedOn (book_view book.now) (spots_of bench.old) names.now)) }
 {
+    // One path for all, whose room serves again.
+    let mut path = VecDeque::new(alloc);
     for at in 0..names.len() {
-        treat(alloc, rebuilder, kept, book, bench, work, &names[at])?;
+        treat(
+            alloc, rebuilder, kept, book, bench, work, &mut path, &names[at],
+        )?;
     }
     Ok(())
 }
 
 /// Demands a name that the bench doesn't know, where it is a rule, and gives turns to what it needs and to it until it is
-/// done, or no turn helps.
+/// done, or no turn helps. The path is empty before and after.
 fn treat<R: Rebuilder>(
     alloc: Global,
     rebuilder: &R,
@@ -111,10 +115,13 @@ fn treat<R: Rebuilder>(
     book: &Book,
     bench: &mut Bench<'_, R::Job>,
     work: &mut Work,
+    path: &mut VecDeque<Name>,
     target: &Name,
 ) -> Result<(), NoMemory>
+    requires idle { path.old.items ≡ [] }
     requires book { book_of bench.old ≡ book_view book.now }
     requires standing { IsStanding R.Job.name (book_view book.now) (spots_of bench.old) [] }
+    ensures idle { OnOk result (path.new.items ≡ []) }
     ensures book { OnOk result (book_of bench.new ≡ book_view book.now) }
     ensures standing { OnOk result (IsStanding R.Job.name (book_view book.now) (spots_of bench.new) []) }
     ensures goes { OnOk result ((ts : List (List ℕ)) → Among ts target.now → GoesOn R.Job.started R.Job.fits (R.begun rebuilder.now (kept_view kept.now) (book_view book.now)) (R.how rebuilder.now) (kept_view kept.now) (book_view book.now) ts (spots_of bench.old) (spots_of bench.new) work.old work.new) }
@@ -122,11 +129,10 @@ fn treat<R: Rebuilder>(
     ensures demanded { OnOk result (IsRule (book_view book.now) target.now → IsDemanded (spots_of bench.new) target.now) }
     ensures straight { OnOk result ((ts : List (List ℕ)) → Among ts target.now → GoesStraight R.Job.started R.Job.fits (R.begun rebuilder.now (kept_view kept.now) (book_view book.now)) (R.how rebuilder.now) (kept_view kept.now) (book_view book.now) ts (spots_of bench.old) (spots_of bench.new) work.old work.new (IsRule (book_view book.now) target.now → AreThere (book_view book.now) (seen_in (book_view book.now) (spots_of bench.old)) target.now)) }
 {
-    let mut path = VecDeque::new(alloc);
     let name = target.copy(alloc)?;
-    open(alloc, rebuilder, kept, book, bench, &mut path, name)?;
+    open(alloc, rebuilder, kept, book, bench, path, name)?;
     'turns: while let Some(name) = path.pop_front() {
-        turn(alloc, rebuilder, kept, book, bench, work, &mut path, name)?;
+        turn(alloc, rebuilder, kept, book, bench, work, path, name)?;
     }
     Ok(())
 }

@@ -1,5 +1,6 @@
-ghost use Rattle.std.specs.Prelude.{◌≡◌, IfOk, OnOk};
+ghost use Rattle.std.specs.Prelude.{◌≡◌, true, IfOk, OnOk};
 ghost use Rattle.carte_note.specs.Right.{keys_in};
+ghost use Rattle.carte_record.specs.Folds.{is_among};
 ghost use Rattle.carte_record.specs.Kept.{kept_view};
 ghost use Rattle.carte_rebuild.specs.Ends.{IsNewChain};
 ghost use Rattle.carte_sound.specs.LeadsTo.{chain_behind};
@@ -28,8 +29,9 @@ fn chain_of(alloc: Global, old: &Names, finished: &FinishedList) -> Result<Names
     ensures { IfOk result (λ chain. chain ≡ chain_behind (keys_in finished.now) old.now) }
 {
     let mut chain = keys(alloc, finished)?;
-    for name in old.as_slice() {
-        add_other(alloc, finished, name, &mut chain)?;
+    let names = old.as_slice();
+    for at in 0..names.len() {
+        add_other(alloc, finished, at, &names[at], &mut chain)?;
     }
     Ok(chain)
 }
@@ -47,13 +49,34 @@ fn keys(alloc: Global, finished: &FinishedList) -> Result<Names, NoMemory>
 fn add_other(
     alloc: Global,
     finished: &FinishedList,
+    at: usize,
     name: &Name,
     chain: &mut Names,
 ) -> Result<(), NoMemory>
     ensures { OnOk result (chain.new ≡ with_other finished.now chain.old name.now) }
 {
-    if finished.find(name).is_none() {
-        chain.push(name.copy(alloc)?)?;
+    if is_finished(finished, at, name) {
+        return Ok(());
     }
+    chain.push(name.copy(alloc)?)?;
     Ok(())
+}
+
+// Mostly keys are finished in the order of the old chain, so the one at the name's place there is looked at first.
+fn is_finished(finished: &FinishedList, at: usize, name: &Name) -> bool
+    ensures { result ≡ is_among (keys_in finished.now) name.now }
+{
+    if is_at(finished, at, name) {
+        return true;
+    }
+    finished.find(name).is_some()
+}
+
+fn is_at(finished: &FinishedList, at: usize, name: &Name) -> bool
+    ensures { result ≡ true → is_among (keys_in finished.now) name.now ≡ true }
+{
+    match finished.get(at) {
+        Some(key) => *key.made.key() == *name,
+        None => false,
+    }
 }

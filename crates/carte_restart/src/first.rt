@@ -1,14 +1,14 @@
-ghost use Rattle.std.specs.Prelude.{◌≡◌, ◌↔◌, ◌<◌, ℕ, List, [], Some, true, length, slice_get, IfOk, OnOk};
+ghost use Rattle.std.specs.Prelude.{◌≡◌, ◌↔◌, ◌<◌, ℕ, Bool, List, [], ◌∷◌, ◌++◌, Some, true, false, length, get_or, set, slice_get, IfOk, OnOk};
 ghost use Rattle.carte_value.specs.Truths.{Among, IsListOf};
 ghost use Rattle.carte_book.specs.Book.{book_view};
 ghost use Rattle.carte_book.specs.Needs.{IsRule};
 ghost use Rattle.carte_record.specs.Kept.{kept_view};
 ghost use Rattle.carte_sound.specs.Chains.{ArePicked, IsFirstList};
 ghost use Rattle.carte_mark.specs.Puts.{put_all};
-ghost use Rattle.carte_restart.specs.Led.{AreLed, AreNeeded, IsOther, IsRuleAmong, PushesIf, needs_in};
+ghost use Rattle.carte_restart.specs.Led.{AreLed, AreNeeded, AreTaken, IsOther, IsRuleAmong, PushesIf, needs_in};
 
 use carte_book::{Book, Looked};
-use carte_mark::{NameSet, holds, listed, put_each};
+use carte_mark::{NameSet, listed, put_each};
 use carte_record::Kept;
 use carte_value::{Name, Names, NoMemory, Seeded};
 use std::alloc::Global;
@@ -23,8 +23,9 @@ pub(crate) fn first_list(
     ensures { IfOk result (IsFirstList (kept_view kept.now) (book_view book.now) targets.now) }
 {
     let led = led_to(alloc, kept, targets, book.hasher())?;
-    let mut list = chained(alloc, kept, book, &led)?;
-    let others = besides(alloc, kept, book, &led)?;
+    let mut taken = none_taken(alloc, &led)?;
+    let mut list = chained(alloc, kept, book, &led, &mut taken)?;
+    let others = besides(alloc, book, led.as_slice(), taken.as_slice())?;
     list.append(others)?;
     Ok(list)
 }
@@ -46,7 +47,8 @@ fn led_to(alloc: Global, kept: &Kept, targets: &Names, hasher: Seeded) -> Result
 fn needed(alloc: Global, kept: &Kept, keys: &Names, hasher: Seeded) -> Result<NameSet, NoMemory>
     ensures { IfOk result (λ names. AreNeeded (kept_view kept.now) keys.now names.keys) }
 {
-    let mut names = NameSet::with_hasher(alloc, hasher);
+    // Mostly all that has an entry is led to. The pages of room that stays empty are never touched.
+    let mut names = NameSet::with_capacity_and_hasher(alloc, kept.entries.len(), hasher)?;
     for key in keys.as_slice() {
         put_needs(alloc, kept, key, &mut names)?;
     }
@@ -76,13 +78,28 @@ fn put_needs(alloc: Global, kept: &Kept, key: &Name, names: &mut NameSet) -> Res
     }
 }
 
-/// Those of the chain that are led to.
-fn chained(alloc: Global, kept: &Kept, book: &Book, led: &NameSet) -> Result<Names, NoMemory>
-    ensures { IfOk result (ArePicked (IsRuleAmong (book_view book.now) led.now.keys) (kept_view kept.now).chain) }
+// Which of the names were taken off the chain, each at its place: none yet.
+fn none_taken(alloc: Global, led: &NameSet) -> Result<Vec<bool>, NoMemory>
+    ensures { IfOk result (λ taken. AreTaken led.now.keys [] taken.items) }
 {
-    let mut names = Names::new(alloc);
+    let count = led.len();
+    Ok(vec![in alloc; false; count]?)
+}
+
+/// Those of the chain that are led to. Each is taken.
+fn chained(
+    alloc: Global,
+    kept: &Kept,
+    book: &Book,
+    led: &NameSet,
+    taken: &mut Vec<bool>,
+) -> Result<Names, NoMemory>
+    ensures picked { IfOk result (ArePicked (IsRuleAmong (book_view book.now) led.now.keys) (kept_view kept.now).chain) }
+    ensures taken { OnOk result (AreTaken led.now.keys [] taken.old.items → AreTaken led.now.keys (kept_view kept.now).chain taken.new.items) }
+{
+    let mut names = Names::with_room(alloc, kept.chain.len())?;
     for name in kept.chain.as_slice() {
-        push_led(alloc, book, led, name, &mut names)?;
+        push_led(alloc, book, led, name, taken, &mut names)?;
     }
     Ok(names)
 }
@@ -92,51 +109,66 @@ fn push_led(
     book: &Book,
     led: &NameSet,
     name: &Name,
+    taken: &mut Vec<bool>,
     names: &mut Names,
 ) -> Result<(), NoMemory>
-    ensures { OnOk result (PushesIf (IsRuleAmong (book_view book.now) led.now.keys) names.old names.new name.now) }
+    ensures pushes { OnOk result (PushesIf (IsRuleAmong (book_view book.now) led.now.keys) names.old names.new name.now) }
+    ensures taken { (ks : List (List ℕ)) → AreTaken led.now.keys ks taken.old.items → AreTaken led.now.keys (ks ++ name.now ∷ []) taken.new.items }
 {
-    if is_led(book, led, name) {
+    if take(led, name, taken) && is_rule(book, name) {
         names.push(name.copy(alloc)?)?;
     }
     Ok(())
 }
 
-fn is_led(book: &Book, led: &NameSet, name: &Name) -> bool
-    ensures { (result ≡ true) ↔ IsRuleAmong (book_view book.now) led.now.keys name.now }
+// Whether a name is among those that are led to, where it is then taken.
+fn take(led: &NameSet, name: &Name, taken: &mut Vec<bool>) -> bool
+    ensures among { (result ≡ true) ↔ Among led.now.keys name.now }
+    ensures taken { (ks : List (List ℕ)) → AreTaken led.now.keys ks taken.old.items → AreTaken led.now.keys (ks ++ name.now ∷ []) taken.new.items }
+{
+    match led.get_index_of(name) {
+        Some(at) => {
+            put_true(taken, at);
+            true
+        }
+        None => false,
+    }
+}
+
+fn put_true(taken: &mut Vec<bool>, at: usize)
+    ensures { at < length taken.old.items → taken.new.items ≡ set taken.old.items at true }
+{
+    if let Some(place) = taken.get_mut(at) {
+        *place = true;
+    }
+}
+
+fn is_rule(book: &Book, name: &Name) -> bool
+    ensures { (result ≡ true) ↔ IsRule (book_view book.now) name.now }
 {
     match book.lookup(name) {
-        Looked::Rule(_) => holds(led, name),
+        Looked::Rule(_) => true,
         Looked::Input(_) => false,
         Looked::None => false,
     }
 }
 
 /// Those that are led to and stand in no chain.
-fn besides(alloc: Global, kept: &Kept, book: &Book, led: &NameSet) -> Result<Names, NoMemory>
-    ensures { IfOk result (IsListOf (λ k. IsRuleAmong (book_view book.now) led.now.keys k × ¬ (Among (kept_view kept.now).chain k))) }
+fn besides(alloc: Global, book: &Book, led: &[Name], taken: &[bool]) -> Result<Names, NoMemory>
+    ensures { IfOk result (λ names. (chain : List (List ℕ)) → AreTaken led.now chain taken.now → IsListOf (λ k. IsRuleAmong (book_view book.now) led.now k × ¬ (Among chain k)) names) }
 {
-    let chain = set_of(alloc, &kept.chain, book.hasher())?;
-    let mut names = others(alloc, book, led, &chain)?;
+    let mut names = others(alloc, book, led, taken)?;
     names.sort_unstable();
     names.dedup();
     listed(alloc, names)
 }
 
-fn set_of(alloc: Global, names: &Names, hasher: Seeded) -> Result<NameSet, NoMemory>
-    ensures { IfOk result (λ set. set.keys ≡ put_all [] names.now) }
-{
-    let mut set = NameSet::with_hasher(alloc, hasher);
-    put_each(alloc, names, &mut set)?;
-    Ok(set)
-}
-
-fn others(alloc: Global, book: &Book, led: &NameSet, chain: &NameSet) -> Result<Vec<Name>, NoMemory>
-    ensures { IfOk result (λ names. ArePicked (IsOther (book_view book.now) chain.now.keys) led.now.keys names.items) }
+fn others(alloc: Global, book: &Book, led: &[Name], taken: &[bool]) -> Result<Vec<Name>, NoMemory>
+    ensures { IfOk result (λ names. (chain : List (List ℕ)) → AreTaken led.now chain taken.now → ArePicked (IsOther (book_view book.now) chain) led.now names.items) }
 {
     let mut names = Vec::new(alloc);
-    for name in led.as_slice() {
-        push_other(alloc, book, chain, name, &mut names)?;
+    for at in 0..led.len() {
+        push_other(alloc, book, &led[at], is_taken(taken, at), &mut names)?;
     }
     Ok(names)
 }
@@ -144,24 +176,23 @@ fn others(alloc: Global, book: &Book, led: &NameSet, chain: &NameSet) -> Result<
 fn push_other(
     alloc: Global,
     book: &Book,
-    chain: &NameSet,
     name: &Name,
+    taken: bool,
     names: &mut Vec<Name>,
 ) -> Result<(), NoMemory>
-    ensures { OnOk result (PushesIf (IsOther (book_view book.now) chain.now.keys) names.old.items names.new.items name.now) }
+    ensures { OnOk result (PushesIf (λ k. IsRule (book_view book.now) k × (taken ≡ false)) names.old.items names.new.items name.now) }
 {
-    if is_other(book, chain, name) {
+    if !taken && is_rule(book, name) {
         names.push(name.copy(alloc)?)?;
     }
     Ok(())
 }
 
-fn is_other(book: &Book, chain: &NameSet, name: &Name) -> bool
-    ensures { (result ≡ true) ↔ IsOther (book_view book.now) chain.now.keys name.now }
+fn is_taken(taken: &[bool], at: usize) -> bool
+    ensures { result ≡ get_or taken.now at false }
 {
-    match book.lookup(name) {
-        Looked::Rule(_) => !holds(chain, name),
-        Looked::Input(_) => false,
-        Looked::None => false,
+    match taken.get(at) {
+        Some(is) => *is,
+        None => false,
     }
 }

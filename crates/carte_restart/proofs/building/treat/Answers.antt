@@ -1,4 +1,4 @@
-use Rattle.std.proofs.Common.{◌≡◌, ℕ, List, [], ◌∷◌, None, length, refl, ◌∙◌, subst, inl, arith}
+use Rattle.std.proofs.Common.{◌≡◌, ℕ, List, [], ◌∷◌, None, length, drop, refl, ◌∙◌, subst, inl, arith}
 use Rattle.carte_book.specs.Book.{book_view}
 use Rattle.carte_record.specs.Kept.{kept_view}
 use Rattle.carte_sound.specs.Treated.{IsTreated}
@@ -27,7 +27,7 @@ turns-init g c =
     let path = c.open.new.path.items in
     let n = c.args.target.now in
     let ok = c.in_ok-open.ensures {u = tt} in
-    let opens = opens_same name started (λ i j. begun (λ q. None) i j) b old new [] path n c.new-path.result.items c.in_ok-name.name c.new-path.ensures.items (c.in_ok-name.ensures {u = tt}) ok.opens in
+    let opens = opens_same name started (λ i j. begun (λ q. None) i j) b old new [] path n c.args.path.now.items c.in_ok-name.name c.requires.idle (c.in_ok-name.ensures {u = tt}) ok.opens in
     let known = known_opens name started (λ i j. begun (λ q. None) i j) b old new [] path n opens in
     record {
       book = c.open.ensures.book ∙ c.requires.book;
@@ -52,6 +52,11 @@ turns-preserved g c =
           let now = subst (λ (p : List (List ℕ)). IsAhead (book_view c.args.book.now) (spots_of c.turns.bench) c.turns.work.runs p c.args.target.now) (c.in-Some.ensures {u = tt}).items (before.ahead ts here H base going straight there) in
           inl (ok.straight ts H c.args.target.now base (before.goes ts here H base going) (ahead_next (book_view c.args.book.now) (spots_of c.turns.bench) c.turns.work.runs c.in-Some.name c.pop_front.new.self.items c.args.target.now now));
     }
+
+pub returns-clause-idle : goal.returns-clause-idle
+returns-clause-idle g c =
+    let none = no_names c.turns.path.items (omega (arith, (c.in_default.ensures {u = tt}).cases.0, c.turns.path.ok.0)) in
+    subst (λ (ks : List (List ℕ)). c.pop_front.new.self.items ≡ drop 1 ks) none c.pop_front.ensures.rest
 
 pub returns-clause-standing : goal.returns-clause-standing
 returns-clause-standing g c =

@@ -19,6 +19,7 @@ loop-at-preserved g c =
     let before = c.loop-at.invariant in
     let here = item_among ts at t below c.index-names-at.is in
     record {
+      idle = ok.idle;
       book = ok.book;
       standing = ok.standing;
       goes = λ all within H base going. ok.goes all (within t here) H base (before.goes all within H base going);

@@ -11,6 +11,7 @@ use Rattle.carte_restart.proofs.building.treat_all.Given as goal
 
 abbrev pub invariant-loop-at : goal.invariant-loop-at
 invariant-loop-at g l = record {
+  idle : l.path.items ≡ [];
   book : book_of l.bench ≡ book_view l.book;
   standing : IsStanding g.R.Job.Job.name (book_view l.book) (spots_of l.bench) [];
   goes : (ts : List (List ℕ)) → ((t : List ℕ) → Among l.names t → Among ts t) → GoesOn g.R.Job.Job.started g.R.Job.Job.fits (g.R.Rebuilder.begun l.rebuilder (kept_view l.kept) (book_view l.book)) (g.R.Rebuilder.how l.rebuilder) (kept_view l.kept) (book_view l.book) ts (spots_of l.fn.bench) (spots_of l.bench) l.fn.work l.work;

@@ -7,7 +7,7 @@ use Rattle.carte_restart.proofs.Leading.{needed_none, needed_more}
 use Rattle.carte_restart.proofs.first.needed.Goals as goal
 
 pub loop-key-init : goal.loop-key-init
-loop-key-init c = needed_none (kept_view c.args.kept.now) c.with_hasher-names.result.keys (search rules)
+loop-key-init c = needed_none (kept_view c.args.kept.now) c.in_ok-names.names.keys ((c.in_ok-names.ensures {u = tt}).empty)
 
 pub loop-key-preserved : goal.loop-key-preserved
 loop-key-preserved c =

@@ -1,23 +1,20 @@
-use Rattle.std.proofs.Common.{◌<◌, ◌≤◌, [], ◌∷◌, ◌++◌, length, take, ap, sym, ◌∙◌, subst, rules}
-use Rattle.std.proofs.lemmas.List.{take_more}
+use Rattle.std.proofs.Common.{◌<◌, ◌≤◌, length, subst, rules, arith}
 use Rattle.carte_book.specs.Book.{book_view}
 use Rattle.carte_sound.specs.Chains.{ArePicked}
 use Rattle.carte_table.proofs.Fronts.{take_whole}
 use Rattle.carte_restart.specs.Led.{IsOther}
-use Rattle.carte_restart.proofs.Picking.{picked_more}
+use Rattle.carte_restart.proofs.Taking.{other_step}
 use Rattle.carte_restart.proofs.first.others.Goals as goal
 
-pub loop-name-preserved : goal.loop-name-preserved
-loop-name-preserved c =
-    let P = IsOther (book_view c.args.book.now) c.args.chain.now.keys in
-    let names = c.as_slice-name-items.result.now in
-    let at = c.loop-name.name-index in
-    let below : at < length names = search rules in
-    let more = take_more names at c.name-item.result below ∙ ap (λ x. take at names ++ x ∷ []) (sym c.name-item.is) in
-    subst (λ ks. ArePicked P ks c.push_other.new.names.items) (sym more) (picked_more P (take at names) c.loop-name.names.items c.push_other.new.names.items c.name-item.result c.loop-name.invariant (c.in_ok-push_other.ensures {u = tt}))
+pub loop-at-preserved : goal.loop-at-preserved
+loop-at-preserved c chain taken =
+    let led = c.args.led.now in
+    let at = c.loop-at.at in
+    let below : at < length led = omega arith in
+    other_step (book_view c.args.book.now) led chain c.args.taken.now at c.index-led-at.result c.is_taken.result c.loop-at.names.items c.push_other.new.names.items taken below c.index-led-at.is c.is_taken.ensures (c.loop-at.invariant chain taken) (c.in_ok-push_other.ensures {u = tt})
 
 pub returns : goal.returns
-returns c =
-    let names = c.as_slice-name-items.result.now in
-    let past : length names ≤ c.loop-name.name-index = search rules in
-    subst (λ ks. ArePicked (IsOther (book_view c.args.book.now) c.args.chain.now.keys) ks c.loop-name.names.items) (take_whole c.loop-name.name-index names past ∙ c.as_slice-name-items.ensures.keys) c.loop-name.invariant
+returns c chain taken =
+    let led = c.args.led.now in
+    let past : length led ≤ c.loop-at.at = search rules in
+    subst (λ ks. ArePicked (IsOther (book_view c.args.book.now) chain) ks c.loop-at.names.items) (take_whole c.loop-at.at led past) (c.loop-at.invariant chain taken)
