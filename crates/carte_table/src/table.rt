@@ -4,7 +4,9 @@ ghost use Rattle.std.specs.HashMap.{get};
 ghost use Rattle.std.specs.List.{IsDistinct};
 ghost use Rattle.carte_table.specs.Places.{first_place, IsFirstPlaces, AddsPlace, ForgetsPlace};
 ghost use Rattle.carte_table.specs.Changes.{change_first};
+ghost use Rattle.carte_codec.specs.Lengths.{IsLengthOf};
 
+use carte_codec::Measured;
 use carte_value::{NoMemory, Seeded};
 use std::collections::HashMap;
 use std::hash::Hash;
@@ -85,6 +87,27 @@ pub fn set<T: Drop>(items: &mut Vec<T>, at: Option<usize>, item: T)
         if let Some(old) = items.get_mut(at) {
             *old = item;
         }
+    }
+}
+
+/// How many bytes the items will be spelled as once this one stands in that place.
+pub fn length_with<T: Measured>(
+    items: &[T],
+    length: Option<u64>,
+    at: Option<usize>,
+    item: &T,
+) -> Option<u64>
+    ensures { (p : T → Bool) → at ≡ first_place p items.now → IsLengthOf T.spelled items.now length → IsLengthOf T.spelled (change_first p (λ x. item.now) items.now) result }
+{
+    let old = match at {
+        Some(at) => items.get(at),
+        None => None,
+    };
+    match old {
+        Some(old) => length?
+            .checked_sub(old.length()?)?
+            .checked_add(item.length()?),
+        None => length,
     }
 }
 
