@@ -4,7 +4,7 @@ ghost use Rattle.std.specs.List.{flat_map};
 ghost use Rattle.carte_codec.specs.Parts.{spelled_link, spelled_list, spelled_option};
 ghost use Rattle.carte_record.specs.Bodies.{spelled_back, spelled_entry, spelled_front, spelled_names, spelled_trace};
 ghost use Rattle.carte_record.specs.declared.batch.Batch.{Batch as SomeBatch};
-ghost use Rattle.carte_compact.specs.Latest.{last_ones};
+ghost use Rattle.carte_record.specs.Latest.{last_ones};
 ghost use Rattle.carte_compact.specs.Lengths.{back_size, front_size, region_length};
 ghost use Rattle.carte_compact.specs.Live.{IsLive, and_marks, chain_for, entry_at, found_at, link_at, put};
 

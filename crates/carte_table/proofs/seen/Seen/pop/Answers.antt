@@ -17,7 +17,7 @@ invariant_of-self c =
       place_forgotten name_eq is_link_of c.pop.new.self.items c.in-Some.link c.in-Some.link.name (get name_eq c.self.inside.places) (get name_eq c.forget.new.table) c.len.result end
           (λ q. name_eq_sym q c.in-Some.link.name) (λ q. name_eq_is c.in-Some.link.name q) (name_eq_self c.in-Some.link.name)
           (subst (λ xs. IsFirstPlaces is_link_of xs (get name_eq c.self.inside.places)) was c.self.invariant.1) c.forget.ensures,
-      c.without_item.ensures c.pop.new.self.items (subst (λ xs. IsLengthOf spelled_link xs c.self.inside.known) was c.self.invariant.2),
+      c.without_item-self-inside.ensures c.pop.new.self.items (subst (λ xs. IsLengthOf spelled_link xs c.self.inside.known) was c.self.invariant.2),
     )
 
 pub invariant_of-self-in-Some-2 : goal.invariant_of-self-in-Some-2
@@ -28,5 +28,5 @@ invariant_of-self-in-Some-2 c =
       place_forgotten name_eq is_link_of c.pop.new.self.items c.in-Some.link c.in-Some.link.name (get name_eq c.self.inside.places) (get name_eq c.forget.new.table) c.len.result end
           (λ q. name_eq_sym q c.in-Some.link.name) (λ q. name_eq_is c.in-Some.link.name q) (name_eq_self c.in-Some.link.name)
           (subst (λ xs. IsFirstPlaces is_link_of xs (get name_eq c.self.inside.places)) was c.self.invariant.1) c.forget.ensures,
-      c.without_item.ensures c.pop.new.self.items (subst (λ xs. IsLengthOf spelled_link xs c.self.inside.known) was c.self.invariant.2),
+      c.without_item-self-inside.ensures c.pop.new.self.items (subst (λ xs. IsLengthOf spelled_link xs c.self.inside.known) was c.self.invariant.2),
     )

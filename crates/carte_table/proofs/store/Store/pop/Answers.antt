@@ -22,5 +22,5 @@ invariant_of-self c =
       place_forgotten name_eq (λ d. is_value_of (record { 0 = d })) c.pop.new.self.items c.in-Some.value c.of-key.result (get name_eq c.self.inside.places) (get name_eq c.forget.new.table) c.len.result end
           (λ q. name_eq_sym q (digest_of c.in-Some.value).0 ∙ sym (ap (λ d. name_eq d.0 q) ends.1) ∙ sym (ap (λ k. name_eq k q) c.of-key.ensures)) (λ q. name_eq_is c.of-key.result q) (name_eq_self c.of-key.result)
           (subst (λ xs. IsFirstPlaces (λ d. is_value_of (record { 0 = d })) xs (get name_eq c.self.inside.places)) was c.self.invariant.2) c.forget.ensures,
-      c.without_item.ensures c.pop.new.self.items (subst (λ xs. IsLengthOf spelling xs c.self.inside.known) was c.self.invariant.3),
+      c.without_item-self-inside.ensures c.pop.new.self.items (subst (λ xs. IsLengthOf spelling xs c.self.inside.known) was c.self.invariant.3),
     )
