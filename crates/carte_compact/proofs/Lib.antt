@@ -12,3 +12,5 @@ pub mod Alike
 pub mod Rewritten
 pub mod Behind
 pub mod Room
+pub mod Least
+pub mod Wanted

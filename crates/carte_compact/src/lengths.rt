@@ -11,8 +11,8 @@ ghost use Rattle.carte_compact.specs.Live.{IsLive, and_marks, chain_for, entry_a
 use crate::batches::{is_bare, start_for};
 use crate::entries::stale_at;
 use crate::latest::last_first;
-use crate::measured::{Measured, list_length};
 use crate::names::{entry_keys, seen_names};
+use carte_codec::{Measured, list_length};
 use carte_record::{Entries, Kept, Seen, Traces};
 use carte_value::{Name, Names, NoMemory, Seeded};
 use std::alloc::Global;

@@ -214,10 +214,12 @@ fn with_trace(least: u64, is_new: bool, trace: &Trace) -> u64
     if !is_new {
         return least;
     }
-    match trace.length() {
-        Some(more) => least.checked_add(more).unwrap_or(least),
-        None => least,
+    if let Some(more) = trace.length() {
+        if let Some(sum) = least.checked_add(more) {
+            return sum;
+        }
     }
+    least
 }
 
 // And without it, where it was the last.
@@ -284,9 +286,10 @@ fn add(
     trace: &Trace,
 ) -> Result<bool, NoMemory>
     requires few { length traces.now < 2 ^ 32 }
+    requires key { key ≡ trace.now.key }
     ensures ok { OnOk result (AddsToPlaces name_eq (λ q. places_in (get name_eq table.old q)) (λ q. places_in (get name_eq table.new q)) key (length traces.now)) }
     ensures no_memory { OnErr result ((q : List ℕ) → places_in (get name_eq table.new q) ≡ places_in (get name_eq table.old q)) }
-    ensures is_new { IfOk result (λ is_new. IsTrue is_new → places_in (get name_eq table.old key) ≡ places (is_trace_of trace.now.key) traces.now → list_any (trace_eq trace.now) traces.now ≡ false) }
+    ensures is_new { IfOk result (λ is_new. IsTrue is_new → ArePlaces is_trace_of traces.now (λ q. places_in (get name_eq table.old q)) → list_any (trace_eq trace.now) traces.now ≡ false) }
 {
     match table.entry(key) {
         Ok(entry) => {
