@@ -2,3 +2,4 @@ pub mod Each
 pub mod Spellings
 pub mod Parts
 pub mod Laws
+pub mod Lengths

@@ -8,7 +8,7 @@
 //! of its items, of a struct from that of its fields as nested pairs. That also gives the reader: pairs, options and
 //! lists have one impl each, a struct is read as nested pairs and taken apart, and no loop is written twice. Turned
 //! down: decoding as a function on lists in `specs/`, which would be the reader once more with two laws a field, and
-//! lengths worked out before anything is written.
+//! writing that works out lengths first. Whoever wants the length of a spelling alone has `Measured`.
 //!
 //! `write` says that what was written fits, rather than asking for it: that a name is a name, and a text not too long,
 //! is known only to code that has asked the value, so no caller could show it. What a caller does keep to is `may`.
@@ -24,6 +24,7 @@ mod digest;
 mod items;
 mod link;
 mod list;
+mod measured;
 mod name;
 mod option;
 mod pair;
@@ -33,5 +34,6 @@ mod unread;
 mod value;
 
 pub use list::{ListOf, read_list, write_list};
+pub use measured::{Measured, items_length, list_length, with_item, without_item};
 pub use spelled::Spelled;
 pub use unread::Unread;

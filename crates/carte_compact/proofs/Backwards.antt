@@ -7,7 +7,7 @@ use Rattle.carte_record.specs.declared.trace.Trace.{Trace}
 use Rattle.carte_record.specs.Lookups.{trace_eq}
 use Rattle.carte_table.proofs.FirstPlaces.{map_end}
 use Rattle.carte_compact.specs.Contents.{trace_eq_sym}
-use Rattle.carte_compact.specs.Latest.{last_ones}
+use Rattle.carte_record.specs.Latest.{last_ones}
 
 pub not_from : (b c : Bool) → b ≡ not c → b ≡ true → c ≡ false
 not_from b true is so = cc

@@ -1,4 +1,3 @@
-pub mod Links
 pub mod Found
 pub mod Ordered
 pub mod Backwards
@@ -13,3 +12,5 @@ pub mod Alike
 pub mod Rewritten
 pub mod Behind
 pub mod Room
+pub mod Least
+pub mod Wanted

@@ -7,7 +7,7 @@ use Rattle.carte_record.specs.declared.trace.Trace.{Trace}
 use Rattle.carte_record.specs.Kept.{newest, traces_in}
 use Rattle.carte_record.specs.Lookups.{trace_eq}
 use Rattle.carte_record.proofs.Looked.{trace_eq_is, trace_eq_self}
-use Rattle.carte_compact.specs.Latest.{last_ones}
+use Rattle.carte_record.specs.Latest.{last_ones}
 
 filters_swap : {A : Type 0} (p q : A → Bool) (xs : List A) → filter p (filter q xs) ≡ filter q (filter p xs)
 filters_swap p q [] = refl

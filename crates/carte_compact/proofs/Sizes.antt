@@ -1,5 +1,5 @@
 -- How long the live information is: it has one length, since names in order and what is found of them are one list.
-use Rattle.std.proofs.Common.{◌≡◌, ℕ, ◌+◌, true, false, List, [], ◌∷◌, ◌++◌, Option, Some, None, Ok, length, map, reverse, refl, ap, sym, ◌∙◌, subst, inl, inr, ◌⊎◌, arith, length-append}
+use Rattle.std.proofs.Common.{◌≡◌, ◌≤◌, ℕ, ◌+◌, true, false, List, [], ◌∷◌, ◌++◌, Option, Some, None, Ok, length, map, reverse, refl, ap, sym, ◌∙◌, subst, inl, inr, ◌⊎◌, arith, length-append}
 use Rattle.std.specs.declared.cmp.Ordering.TheVariants.{Less, Greater}
 use Rattle.std.specs.List.{AllByRecursion, flat_map, sum_by}
 use Rattle.std.specs.List.Sorted.{IsPermutation, IsStrictlySortedBy}
@@ -17,7 +17,7 @@ use Rattle.carte_codec.specs.Parts.{spelled_count, spelled_link, spelled_list, s
 use Rattle.carte_record.specs.declared.batch.Batch.{Batch}
 use Rattle.carte_record.specs.declared.kept.Kept.{Kept}
 use Rattle.carte_record.specs.declared.trace.Trace.{Trace}
-use Rattle.carte_record.specs.Bodies.{spelled_back, spelled_entry, spelled_front, spelled_names, spelled_start, spelled_trace}
+use Rattle.carte_record.specs.Bodies.{spelled_back, spelled_batch, spelled_entry, spelled_front, spelled_names, spelled_start, spelled_trace}
 use Rattle.carte_compact.specs.Lengths.{back_size, front_size, region_length}
 use Rattle.carte_compact.specs.Live.{IsAllOf, IsLive, and_marks, found_at, is_bare, keys_of, names_of, put, stale_at}
 use Rattle.carte_compact.proofs.Found.{found_more}
@@ -133,3 +133,25 @@ in_all K names keys stale front back n some seen listed marks front_is back_is a
 pub from_ok : {E : Type 0} (o : Option ℕ) (e : E) (P : ℕ → Type 0) (n : ℕ) → IfSome o P → ok_or o e ≡ Ok n → P n
 from_ok (Some m) e P n is so = let same : m ≡ n = cc in subst P same is
 from_ok None e P n is so = cc
+
+-- ---- and at least
+
+pub at_least : (K : Kept) (Bs : List Batch) (n : ℕ) → is_bare K ≡ false
+    → ((names keys : List (List ℕ)) → IsListOf (Among (names_of K.seen)) names → IsListOf (Among (keys_of K.entries)) keys → n ≤ front_size K names keys + back_size K + 7)
+    → IsLive K Bs → n ≤ region_length Bs
+at_least K Bs n some within (inl (bare, none)) = absurd (let clash : true ≡ false = sym bare ∙ some in cc)
+at_least K Bs n some within (inr (some', live)) = subst (λ Cs. n ≤ region_length Cs) (sym live.batches) (marked (stale_at K.entries live.keys))
+  where
+    bound : n ≤ front_size K live.names live.keys + back_size K + 7
+    bound = within live.names live.keys live.seen live.listed
+
+    first : length (spelled_batch live.first) ≡ 1 + (front_size K live.names live.keys + back_size K)
+    first = omega (arith, length-append (spelled_front live.first) (spelled_back live.first), front_long K live.names live.keys live.first live.all, back_long K live.names live.keys live.first live.all)
+
+    marked : (ks : List (List ℕ)) → n ≤ region_length (and_marks live.first ks)
+    marked [] = omega (arith, bound, first)
+    marked (k ∷ ks) = omega (arith, bound, first)
+
+pub if_known : (o : Option ℕ) (P Q : ℕ → Type 0) → ((n : ℕ) → P n → Q n) → IfSome o P → IfSome o Q
+if_known (Some n) P Q f is = f n is
+if_known None P Q f is = tt

@@ -7,7 +7,7 @@ use Rattle.carte_value.specs.Spelling.{spelling}
 use Rattle.carte_codec.specs.Parts.{spelled_link, spelled_list, spelled_option}
 use Rattle.carte_record.specs.declared.kept.Kept.{Kept}
 use Rattle.carte_record.specs.Bodies.{IsBody, spelled_batch, spelled_entry, spelled_names, spelled_start, spelled_trace}
-use Rattle.carte_compact.specs.Latest.{last_ones}
+use Rattle.carte_record.specs.Latest.{last_ones}
 use Rattle.carte_compact.specs.Live.{chain_for, entry_at, found_at, link_at, start_for}
 
 -- each batch in an open frame, which is a gate byte, a length of 4 bytes and the body, and a closed gate byte behind the last

@@ -15,7 +15,7 @@ use Rattle.carte_record.specs.declared.start.Start.{Start}
 use Rattle.carte_record.specs.declared.start.Start.TheVariants.{GoOn, Anew}
 use Rattle.carte_record.specs.Lookups.{first_entry}
 use Rattle.carte_record.specs.Marked.{marked_as}
-use Rattle.carte_compact.specs.Latest.{last_ones}
+use Rattle.carte_record.specs.Latest.{last_ones}
 
 -- ---- what is kept
 

@@ -1,7 +1,7 @@
 // Traces as members of a set, told apart by what they have in them.
 ghost use Rattle.std.specs.Prelude.{◌≡◌, fold, map};
 ghost use Rattle.std.specs.Cmp.{on_equiv, on_per, partial_equiv_from_equiv};
-ghost use Rattle.carte_record.specs.Lookups.{links_eq, trace_eq};
+ghost use Rattle.carte_record.specs.Lookups.{trace_eq};
 ghost use Rattle.carte_compact.specs.Latest.{fed};
 ghost use Rattle.carte_compact.specs.Contents.{fed_alike, trace_equivalence};
 
@@ -21,9 +21,7 @@ impl PartialEq for Content<'_> {
     ghost laws = { on_per (λ s. s.trace.now) (partial_equiv_from_equiv trace_equivalence) };
 
     fn eq(&self, other: &Content<'_>) -> bool {
-        self.trace.key == other.trace.key
-            && self.trace.result == other.trace.result
-            && are_equal(self.trace.links.as_slice(), other.trace.links.as_slice())
+        self.trace.is_same(other.trace)
     }
 }
 
@@ -49,18 +47,4 @@ fn feed<H: Hasher>(links: &[Link], state: &mut H)
     for link in links {
         state.write(link.digest.0.as_slice());
     }
-}
-
-fn are_equal(links: &[Link], others: &[Link]) -> bool
-    ensures { result ≡ links_eq links.now others.now }
-{
-    if links.len() != others.len() {
-        return false;
-    }
-    for at in 0..links.len() {
-        if links[at].name != others[at].name || links[at].digest != others[at].digest {
-            return false;
-        }
-    }
-    true
 }

@@ -1,13 +1,14 @@
 // When a rewriting is made.
-ghost use Rattle.std.specs.Prelude.{◌≡◌, ◌&&◌, ◌||◌, true, List, IfOk, IfSome};
+ghost use Rattle.std.specs.Prelude.{◌≡◌, ◌≤◌, ◌&&◌, ◌||◌, true, false, ℕ, List, IfOk, IfSome};
 ghost use Rattle.carte_journal.specs.Regions.{IsRewritable};
 ghost use Rattle.carte_record.specs.declared.batch.Batch.{Batch as SomeBatch};
 ghost use Rattle.carte_compact.specs.Due.{can_turn, is_due, is_large, is_over, is_wide, size_of};
 ghost use Rattle.carte_compact.specs.Lengths.{region_length};
 ghost use Rattle.carte_compact.specs.Live.{IsLive};
 
-use crate::measured::Measured;
+use crate::least::least_length;
 use crate::rewriting::short_length;
+use carte_codec::Measured;
 use carte_record::Batch;
 use carte_state::{Bank, State};
 use carte_value::NoMemory;
@@ -21,8 +22,9 @@ const BESIDE_BODY: u64 = 5;
 
 /// Whether a rewriting is to be made before this batch is committed: before the first commit of a build where it is
 /// possible and the bank is large or the batch doesn't fit, and before a later one where it is possible and the batch
-/// doesn't fit. The live length is worked out only where it may decide: where the batch doesn't fit, or before a first
-/// commit to a bank of more than 65,536 bytes. There is no memory either where a length doesn't fit 63 bits.
+/// doesn't fit. The live length is worked out only where the batch doesn't fit, or before a first commit to a bank of more
+/// than 65,536 bytes that has more than twice what is live at least. There is no memory either where a length doesn't fit
+/// 63 bits.
 pub fn is_due(alloc: Global, state: &State, batch: &Batch, is_first: bool) -> Result<bool, NoMemory>
     ensures due { IfOk result (λ due. (Bs : List SomeBatch) → IsLive state.now.kept Bs → due ≡ is_due state.now (region_length Bs) batch.now is_first) }
     ensures possible { IfOk result (λ due. due ≡ true → IsRewritable state.now.journal) }
@@ -32,12 +34,19 @@ pub fn is_due(alloc: Global, state: &State, batch: &Batch, is_first: bool) -> Re
         return Ok(false);
     }
     let is_over = is_over(state, batch).ok_or(NoMemory)?;
-    if !is_over && !(is_first && is_wide(&bank)) {
+    if !may_be_wanted(&bank, least_length(state.kept()), is_over, is_first) {
         return Ok(false);
     }
     let live = short_length(alloc, state.kept())?;
     let is_wanted = is_wanted(&bank, live, is_over, is_first);
     Ok(is_wanted && state.needed_with(live) <= state.limit())
+}
+
+// Whether a rewriting may be wanted where so many bytes are live at least.
+fn may_be_wanted(bank: &Bank, least: u64, is_over: bool, is_first: bool) -> bool
+    ensures { result ≡ false → (live : ℕ) → least ≤ live → (is_over || (is_first && is_large bank.now live)) ≡ false }
+{
+    is_wanted(bank, least, is_over, is_first)
 }
 
 // Whether a rewriting is to be made where it is possible.

@@ -1,6 +1,6 @@
 // Of equal traces the last.
 ghost use Rattle.std.specs.Prelude.{◌≡◌, map, reverse, IfOk};
-ghost use Rattle.carte_compact.specs.Latest.{last_ones};
+ghost use Rattle.carte_record.specs.Latest.{last_ones};
 
 use crate::content::Content;
 use carte_record::{Trace, Traces};

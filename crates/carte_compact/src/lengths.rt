@@ -4,15 +4,15 @@ ghost use Rattle.std.specs.List.{flat_map};
 ghost use Rattle.carte_codec.specs.Parts.{spelled_link, spelled_list, spelled_option};
 ghost use Rattle.carte_record.specs.Bodies.{spelled_back, spelled_entry, spelled_front, spelled_names, spelled_trace};
 ghost use Rattle.carte_record.specs.declared.batch.Batch.{Batch as SomeBatch};
-ghost use Rattle.carte_compact.specs.Latest.{last_ones};
+ghost use Rattle.carte_record.specs.Latest.{last_ones};
 ghost use Rattle.carte_compact.specs.Lengths.{back_size, front_size, region_length};
 ghost use Rattle.carte_compact.specs.Live.{IsLive, and_marks, chain_for, entry_at, found_at, link_at, put};
 
 use crate::batches::{is_bare, start_for};
 use crate::entries::stale_at;
 use crate::latest::last_first;
-use crate::measured::{Measured, list_length};
 use crate::names::{entry_keys, seen_names};
+use carte_codec::{Measured, list_length};
 use carte_record::{Entries, Kept, Seen, Traces};
 use carte_value::{Name, Names, NoMemory, Seeded};
 use std::alloc::Global;

@@ -15,9 +15,11 @@
 //! `rewrite` puts the live information in the place of all that stands in a file: what comes of it is `Rewrites` in
 //! `specs/Rewriting.antt`, in the form of a state's `Applies`, so that a commit behind it is told by both, one after
 //! another (`steps_behind`). Whether a rewriting is due before a commit is the rule `is_due` in `specs/Due.antt`, over the
-//! live length: that is a pass over all that is kept, so it is worked out only where it decides. Turned down: a rewriting
-//! at each build, which would write as much for one key as for all; and a live length that the state holds and each batch
-//! changes, since what a trace adds to it hangs on whether an equal one is kept.
+//! live length. That is a pass over all that is kept, so it is made only where no lower bound decides: the lists know how
+//! many bytes they take, and of traces at least how many those take of which no equal one comes later (`least_length`).
+//! Turned down: a rewriting at each build, which would write as much for one key as for all; and a live length that the
+//! state holds and each batch changes, since what a trace adds hangs on whether an equal one is kept, which is looked up
+//! only among few.
 #![tactic(auto)]
 
 mod batches;
@@ -27,8 +29,8 @@ mod due;
 mod entries;
 mod latest;
 mod laws;
+mod least;
 mod lengths;
-mod measured;
 mod names;
 mod rewriting;
 mod values;
@@ -39,5 +41,6 @@ pub use due::is_due;
 pub use laws::{
     due_has_room, kept_throughout, live_is_kept, one_live, stations_behind, steps_behind,
 };
+pub use least::least_length;
 pub use lengths::live_length;
 pub use rewriting::{rewrite, rewriting_needs};

@@ -4,3 +4,5 @@ pub mod Growing
 pub mod Empties
 pub mod Looked
 pub mod Unmarking
+pub mod Links
+pub mod Latest

@@ -6,3 +6,4 @@ pub mod BodyLaws
 pub mod Empty
 pub mod Growth
 pub mod Marked
+pub mod Latest

@@ -1,5 +1,8 @@
-ghost use Rattle.std.specs.Prelude.{◌≡◌, ◌<◌, ◌^◌, ◌∷◌, ◌++◌, [], List, length, slice_get, option_copied, ◌==◌, is_ok, take, IfOk, OnOk, OnErr, IsTrue, ℕ, Bool, option_map, if◌then◌else◌};
+ghost use Rattle.std.specs.Prelude.{◌≡◌, ◌<◌, ◌^◌, ◌∷◌, ◌++◌, [], List, length, slice_get, option_copied, ◌==◌, is_ok, take, map, IfOk, IfSome, OnOk, OnErr, IsTrue, ℕ, Bool, option_map, if◌then◌else◌};
 ghost use Rattle.std.specs.HashMap.{get};
+ghost use Rattle.std.specs.List.{IsDistinct};
+ghost use Rattle.carte_codec.specs.Lengths.{IsLengthOf};
+ghost use Rattle.carte_record.specs.Bodies.{spelled_entry};
 ghost use Rattle.carte_name.specs.Names.{name_eq};
 ghost use Rattle.carte_record.specs.Lookups.{first_entry, is_entry_of};
 ghost use Rattle.carte_record.specs.Kept.{staled};
@@ -12,7 +15,10 @@ ghost use Rattle.carte_record.specs.Growth.{TakesEntries};
 ghost use Rattle.carte_record.specs.declared.entry.Entry.{Entry as SomeEntry};
 
 use crate::Entry;
-use carte_table::table::{Table, add, each_once, first, forget, place, push, set, widen};
+use carte_codec::{items_length, with_item, without_item};
+use carte_table::table::{
+    Table, add, each_once, first, forget, length_with, place, push, set, widen,
+};
 use carte_value::{Name, Names, NoMemory, Same, Seeded};
 use std::alloc::Global;
 use std::marker::Model;
@@ -23,6 +29,7 @@ pub struct Entries {
     alloc: Global,
     entries: Vec<Entry>,
     places: Table<Name, u32>,
+    known: Option<u64>,
 }
 
 impl Model for Entries {
@@ -32,12 +39,15 @@ impl Model for Entries {
     ghost use Rattle.carte_record.specs.declared.entry.Entry.{Entry};
     ghost use Rattle.carte_table.specs.Places.{IsFirstPlaces};
     ghost use Rattle.carte_record.specs.Lookups.{is_entry_of};
+    ghost use Rattle.carte_codec.specs.Lengths.{IsLengthOf};
 
     ghost Value = { List Entry };
 
+    ghost use Rattle.carte_record.specs.Bodies.{spelled_entry};
+
     ghost view = { λ a. a.entries.items };
 
-    ghost invariant = { λ a. (length a.entries.items < 2 ^ 32) × IsFirstPlaces is_entry_of a.entries.items (get name_eq a.places) };
+    ghost invariant = { λ a. (length a.entries.items < 2 ^ 32) × IsFirstPlaces is_entry_of a.entries.items (get name_eq a.places) × IsLengthOf spelled_entry a.entries.items a.known };
 }
 
 impl Entries {
@@ -49,6 +59,7 @@ impl Entries {
             alloc,
             entries: Vec::new(alloc),
             places: Table::with_hasher(alloc, hasher),
+            known: Some(0),
         }
     }
 
@@ -64,10 +75,12 @@ impl Entries {
             alloc,
             entries: Vec::with_capacity(alloc, count)?,
             places: Table::with_capacity_and_hasher(alloc, count, hasher)?,
+            known: Some(0),
         })
     }
 
-    /// These entries, with the places of their keys in a table.
+    /// These entries, with the places of their keys in a table. How many bytes they take isn't counted until they become
+    /// another list's.
     pub(crate) fn with_places(
         alloc: Global,
         entries: Vec<Entry>,
@@ -81,6 +94,7 @@ impl Entries {
             alloc,
             entries,
             places,
+            known: None,
         })
     }
 
@@ -126,12 +140,31 @@ impl Entries {
         first(self.entries.as_slice(), &self.places, key)
     }
 
+    /// How many bytes the entries are spelled as, where that is known and no key comes twice. It takes no pass over them.
+    pub fn length(&self) -> Option<u64>
+        ensures length { IsLengthOf spelled_entry self.now result }
+        ensures once { IfSome result (λ _. IsDistinct name_eq (map (λ e. e.key) self.now)) }
+    {
+        if !each_once(self.entries.as_slice(), &self.places) {
+            return None;
+        }
+        self.known
+    }
+
+    fn measure(&mut self)
+        ensures { self.new ≡ self.old }
+    {
+        self.known = items_length(self.entries.as_slice());
+    }
+
     /// Puts an entry in the place of the first one of its key, where there is one.
     pub(crate) fn replace(&mut self, entry: Entry)
         ensures { self.new ≡ change_first (is_entry_of entry.key) (λ e. entry) self.old }
     {
         let at = place(&self.places, &entry.key);
+        let known = length_with(self.entries.as_slice(), self.known, at, &entry);
         set(&mut self.entries, at, entry);
+        self.known = known;
     }
 
     /// Marks the first entry of each of these keys stale, where there is one.
@@ -174,6 +207,7 @@ impl Entries {
     {
         if self.is_empty() {
             *self = later;
+            self.measure();
             return;
         }
         self.mark_all(stale);
@@ -240,6 +274,7 @@ impl Entries {
         ensures { self.new ≡ front self.old }
     {
         if let Some(entry) = self.entries.pop() {
+            self.known = without_item(self.known, &entry);
             forget(&mut self.places, &entry.key, self.entries.len());
         }
     }
@@ -260,7 +295,10 @@ impl Entries {
         ensures { self.new ≡ (if is_ok result then self.old ++ entry ∷ [] else self.old) }
     {
         let key = entry.key.copy(self.alloc)?;
-        push(&mut self.entries, &mut self.places, key, entry)
+        let known = with_item(self.known, &entry);
+        push(&mut self.entries, &mut self.places, key, entry)?;
+        self.known = known;
+        Ok(())
     }
 }
 

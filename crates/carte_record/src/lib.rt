@@ -24,6 +24,7 @@ mod entry;
 mod kept;
 mod laws;
 mod lengths;
+mod measured;
 mod start;
 mod trace;
 mod traces;

@@ -1,6 +1,7 @@
 ghost use Rattle.std.specs.Prelude.{◌≡◌, IfOk};
+ghost use Rattle.carte_record.specs.Lookups.{links_eq, trace_eq};
 
-use carte_value::{Digest, Name, NoMemory, Same, SharedLinks};
+use carte_value::{Digest, Link, Name, NoMemory, Same, SharedLinks};
 use std::alloc::Global;
 
 /// A run of a key: the digests that its links had, and that of its result. Checks of it, and what they make, share the links.
@@ -19,4 +20,29 @@ impl Same for Trace {
             result: self.result,
         })
     }
+}
+
+impl Trace {
+    /// Whether another run of a key had the same links and came to the same.
+    pub fn is_same(&self, other: &Trace) -> bool
+        ensures { result ≡ trace_eq self.now other.now }
+    {
+        self.key == other.key
+            && self.result == other.result
+            && are_equal(self.links.as_slice(), other.links.as_slice())
+    }
+}
+
+fn are_equal(links: &[Link], others: &[Link]) -> bool
+    ensures { result ≡ links_eq links.now others.now }
+{
+    if links.len() != others.len() {
+        return false;
+    }
+    for at in 0..links.len() {
+        if links[at].name != others[at].name || links[at].digest != others[at].digest {
+            return false;
+        }
+    }
+    true
 }

@@ -6,3 +6,4 @@ pub mod Found
 pub mod Steps
 pub mod Onces
 pub mod Changed
+pub mod Lengths

@@ -1,12 +1,16 @@
-ghost use Rattle.std.specs.Prelude.{◌≡◌, ◌<◌, ◌^◌, ◌∷◌, ◌++◌, [], List, length, slice_get, option_copied, ◌==◌, is_ok, take, IfOk, OnOk, OnErr, IsTrue, if◌then◌else◌};
+ghost use Rattle.std.specs.Prelude.{◌≡◌, ◌<◌, ◌^◌, ◌∷◌, ◌++◌, [], List, length, slice_get, option_copied, ◌==◌, is_ok, map, take, IfOk, IfSome, OnOk, OnErr, IsTrue, if◌then◌else◌};
+ghost use Rattle.std.specs.List.{IsDistinct};
 ghost use Rattle.std.specs.HashMap.{get};
 ghost use Rattle.carte_name.specs.Names.{name_eq};
+ghost use Rattle.carte_codec.specs.Lengths.{IsLengthOf};
+ghost use Rattle.carte_codec.specs.Parts.{spelled_link};
 ghost use Rattle.carte_table.specs.Lookups.{first_link, is_link_of};
 ghost use Rattle.carte_table.specs.Places.{IsFirstPlaces};
 ghost use Rattle.carte_table.specs.Changes.{change_first, front};
 ghost use Rattle.carte_table.specs.Steps.{Begins, Replaces, HasRoomFor, HasRoom, CanBecome, IsReady, TakesIn};
 
-use crate::table::{Table, add, each_once, first, forget, place, push, set, widen};
+use crate::table::{Table, add, each_once, first, forget, length_with, place, push, set, widen};
+use carte_codec::{items_length, with_item, without_item};
 use carte_value::{Digest, Link, Name, NoMemory, Same, Seeded};
 use std::alloc::Global;
 use std::marker::Model;
@@ -18,6 +22,7 @@ pub struct Seen {
     alloc: Global,
     links: Vec<Link>,
     places: Table<Name, u32>,
+    known: Option<u64>,
 }
 
 impl Model for Seen {
@@ -27,12 +32,14 @@ impl Model for Seen {
     ghost use Rattle.carte_value.specs.declared.link.Link.{Link};
     ghost use Rattle.carte_table.specs.Places.{IsFirstPlaces};
     ghost use Rattle.carte_table.specs.Lookups.{is_link_of};
+    ghost use Rattle.carte_codec.specs.Lengths.{IsLengthOf};
+    ghost use Rattle.carte_codec.specs.Parts.{spelled_link};
 
     ghost Value = { List Link };
 
     ghost view = { λ a. a.links.items };
 
-    ghost invariant = { λ a. (length a.links.items < 2 ^ 32) × IsFirstPlaces is_link_of a.links.items (get name_eq a.places) };
+    ghost invariant = { λ a. (length a.links.items < 2 ^ 32) × IsFirstPlaces is_link_of a.links.items (get name_eq a.places) × IsLengthOf spelled_link a.links.items a.known };
 }
 
 impl Seen {
@@ -44,6 +51,7 @@ impl Seen {
             alloc,
             links: Vec::new(alloc),
             places: Table::with_hasher(alloc, hasher),
+            known: Some(0),
         }
     }
 
@@ -55,10 +63,12 @@ impl Seen {
             alloc,
             links: Vec::with_capacity(alloc, count)?,
             places: Table::with_capacity_and_hasher(alloc, count, hasher)?,
+            known: Some(0),
         })
     }
 
-    /// These links, with the places of their names in a table.
+    /// These links, with the places of their names in a table. How many bytes they take isn't counted until they become
+    /// another list's.
     pub fn with_places(alloc: Global, links: Vec<Link>, hasher: Seeded) -> Result<Seen, NoMemory>
         requires { length links.items < 2 ^ 32 }
         ensures { IfOk result (λ list. list ≡ links.items) }
@@ -68,6 +78,7 @@ impl Seen {
             alloc,
             links,
             places,
+            known: None,
         })
     }
 
@@ -126,12 +137,31 @@ impl Seen {
         }
     }
 
+    /// How many bytes the links are spelled as, where that is known and no name comes twice. It takes no pass over them.
+    pub fn length(&self) -> Option<u64>
+        ensures length { IsLengthOf spelled_link self.now result }
+        ensures once { IfSome result (λ _. IsDistinct name_eq (map (λ l. l.name) self.now)) }
+    {
+        if !each_once(self.links.as_slice(), &self.places) {
+            return None;
+        }
+        self.known
+    }
+
+    fn measure(&mut self)
+        ensures { self.new ≡ self.old }
+    {
+        self.known = items_length(self.links.as_slice());
+    }
+
     /// Puts a link in the place of the first one of its name, where there is one.
     pub(crate) fn replace(&mut self, link: Link)
         ensures { self.new ≡ change_first (is_link_of link.name) (λ l. link) self.old }
     {
         let at = place(&self.places, &link.name);
+        let known = length_with(self.links.as_slice(), self.known, at, &link);
         set(&mut self.links, at, link);
+        self.known = known;
     }
 
     /// Makes ready to take a later list in, which then can't fail. Where there is no room, some links more may stand there.
@@ -151,6 +181,7 @@ impl Seen {
     {
         if self.is_empty() {
             *self = later;
+            self.measure();
             return;
         }
         self.replace_all(later);
@@ -209,6 +240,7 @@ impl Seen {
         ensures { self.new ≡ front self.old }
     {
         if let Some(link) = self.links.pop() {
+            self.known = without_item(self.known, &link);
             forget(&mut self.places, &link.name, self.links.len());
         }
     }
@@ -229,7 +261,10 @@ impl Seen {
         ensures { self.new ≡ (if is_ok result then self.old ++ link ∷ [] else self.old) }
     {
         let name = link.name.copy(self.alloc)?;
-        push(&mut self.links, &mut self.places, name, link)
+        let known = with_item(self.known, &link);
+        push(&mut self.links, &mut self.places, name, link)?;
+        self.known = known;
+        Ok(())
     }
 }
 

@@ -1,5 +1,6 @@
 ghost use Rattle.std.specs.Prelude.{◌≡◌, ◌<◌, ◌^◌, ◌∷◌, ◌++◌, [], List, length, map, slice_get, option_map, option_copied, ◌==◌, is_ok, take, IfOk, OnOk, Some, None, if◌then◌else◌};
-ghost use Rattle.carte_value.specs.Spelling.{digest_of};
+ghost use Rattle.carte_codec.specs.Lengths.{IsLengthOf};
+ghost use Rattle.carte_value.specs.Spelling.{digest_of, spelling};
 ghost use Rattle.std.specs.HashMap.{get};
 ghost use Rattle.carte_name.specs.Names.{name_eq};
 ghost use Rattle.carte_table.specs.Lookups.{first_value, is_value_of};
@@ -11,6 +12,7 @@ ghost use Rattle.carte_table.specs.Steps.{Begins};
 
 use crate::digest_key::DigestKey;
 use crate::table::{Table, add, first, forget, make_place, push, widen};
+use carte_codec::{items_length, with_item, without_item};
 use carte_value::{Digest, NoMemory, Seeded, Value};
 use std::alloc::Global;
 use std::marker::Model;
@@ -22,6 +24,7 @@ pub struct Store {
     values: Vec<Value>,
     digests: Vec<Digest>,
     places: Table<DigestKey, u32>,
+    known: Option<u64>,
 }
 
 impl Model for Store {
@@ -32,12 +35,14 @@ impl Model for Store {
     ghost use Rattle.carte_value.specs.declared.value.Value.{Value as SomeValue};
     ghost use Rattle.carte_table.specs.Places.{IsFirstPlaces};
     ghost use Rattle.carte_table.specs.Lookups.{is_value_of};
+    ghost use Rattle.carte_codec.specs.Lengths.{IsLengthOf};
+    ghost use Rattle.carte_value.specs.Spelling.{spelling};
 
     ghost Value = { List SomeValue };
 
     ghost view = { λ a. a.values.items };
 
-    ghost invariant = { λ a. (length a.values.items < 2 ^ 32) × (a.digests.items ≡ map digest_of a.values.items) × IsFirstPlaces (λ d. is_value_of (record { 0 = d })) a.values.items (get name_eq a.places) };
+    ghost invariant = { λ a. (length a.values.items < 2 ^ 32) × (a.digests.items ≡ map digest_of a.values.items) × IsFirstPlaces (λ d. is_value_of (record { 0 = d })) a.values.items (get name_eq a.places) × IsLengthOf spelling a.values.items a.known };
 }
 
 impl Store {
@@ -49,6 +54,7 @@ impl Store {
             values: Vec::new(alloc),
             digests: Vec::new(alloc),
             places: Table::with_hasher(alloc, hasher),
+            known: Some(0),
         }
     }
 
@@ -60,10 +66,12 @@ impl Store {
             values: Vec::with_capacity(alloc, count)?,
             digests: Vec::with_capacity(alloc, count)?,
             places: Table::with_capacity_and_hasher(alloc, count, hasher)?,
+            known: Some(0),
         })
     }
 
-    /// These values, with their digests, and the places of these in a table.
+    /// These values, with their digests, and the places of these in a table. How many bytes they take isn't counted until
+    /// they become another list's.
     pub fn with_places(alloc: Global, values: Vec<Value>, hasher: Seeded) -> Result<Store, NoMemory>
         requires { length values.items < 2 ^ 32 }
         ensures { IfOk result (λ list. list ≡ values.items) }
@@ -73,6 +81,7 @@ impl Store {
             values,
             digests,
             places,
+            known: None,
         })
     }
 
@@ -127,6 +136,19 @@ impl Store {
         self.digests.get(at)
     }
 
+    /// How many bytes the values are spelled as, where that is known. It takes no pass over them.
+    pub fn length(&self) -> Option<u64>
+        ensures { IsLengthOf spelling self.now result }
+    {
+        self.known
+    }
+
+    fn measure(&mut self)
+        ensures { self.new ≡ self.old }
+    {
+        self.known = items_length(self.values.as_slice());
+    }
+
     /// Puts the values of a later list behind these, but for those whose digest is there. Where there is no room for all
     /// of them, some may stand there.
     pub fn take_in(&mut self, later: Store) -> Result<(), NoMemory>
@@ -135,6 +157,7 @@ impl Store {
     {
         if self.values.is_empty() {
             *self = later;
+            self.measure();
             return Ok(());
         }
         self.widen(later.len());
@@ -171,7 +194,8 @@ impl Store {
     fn pop(&mut self)
         ensures { self.new ≡ front self.old }
     {
-        if let Some(_value) = self.values.pop() {
+        if let Some(value) = self.values.pop() {
+            self.known = without_item(self.known, &value);
             if let Some(digest) = self.digests.pop() {
                 let key = DigestKey::of(&digest);
                 forget(&mut self.places, &key, self.values.len());
@@ -205,7 +229,9 @@ impl Store {
     {
         make_place(&mut self.digests)?;
         let key = DigestKey::of(&digest);
+        let known = with_item(self.known, &value);
         push(&mut self.values, &mut self.places, key, value)?;
+        self.known = known;
         self.digests.push_reserved(digest);
         Ok(())
     }

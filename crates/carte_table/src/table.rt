@@ -1,10 +1,12 @@
 //! Tables from keys to places in a list.
-ghost use Rattle.std.specs.Prelude.{◌≡◌, ◌<◌, ◌^◌, ◌++◌, ◌∷◌, [], Bool, None, Some, IsTrue, ◌↔◌, length, map, find, slice_get, option_copied, is_ok, OnOk, OnErr, vec_len, vec_capacity, if◌then◌else◌};
+ghost use Rattle.std.specs.Prelude.{◌≡◌, ◌<◌, ◌^◌, ◌+◌, ◌++◌, ◌∷◌, [], ℕ, Bool, None, Some, IsTrue, ◌↔◌, length, map, find, slice_get, option_copied, is_ok, IfSome, OnOk, OnErr, vec_len, vec_capacity, if◌then◌else◌};
 ghost use Rattle.std.specs.HashMap.{get};
 ghost use Rattle.std.specs.List.{IsDistinct};
 ghost use Rattle.carte_table.specs.Places.{first_place, IsFirstPlaces, AddsPlace, ForgetsPlace};
 ghost use Rattle.carte_table.specs.Changes.{change_first};
+ghost use Rattle.carte_codec.specs.Lengths.{IsLengthOf};
 
+use carte_codec::Measured;
 use carte_value::{NoMemory, Seeded};
 use std::collections::HashMap;
 use std::hash::Hash;
@@ -49,12 +51,12 @@ pub fn first<'a, K: Eq + Hash, T>(items: &'a [T], table: &Table<K, u32>, key: &K
     ensures { (is_of : K → T → Bool) → IsFirstPlaces is_of items.now (get K.eq table.now) → option_copied result ≡ find (is_of key.now) items.now }
 {
     match place(table, key) {
-        Some(at) => item(items, at),
+        Some(at) => item_at(items, at),
         None => None,
     }
 }
 
-fn item<T>(items: &[T], at: usize) -> Option<&T>
+fn item_at<T>(items: &[T], at: usize) -> Option<&T>
     ensures { option_copied result ≡ slice_get items.now at }
 {
     items.get(at)
@@ -86,6 +88,31 @@ pub fn set<T: Drop>(items: &mut Vec<T>, at: Option<usize>, item: T)
             *old = item;
         }
     }
+}
+
+/// How many bytes the items will be spelled as once this one stands in that place.
+pub fn length_with<T: Measured>(
+    items: &[T],
+    known: Option<u64>,
+    at: Option<usize>,
+    item: &T,
+) -> Option<u64>
+    ensures { (p : T → Bool) → at ≡ first_place p items.now → IsLengthOf T.spelled items.now known → IsLengthOf T.spelled (change_first p (λ x. item.now) items.now) result }
+{
+    if let Some(at) = at {
+        if let Some(old) = item_at(items, at) {
+            return exchanged(known, old, item);
+        }
+    }
+    known
+}
+
+fn exchanged<T: Measured>(known: Option<u64>, old: &T, item: &T) -> Option<u64>
+    ensures { (m n : ℕ) → n + length (T.spelled old.now) ≡ m + length (T.spelled item.now) → IfSome known (λ k. k ≡ m) → IfSome result (λ k. k ≡ n) }
+{
+    let less = old.length()?;
+    let more = item.length()?;
+    known?.checked_sub(less)?.checked_add(more)
 }
 
 /// Takes a place that is no longer one out of the table.

@@ -1,5 +1,5 @@
 use Rattle.std.proofs.Common.{◌<◌, [], ◌∷◌, length, take, ◌∙◌, ap, arith, rules, length-append}
-use Rattle.carte_compact.proofs.Links.{item_more}
+use Rattle.carte_record.proofs.Links.{item_more}
 use Rattle.carte_compact.proofs.Shut.{bodies_more, short_more, unmarked_at}
 use Rattle.carte_compact.proofs.bodies.bodies_of.Goals as goal
 

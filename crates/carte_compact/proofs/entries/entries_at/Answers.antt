@@ -1,7 +1,7 @@
 use Rattle.std.proofs.Common.{◌<◌, [], ◌++◌, length, take, ap, sym, ◌∙◌, rules}
 use Rattle.carte_compact.specs.Live.{entry_at, found_at, put}
 use Rattle.carte_compact.proofs.Found.{found_more}
-use Rattle.carte_compact.proofs.Links.{item_more}
+use Rattle.carte_record.proofs.Links.{item_more}
 use Rattle.carte_compact.proofs.entries.entries_at.Goals as goal
 
 pub loop-key-preserved : goal.loop-key-preserved

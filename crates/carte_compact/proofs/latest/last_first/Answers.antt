@@ -4,7 +4,7 @@ use Rattle.carte_record.specs.Lookups.{trace_eq}
 use Rattle.carte_table.proofs.FirstPlaces.{map_end}
 use Rattle.carte_compact.specs.declared.content.Content.{Content}
 use Rattle.carte_compact.proofs.Backwards.{added, not_from, not_to, passed, told}
-use Rattle.carte_compact.proofs.Links.{item_ahead}
+use Rattle.carte_record.proofs.Links.{item_ahead}
 use Rattle.carte_compact.proofs.latest.last_first.Goals as goal
 
 pub loop-left-preserved-in-Continue-branch-2 : goal.loop-left-preserved-in-Continue-branch-2

@@ -2,7 +2,7 @@ use Rattle.std.proofs.Common.{◌≡◌, ◌≤◌, map, drop, reverse, length}
 use Rattle.std.specs.HashSet.{contains}
 use Rattle.std.specs.List.{list_any}
 use Rattle.carte_record.specs.Lookups.{trace_eq}
-use Rattle.carte_compact.specs.Latest.{last_ones}
+use Rattle.carte_record.specs.Latest.{last_ones}
 use Rattle.carte_compact.specs.declared.content.Content.{Content}
 use Rattle.carte_compact.proofs.latest.last_first.Given as goal
 

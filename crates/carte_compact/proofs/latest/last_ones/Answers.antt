@@ -1,7 +1,7 @@
 use Rattle.std.proofs.Common.{◌≡◌, map, reverse, ap, ◌∙◌}
 use Rattle.std.proofs.lemmas.List.{reverse-reverse}
 use Rattle.std.proofs.lemmas.Result.{IfOk-weaker}
-use Rattle.carte_compact.specs.Latest.{last_ones}
+use Rattle.carte_record.specs.Latest.{last_ones}
 use Rattle.carte_compact.proofs.Backwards.{map_reverse}
 use Rattle.carte_compact.proofs.latest.last_ones.Goals as goal
 

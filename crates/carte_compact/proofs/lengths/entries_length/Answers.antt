@@ -2,7 +2,7 @@ use Rattle.std.proofs.Common.{◌≡◌, ◌+◌, ◌<◌, [], length, take, ap,
 use Rattle.std.specs.List.{flat_map}
 use Rattle.carte_record.specs.Bodies.{spelled_entry}
 use Rattle.carte_compact.specs.Live.{found_at, entry_at, put}
-use Rattle.carte_compact.proofs.Links.{item_more}
+use Rattle.carte_record.proofs.Links.{item_more}
 use Rattle.carte_compact.proofs.Sizes.{found_longer}
 use Rattle.carte_compact.proofs.lengths.entries_length.Goals as goal
 

@@ -2,7 +2,7 @@ use Rattle.std.proofs.Common.{◌≡◌, ◌+◌, ◌<◌, [], length, take, ap,
 use Rattle.std.specs.List.{flat_map}
 use Rattle.carte_codec.specs.Parts.{spelled_link}
 use Rattle.carte_compact.specs.Live.{found_at, link_at, put}
-use Rattle.carte_compact.proofs.Links.{item_more}
+use Rattle.carte_record.proofs.Links.{item_more}
 use Rattle.carte_compact.proofs.Sizes.{found_longer}
 use Rattle.carte_compact.proofs.lengths.links_length.Goals as goal
 

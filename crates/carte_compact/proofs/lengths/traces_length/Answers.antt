@@ -1,7 +1,7 @@
 use Rattle.std.proofs.Common.{◌≡◌, length, map, reverse, ap, ◌∙◌}
 use Rattle.carte_codec.specs.Parts.{spelled_list}
 use Rattle.carte_record.specs.Bodies.{spelled_trace}
-use Rattle.carte_compact.specs.Latest.{last_ones}
+use Rattle.carte_record.specs.Latest.{last_ones}
 use Rattle.carte_compact.proofs.Sizes.{if_there, last_long, refs_long}
 use Rattle.carte_compact.proofs.lengths.traces_length.Goals as goal
 

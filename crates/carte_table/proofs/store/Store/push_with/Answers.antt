@@ -11,6 +11,7 @@ invariant_of-self-in_err-push c = (
   c.push.ensures.bound,
   rw ((c.in_err-push.ensures {u = tt}).items, c.make_place.ensures.items) c.self.invariant.1,
   c.push.ensures.table (λ d. is_value_of (record { 0 = d })) (λ q. name_eq_sym q (digest_of c.args.value).0 ∙ sym (ap (λ d. name_eq d.0 q) c.requires) ∙ sym (ap (λ k. name_eq k q) c.of-key.ensures)) c.self.invariant.2,
+  rw ((c.in_err-push.ensures {u = tt}).items) c.self.invariant.3,
 )
 
 pub invariant_of-self-2 : goal.invariant_of-self-2
@@ -18,4 +19,5 @@ invariant_of-self-2 c = (
   c.push.ensures.bound,
   rw (c.push_reserved.ensures.items, c.make_place.ensures.items, c.self.invariant.1, (c.in_ok-push.ensures {u = tt}).items, c.requires) (sym (map_end digest_of _ _)),
   c.push.ensures.table (λ d. is_value_of (record { 0 = d })) (λ q. name_eq_sym q (digest_of c.args.value).0 ∙ sym (ap (λ d. name_eq d.0 q) c.requires) ∙ sym (ap (λ k. name_eq k q) c.of-key.ensures)) c.self.invariant.2,
+  rw ((c.in_ok-push.ensures {u = tt}).items) (c.with_item-known.ensures c.self.inside.values.items c.self.invariant.3),
 )

@@ -1,6 +1,6 @@
 use Rattle.std.proofs.Common.{◌≡◌, length, sym, rules}
-use Rattle.carte_compact.proofs.Links.{apart_by_length}
-use Rattle.carte_compact.proofs.content.are_equal.Goals as goal
+use Rattle.carte_record.proofs.Links.{apart_by_length}
+use Rattle.carte_record.proofs.trace.are_equal.Goals as goal
 
 pub returns-then-links-others : goal.returns-then-links-others
 returns-then-links-others c =

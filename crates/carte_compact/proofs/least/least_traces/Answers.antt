@@ -1,0 +1,5 @@
+use Rattle.carte_compact.proofs.Least.{traces_long}
+use Rattle.carte_compact.proofs.least.least_traces.Goals as goal
+
+pub returns : goal.returns
+returns c = traces_long c.least_length.result c.args.traces.now c.least_length.ensures
