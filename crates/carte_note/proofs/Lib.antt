@@ -5,3 +5,4 @@ pub mod Entered
 pub mod Rightly
 pub mod Noted
 pub mod Names
+pub mod Before

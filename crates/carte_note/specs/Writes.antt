@@ -91,3 +91,7 @@ with_run h K f B = record B {
 -- and with its entry, and the inputs that the entry names
 abbrev pub with_entry : How → Book → Kept → Finished → Batch → Batch
 with_entry h b K f B = record B { seen = seen_noted h b K f B.seen; entries = entries_noted h K f B.entries }
+
+-- with all that the key brings
+abbrev pub with_finished : How → Book → Kept → Finished → Batch → Batch
+with_finished h b K f B = with_entry h b K f (with_run h K f B)

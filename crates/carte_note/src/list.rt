@@ -1,4 +1,4 @@
-ghost use Rattle.std.specs.Prelude.{◌≡◌, ◌<◌, ◌^◌, ◌++◌, ◌∷◌, [], length, slice_get, option_copied, ◌==◌, is_ok, IfOk, OnOk, OnErr, ℕ, List, if◌then◌else◌};
+ghost use Rattle.std.specs.Prelude.{◌≡◌, ◌<◌, ◌^◌, ◌++◌, ◌∷◌, [], length, slice_get, option_copied, ◌==◌, is_ok, IfOk, OnOk, OnErr, ℕ, List, take, if◌then◌else◌};
 ghost use Rattle.std.specs.HashMap.{get};
 ghost use Rattle.carte_name.specs.Names.{name_eq};
 ghost use Rattle.carte_table.specs.Places.{AddsPlace};
@@ -102,6 +102,16 @@ impl FinishedList {
         }
     }
 
+    /// The same of the first so many finished keys alone.
+    pub fn find_before(&self, key: &Name, count: usize) -> Option<&Finished>
+        ensures { option_copied result ≡ finished_of (take count self.now) key.now }
+    {
+        match place(&self.places, key) {
+            Some(at) => item_before(self.finished.as_slice(), at, count),
+            None => None,
+        }
+    }
+
     /// Puts a finished key behind the others. Where there is no room for it, it is dropped and nothing has changed.
     pub fn push(&mut self, finished: Finished) -> Result<(), NoMemory>
         ensures { self.new ≡ (if is_ok result then self.old ++ finished ∷ [] else self.old) }
@@ -131,6 +141,15 @@ fn item(finished: &[Finished], at: usize) -> Option<&Finished>
     ensures { option_copied result ≡ slice_get finished.now at }
 {
     finished.get(at)
+}
+
+fn item_before(finished: &[Finished], at: usize, count: usize) -> Option<&Finished>
+    ensures { option_copied result ≡ slice_get (take count finished.now) at }
+{
+    if at < count {
+        return finished.get(at);
+    }
+    None
 }
 
 fn add(places: &mut Places, key: Name, at: u32) -> Result<(), NoMemory>

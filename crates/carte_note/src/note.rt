@@ -4,7 +4,7 @@ ghost use Rattle.carte_book.specs.Book.{book_view};
 ghost use Rattle.carte_record.specs.Kept.{kept_view};
 ghost use Rattle.carte_note.specs.Methods.{how_of};
 ghost use Rattle.carte_note.specs.Notes.{Notes, AreUnmarked};
-ghost use Rattle.carte_note.specs.Writes.{digest_made, trace_noted, traced, with_value, with_run, with_entry};
+ghost use Rattle.carte_note.specs.Writes.{digest_made, trace_noted, traced, with_value, with_run, with_entry, with_finished};
 
 use crate::entry::{entry, stays};
 use crate::finished::{has_run, links_noted, links_shared};
@@ -31,6 +31,7 @@ pub fn note_finished(
     ensures start { OnOk result (batch.new.start ≡ batch.old.start) }
     ensures stale { OnOk result (batch.new.stale ≡ batch.old.stale) }
     ensures chain { OnOk result (batch.new.chain ≡ batch.old.chain) }
+    ensures items { OnOk result (batch.new ≡ with_finished (how_of method) (book_view book.now) kept.now finished.now batch.old) }
 {
     let digest = finished.made.hashed().digest();
     note_run(alloc, method, kept, finished, digest, batch)?;

@@ -33,7 +33,7 @@ kept_same K L rules seen entries traces chain stored i = record {
   stored = λ d. stored d i;
 }
 
-add_rules : (h : How) (b : Book) (fs : Finishes) (L : SomeKept) → (add_all h b L fs).rules ≡ L.rules
+pub add_rules : (h : How) (b : Book) (fs : Finishes) (L : SomeKept) → (add_all h b L fs).rules ≡ L.rules
 add_rules h b [] L = refl
 add_rules h b (f ∷ fs) L = add_rules h b fs (add h b L f.0 f.1)
 

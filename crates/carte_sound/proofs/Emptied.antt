@@ -12,7 +12,7 @@ use Rattle.carte_record.specs.Folds.{batch_traces, apply}
 use Rattle.carte_record.specs.Kept.{SomeKept, traces_in, staled}
 use Rattle.carte_sound.specs.LeadsTo.{empty_batch}
 
-unmarked : (o : Option Entry) → option_map (staled false) o ≡ o
+pub unmarked : (o : Option Entry) → option_map (staled false) o ≡ o
 unmarked None = refl
 unmarked (Some e) = refl
 

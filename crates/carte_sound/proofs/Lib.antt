@@ -27,3 +27,6 @@ pub mod Applied
 pub mod Keeping
 pub mod Assembled
 pub mod Standing
+pub mod Cut
+pub mod Stations
+pub mod PartsSound

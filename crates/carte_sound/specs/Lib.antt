@@ -13,4 +13,6 @@ pub mod Treated
 pub mod Chains
 pub mod Carries
 pub mod LeadsTo
+pub mod Cut
+pub mod Parts
 pub mod Standing

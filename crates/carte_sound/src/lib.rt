@@ -18,15 +18,24 @@
 //! on only a local fact is used: each fresh entry has the present value and needs, its inputs are seen with present
 //! digests, and the rules that it needs are fresh.
 //!
+//! What a build brings is told for one batch, and for a list of them, each with a part of the finished keys: behind each the
+//! keys so far are left, which is sound. One batch is the list of one. Turned down: stations that are worked out by
+//! noting keys over what was committed, since which keys are held is told over what the build begins with.
+//!
 //! Digests stand in for values: the premise that no two clean values of a history have one digest, and no two sets of
 //! rules, is part of every law, and is left behind at once in a few lemmas.
 #![tactic(auto)]
 
 mod laws;
+mod parts;
 mod premises;
 
 pub use laws::{
     batch_is_sound, batch_keeps_reached, difference_is_left, finished_is_held, held_is_clean,
     left_is_sound, marking_is_sound, nothing_is_sound, reached_is_kept, sound_as_history_grows,
+};
+pub use parts::{
+    each_station_is_sound, few_keys_are_one_part, later_difference_is_left, left_goes_on,
+    one_part_leads, parts_keep_reached, parts_lead_to_stations, prefix_is_sound, rest_carries,
 };
 pub use premises::some_book_stands;

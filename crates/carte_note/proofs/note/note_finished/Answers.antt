@@ -33,3 +33,14 @@ returns-clause-unmarked c =
     (λ (is : c.note_entry.new.batch ≡ with_entry h b K f c.note_run.new.batch).
     subst (λ (B : Batch). AreUnmarked c.args.batch.now.entries → AreUnmarked B.entries) (sym (is ∙ ap (with_entry h b K f) (c.in_ok-note_run.ensures {u = tt}))) (unmarked h K f c.args.batch.now.entries))
     c.note_entry.ensures
+
+pub returns-clause-items : goal.returns-clause-items
+returns-clause-items c =
+    let h = how_of c.args.method in
+    let b = book_view c.args.book.now in
+    let K = c.args.kept.now in
+    let f = c.args.finished.now in
+    on_ok c.note_entry.result
+    (λ (is : c.note_entry.new.batch ≡ with_entry h b K f c.note_run.new.batch).
+    is ∙ ap (with_entry h b K f) (c.in_ok-note_run.ensures {u = tt}))
+    c.note_entry.ensures

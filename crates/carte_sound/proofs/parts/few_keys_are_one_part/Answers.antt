@@ -1,0 +1,12 @@
+use Rattle.carte_sound.specs.LeadsTo.{chain_behind, chain_stays}
+use Rattle.carte_sound.specs.Treated.{IsDoneInOrder, IsDoneRestarting, IsDoneSuspending}
+use Rattle.carte_sound.proofs.PartsSound.{few_parts}
+use Rattle.carte_sound.proofs.parts.few_keys_are_one_part.Goals as goal
+
+pub returns : goal.returns
+returns c = record {
+  in_order = λ h K b targets. few_parts h (λ M k. IsDoneInOrder b targets k) chain_stays K b;
+  refused = λ h K b. few_parts h (λ M k. ⊥) chain_stays K b;
+  suspending = λ h K b targets. few_parts h (λ M k. IsDoneSuspending h M b targets k) chain_stays K b;
+  restarting = λ h K b targets. few_parts h (λ M k. IsDoneRestarting h M b targets k) chain_behind K b;
+}
