@@ -9,12 +9,10 @@ use Rattle.carte_record.specs.Kept.{SomeKept, nothing_kept}
 use Rattle.carte_record.specs.declared.batch.Batch.{Batch}
 use Rattle.carte_state.specs.Folding.{BadAtOne, IsBadBody, IsFolded, KeepsOne, KeepsOrBad}
 
--- the bodies, cut at a place
-pub body_cut : (bodies : List BodyAt) (i : ℕ) (body : BodyAt) → i < length bodies → body ≡ get_or bodies i body
-    → bodies ≡ take i bodies ++ body ∷ drop (i + 1) bodies
-body_cut bodies i body within is =
-    sym (take-append-drop i bodies)
-    ∙ ap (λ back. take i bodies ++ back) (drop_more bodies i body within ∙ ap (λ x. x ∷ drop (i + 1) bodies) (sym is))
+-- a list, cut at a place
+pub cut_at : {A : Type 0} (xs : List A) (i : ℕ) (x : A) → i < length xs → x ≡ get_or xs i x → xs ≡ take i xs ++ x ∷ drop (i + 1) xs
+cut_at xs i x within is =
+    sym (take-append-drop i xs) ∙ ap (λ back. take i xs ++ back) (drop_more xs i x within ∙ ap (λ y. y ∷ drop (i + 1) xs) (sym is))
 
 -- one body more
 pub folded_push : (K : SomeKept) (bodies : List BodyAt) (body : BodyAt) (B : Batch) (L : SomeKept) → IsFolded K bodies L → IsBody B body.1

@@ -1,6 +1,5 @@
 -- A loop of batches, through the contract of one.
 use Rattle.std.proofs.Common.{◌≡◌, ℕ, ◌+◌, ◌<◌, ◌≤◌, Bool, true, false, if◌then◌else◌, List, [], ◌∷◌, ◌++◌, length, map, map-id, take, drop, get_or, arith, refl, sym, ◌∙◌, ap, subst, append_assoc, append-nil}
-use Rattle.std.proofs.lemmas.List.{drop_more, take-append-drop}
 use Rattle.carte_codec.specs.Each.{EachFits}
 use Rattle.carte_io.specs.Disk.{CountsUp, Story, moments}
 use Rattle.carte_io.specs.Stations.{Step, StepsThrough, calls_in, last_of}
@@ -18,6 +17,7 @@ use Rattle.carte_state.specs.Folding.{Keeps}
 use Rattle.carte_state.specs.Runs.{AreUnmarked, EndsIn, applied, calls_of_all, journal_behind, steps_of}
 use Rattle.carte_state.specs.States.{IsKeptOn, Stand, calls_for, journal_after, kept_in, step_for}
 use Rattle.carte_state.proofs.Applies.{kept_leaves}
+use Rattle.carte_state.proofs.Folds.{cut_at}
 
 pub applied-append : (K : SomeKept) (Bs Cs : List Batch) → applied K (Bs ++ Cs) ≡ applied (applied K Bs) Cs
 applied-append K [] Cs = refl
@@ -114,15 +114,11 @@ none_yet state s on = record {
   steps = steps_none (Keeps state.journal.limit) (kept_in state) s s (throughout_none s s _ refl (kept_leaves state s on));
 }
 
--- all batches, cut at the one behind those that were done
-cut_at : (Bs : List Batch) (i : ℕ) (B : Batch) → i < length Bs → B ≡ get_or Bs i B → Bs ≡ take i Bs ++ B ∷ drop (i + 1) Bs
-cut_at Bs i B within is =
-    sym (take-append-drop i Bs) ∙ ap (λ back. take i Bs ++ back) (drop_more Bs i B within ∙ ap (λ x. x ∷ drop (i + 1) Bs) (sym is))
-
-pub cut_behind : (Bs done : List Batch) (B : Batch) → map (λ x. x) done ≡ take (length done) Bs → (length done < length Bs) × (B ≡ get_or Bs (length done) B)
-    → Bs ≡ done ++ B ∷ drop (length done + 1) Bs
-cut_behind Bs done B so turn =
-    cut_at Bs (length done) B turn.0 turn.1 ∙ ap (λ front. front ++ B ∷ drop (length done + 1) Bs) (sym so ∙ map-id done)
+-- a list, cut at the item behind those that were done
+pub cut_behind : {A : Type 0} (xs done : List A) (x : A) → map (λ y. y) done ≡ take (length done) xs → (length done < length xs) × (x ≡ get_or xs (length done) x)
+    → xs ≡ done ++ x ∷ drop (length done + 1) xs
+cut_behind xs done x so turn =
+    cut_at xs (length done) x turn.0 turn.1 ∙ ap (λ front. front ++ x ∷ drop (length done + 1) xs) (sym so ∙ map-id done)
 
 unmarked_at : (done rest : List Batch) (B : Batch) → AreUnmarked (done ++ B ∷ rest) → EachFits IsUnmarked B.entries
 unmarked_at [] rest B unmarked = unmarked.0

@@ -1,5 +1,6 @@
 pub mod Around
 pub mod Folding
+pub mod Parts
 pub mod States
 pub mod Applying
 pub mod Rewriting

@@ -4,6 +4,11 @@
 //! kept. `load` reads a file; `apply` puts one batch in, on the disk and in memory. So what a file keeps is a relation on
 //! its bytes, `Keeps` in `specs/Folding.antt`, of which a law says that there is one such thing at most (`keeps_one`).
 //!
+//! `load_by` reads the bodies in neighbouring parts, each on a thread of its own, and puts them together in their order.
+//! Bodies are moved into the parts and batches back, and nothing else is shared. Parts have as many bytes, since the first
+//! body of a file often has most of them. A pool of threads that take one body after another was turned down: it would
+//! need a lock. So was one table of what is kept for each part: the tables would have to be put together, name by name.
+//!
 //! A step of `apply` is what its batch makes: at each moment an image of the file keeps what was kept before it or after
 //! it, and once its calls have passed, what was kept after it. A run of batches is such steps one after another, so what
 //! was acknowledged stands in every later image, whatever the run did behind it; a history of runs, each over an image
@@ -25,6 +30,7 @@ mod fault;
 mod laws;
 mod load;
 mod many;
+mod parts;
 mod state;
 
 pub use carte_journal::{Bank, CommitFault, LoadFault, Region};

@@ -23,7 +23,6 @@
 
 mod building;
 mod front;
-mod gate;
 mod laws;
 mod parts;
 mod running;
@@ -32,6 +31,6 @@ mod wave;
 mod waves;
 
 pub use building::build;
-pub use gate::{Gate, NoGate};
+pub use carte_io::{Gate, NoGate};
 pub use running::run_wave;
 pub use wave::{Driven, Jobs, Wave};

@@ -1,6 +1,6 @@
 //! Gates that ask for every part of a wave.
 
-use carte_wave::Gate;
+use carte_io::Gate;
 use std::marker::Sync;
 use std::sync::atomic::{AtomicU64, Ordering};
 use std::sync::{Barrier, Wait};
@@ -48,5 +48,37 @@ impl<R: Wait + Sync> Gate for Meeting<'_, R> {
 
     fn wants_all(&self) -> bool {
         true
+    }
+}
+
+/// Counts how often each part comes, in a number with a digit a part, and asks for all parts or for none.
+#[derive(Drop)]
+pub(crate) struct Counting {
+    all: bool,
+    digits: AtomicU64,
+}
+
+impl Counting {
+    pub(crate) fn of(all: bool) -> Counting {
+        let digits = AtomicU64::new(0);
+        Counting { all, digits }
+    }
+
+    pub(crate) fn entered(&self) -> u64 {
+        self.digits.load(Ordering::SeqCst)
+    }
+}
+
+const DIGITS: [u64; 8] = [1, 10, 100, 1_000, 10_000, 100_000, 1_000_000, 10_000_000];
+
+impl Gate for Counting {
+    fn enter(&self, part: usize) {
+        if let Some(digit) = DIGITS.get(part) {
+            self.digits.fetch_add(*digit, Ordering::SeqCst);
+        }
+    }
+
+    fn wants_all(&self) -> bool {
+        self.all
     }
 }

@@ -5,7 +5,7 @@ use Rattle.std.proofs.lemmas.Result.{err_from_is_err_and}
 use Rattle.carte_journal.specs.declared.faults.LoadFault.TheVariants.{BadState}
 use Rattle.carte_record.specs.Kept.{kept_view, nothing_kept}
 use Rattle.carte_state.specs.Folding.{IsBadBody, IsFolded}
-use Rattle.carte_state.proofs.Folds.{bad_behind, body_cut, folded_push}
+use Rattle.carte_state.proofs.Folds.{bad_behind, cut_at, folded_push}
 use Rattle.carte_state.proofs.load.folded.Goals as goal
 
 pub returns-in_err-batch-clause-bad : goal.returns-in_err-batch-clause-bad
@@ -18,7 +18,7 @@ returns-in_err-batch-clause-bad c offset is =
     let turn = YieldsList-turn road c.loop-body.yielded c.loop-body.body-iterator c.loop-body.yielded_by c.next.result c.next.new.self c.in-Some.body c.in-Some.is c.next.ensures.steps in
     let before = YieldsList-so_far road c.loop-body.yielded c.loop-body.body-iterator c.loop-body.yielded_by in
     let at = length c.loop-body.yielded in
-    subst (λ bodies. IsBadBody bodies offset) (sym (body_cut c.args.bodies at c.in-Some.body turn.0 turn.1))
+    subst (λ bodies. IsBadBody bodies offset) (sym (cut_at c.args.bodies at c.in-Some.body turn.0 turn.1))
     (bad_behind nothing_kept (take at c.args.bodies) (drop (at + 1) c.args.bodies) c.in-Some.body (kept_view c.loop-body.kept) offset
     (subst (λ bodies. IsFolded nothing_kept bodies (kept_view c.loop-body.kept)) (sym (map-id c.loop-body.yielded) ∙ before) c.loop-body.invariant)
     (c.in_err-batch.ensures.bad offset (ap Err fault_is)))
