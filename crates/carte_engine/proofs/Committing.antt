@@ -1,5 +1,5 @@
 -- What a commit comes to, and what its images keep.
-use Rattle.std.proofs.Common.{◌≡◌, ◌⊎◌, ℕ, ◌+◌, Bool, true, false, if◌then◌else◌, List, [], ◌∷◌, Result, Ok, Err, refl, sym, ◌∙◌, ap, subst, inl, inr}
+use Rattle.std.proofs.Common.{◌≡◌, ◌⊎◌, ℕ, ◌+◌, Bool, true, false, if◌then◌else◌, List, [], ◌∷◌, ◌++◌, Result, Ok, Err, refl, sym, ◌∙◌, ap, subst, inl, inr}
 use Rattle.carte_io.specs.Causes.{Rose}
 use Rattle.carte_io.specs.Disk.{LeavesOnly, Story}
 use Rattle.carte_io.specs.Stations.{IsAtOneOf, Step, StepsThrough}
@@ -19,9 +19,9 @@ use Rattle.carte_state.specs.declared.fault.ApplyFault.{ApplyFault}
 use Rattle.carte_state.specs.declared.fault.ApplyFault.TheVariants.{DiskFault, Full, NoMemory}
 use Rattle.carte_state.proofs.Applies.{kept_leaves}
 use Rattle.carte_compact.specs.Rewriting.{Renewed, Rewrites, step_again}
-use Rattle.carte_compact.proofs.Behind.{kept_throughout, stations_behind, told_applied, told_renewed}
+use Rattle.carte_compact.proofs.Behind.{kept_throughout, stations_behind, steps_behind, told_applied, told_renewed}
 use Rattle.carte_compact.proofs.Room.{due_has_room}
-use Rattle.carte_engine.specs.Committing.{Breaks, Commits, Follows, IsBase, IsDue, IsNotDue, Lacks, Readies, Unreadied, behind, seen, until}
+use Rattle.carte_engine.specs.Committing.{Breaks, Commits, Follows, IsBase, IsDue, IsNotDue, Lacks, Readies, Unreadied, behind, seen, steps_ready, until}
 
 -- ---- disks by what is told of them
 
@@ -129,6 +129,10 @@ module _ (tells : Type 0) (old first between : Story) (before failed : ℕ) (sam
   readies_from (inl (no, same, story, faults)) = inl (no, same, (λ told. story told ∙ same_story told), refl)
   readies_from (inr (due, rewrites)) = inr (due, rewrites_from rewrites)
 
+  pub steps_from : (r : Readies (From old before) s B base) → steps_ready (From first failed) s base B (readies_from r) ≡ steps_ready (From old before) s base B r
+  steps_from (inl plain) = refl
+  steps_from (inr turned) = refl
+
 -- a rewriting that is due and wasn't made
 pub unreadied : (d : OverDisk) (old new : Stand) (B : Batch) (fault : ApplyFault) → IsDue old B → Rewrites d old new (Err fault) → Unreadied d old new B fault
 unreadied d old new B DiskFault due r = inl (record { due = due; is = refl; rewrites = r })
@@ -231,6 +235,22 @@ module _ (d : OverDisk) (old : Stand) (B : Batch) (told : d.tells) (on : IsKeptO
           plain_leaves d.new new result (behind d between) (story told) refl told (subst (λ (s : Stand). Applies (behind d between) s new B result) same applies)
       by base between (inr (due, rewrites)) applies =
           stations_behind old base B d.old between d.new (told_renewed (until d between) old base rewrites told on)
+          (told_applied (behind d between) base new B result applies told (rewrites.comes.rest told on))
+
+  -- what was acknowledged stands: a rewriting and the batch are steps, one after another
+  pub follow_steps : (new : Stand) (result : Result (Unit {0}) ApplyFault) (f : Follows d old new B result)
+      → StepsThrough (Keeps old.journal.limit) (kept_in old) (steps_ready (until d f.between) old f.base B f.ready ++ step_for f.base.journal (kept_in old) B) d.old d.new
+  follow_steps new result f = by f.base f.between f.ready f.applies
+    where
+      by : (base : Stand) (between : Story) (ready : Readies (until d between) old B base) → Applies (behind d between) base new B result
+          → StepsThrough (Keeps old.journal.limit) (kept_in old) (steps_ready (until d between) old base B ready ++ step_for base.journal (kept_in old) B) d.old d.new
+      by base between (inl (no, same, story, faults)) applies =
+          let here : StepsThrough (Keeps base.journal.limit) (kept_in base) (step_for base.journal (kept_in base) B) between d.new =
+          applies.steps told (ready_rest (until d between) old base B (inl (no, same, story, faults)) told on) in
+          subst (λ (u : Story). StepsThrough (Keeps old.journal.limit) (kept_in old) (step_for base.journal (kept_in old) B) u d.new) (story told)
+          (subst (λ (s : Stand). StepsThrough (Keeps s.journal.limit) (kept_in s) (step_for base.journal (kept_in s) B) between d.new) same here)
+      by base between (inr (due, rewrites)) applies =
+          steps_behind old base B d.old between d.new (told_renewed (until d between) old base rewrites told on)
           (told_applied (behind d between) base new B result applies told (rewrites.comes.rest told on))
 
   pub commit_leaves : (new : Stand) (result : Result (Unit {0}) ApplyFault) → Commits d old new B result → Stays d.new
