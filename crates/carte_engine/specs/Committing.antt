@@ -1,5 +1,6 @@
 -- A commit, before which the state's file is rewritten where that is due.
-use Rattle.std.specs.Prelude.{◌≡◌, ◌⊎◌, inl, inr, true, false, List, [], Result, Ok, Err}
+use Rattle.std.specs.Prelude.{◌≡◌, ◌⊎◌, true, false, List, [], Result, Ok, Err}
+use Rattle.std.proofs.Common.{inl, inr}
 use Rattle.carte_io.specs.Disk.{Story}
 use Rattle.carte_io.specs.Stations.{Step}
 use Rattle.carte_journal.specs.Regions.{Planned, rewritten}
