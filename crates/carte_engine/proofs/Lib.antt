@@ -7,4 +7,5 @@ pub mod Planning
 pub mod Keeping
 pub mod Enduring
 pub mod Emptying
+pub mod Committing
 pub mod Foreseeing

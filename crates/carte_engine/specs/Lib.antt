@@ -2,6 +2,7 @@ pub mod Schedulers
 pub mod Answers
 pub mod Building
 pub mod Clearing
+pub mod Committing
 pub mod Reckoned
 pub mod Histories
 pub mod Faults

@@ -1,26 +1,22 @@
-ghost use Rattle.std.specs.Prelude.{◌≡◌, ◌<◌, ◌^◌, ℕ, List, false, IfOk, OnOk, Err};
+ghost use Rattle.std.specs.Prelude.{◌≡◌, ◌<◌, ◌^◌, ℕ, List, false, IfOk, Err};
 ghost use Rattle.carte_codec.specs.Each.{EachFits};
 ghost use Rattle.carte_state.specs.Around.{over_disk};
 ghost use Rattle.carte_io.specs.Causes.{HasCauseOf};
 ghost use Rattle.carte_book.specs.Book.{Book as SomeBook, book_view};
 ghost use Rattle.carte_book.specs.Digest.{rules_digest_of};
 ghost use Rattle.carte_record.specs.Bodies.{IsUnmarked};
-ghost use Rattle.carte_state.specs.Applying.{Applies};
 ghost use Rattle.carte_state.specs.Folding.{IsBadState};
 ghost use Rattle.carte_state.specs.States.{IsLoaded, kept_in};
-ghost use Rattle.carte_record.specs.Kept.{nothing_kept};
 ghost use Rattle.carte_engine.specs.Answers.{IsPlan, Under};
-ghost use Rattle.carte_engine.specs.Clearing.{clearing};
 
-use crate::clear::clearing;
 use crate::planned::plan_over;
 use crate::{Plan, Scheduler};
 use carte_book::Book;
 use carte_io::Disk;
 use carte_mark::begin;
 use carte_rebuild::Rebuilder;
-use carte_record::{Batch, Kept};
-use carte_state::{ApplyFault, LoadFault, State};
+use carte_record::Kept;
+use carte_state::{LoadFault, State};
 use carte_value::{Digest, Names, NoMemory, Seeded, Value};
 use std::alloc::Global;
 use std::marker::Model;
@@ -129,30 +125,5 @@ impl Engine {
         );
         self.state.unmark(&begun.marks);
         plan
-    }
-
-    /// Commits the batch of a plan, as `State::apply` does: in one step, whole or not at all, whatever crash comes.
-    /// Where it is refused the batch is dropped.
-    pub fn commit<D: Disk>(
-        &mut self,
-        alloc: Global,
-        disk: &mut D,
-        batch: Batch,
-    ) -> Result<(), ApplyFault>
-        requires whole { self.old.journal.broken ≡ false }
-        requires unmarked { EachFits IsUnmarked batch.entries }
-        ensures { Applies (over_disk D.tells D.story D.faults disk.old disk.new) self.old self.new batch result }
-    {
-        self.state.apply(alloc, disk, batch)
-    }
-
-    /// Empties the state: commits a batch that clears it, or nothing where nothing is kept.
-    pub fn clean<D: Disk>(&mut self, alloc: Global, disk: &mut D) -> Result<(), ApplyFault>
-        requires whole { self.old.journal.broken ≡ false }
-        ensures cleaned { OnOk result (kept_in self.new ≡ nothing_kept) }
-        ensures applies { Applies (over_disk D.tells D.story D.faults disk.old disk.new) self.old self.new (clearing self.old) result }
-    {
-        let batch = clearing(alloc, &self.state);
-        self.commit(alloc, disk, batch)
     }
 }

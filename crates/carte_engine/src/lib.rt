@@ -28,6 +28,7 @@
 mod answer;
 mod build;
 mod clear;
+mod commit;
 mod engine;
 mod fault;
 mod laws;

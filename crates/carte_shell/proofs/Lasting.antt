@@ -17,7 +17,11 @@ use Rattle.carte_state.specs.States.{HasRoom, Stand}
 use Rattle.carte_words.specs.Lines.{Means}
 use Rattle.carte_words.specs.declared.line.Line.{Line}
 use Rattle.carte_words.specs.declared.line.Line.TheVariants as line
+use Rattle.carte_engine.specs.Clearing.{clearing}
+use Rattle.carte_engine.specs.Committing.{IsBase, until}
+use Rattle.carte_engine.proofs.Committing.{failed_commit, full_commit, has_put, ready_base}
 use Rattle.carte_shell.specs.Answers.{Answers, Brings, Ends, Obeys}
+use Rattle.carte_shell.specs.Commits.{Stops, disk_between}
 use Rattle.carte_shell.specs.Lasting.{AllFit, IsDoneOrShort, NoneFailed, SessionIsDone}
 use Rattle.carte_shell.specs.Replies.{Said}
 use Rattle.carte_shell.specs.Scenes.{Scene}
@@ -32,9 +36,9 @@ module _ (tells : Type 0) where
   obeyed : (m m' : Scene) (l : Line) (reply : Said) → Obeys tells m l reply m' → m'.faults ≡ m.faults
   obeyed m m' line.Nothing reply obeys = ap (λ (x : Scene). x.faults) obeys.1
   obeyed m m' (line.Set k v) reply obeys = ap (λ (x : Scene). x.faults) obeys.1
-  obeyed m m' (line.Build targets) reply obeys = obeys.4.applies.comes.faults
+  obeyed m m' (line.Build targets) reply obeys = (has_put (disk_between tells m m') m.stand m'.stand obeys.1 obeys.4.commits).faults
   obeyed m m' (line.Explain targets) reply obeys = ap (λ (x : Scene). x.faults) obeys.1
-  obeyed m m' line.Clean reply obeys = obeys.1.applies.comes.faults
+  obeyed m m' line.Clean reply obeys = (has_put (disk_between tells m m') m.stand m'.stand (clearing m.stand) obeys.1.commits).faults
 
   answered : (m m' : Scene) (n : ℕ) (bytes text : List ℕ) → Answers tells m n bytes text m' → m'.faults ≡ m.faults
   answered m m' n bytes text (inl stray) = ap (λ (x : Scene). x.faults) stray.2
@@ -45,12 +49,20 @@ module _ (tells : Type 0) where
   all_answered n m m' (bytes ∷ lines) said goes = all_answered (n + 1) goes.0 m' lines goes.2 goes.4 ∙ answered m goes.0 n bytes goes.1 goes.3
 
   -- a line isn't answered where the disk failed, where there is no room, or where memory is lacking
+  stopped : (m m' : Scene) (B : Batch) (end : StepEnd) → Stops tells m m' B end → ¬ (Rose m.faults m'.faults) → ((base : Stand) → IsBase m.stand B base → HasRoom base B)
+      → IsDoneOrShort (Err (Machine end))
+  stopped m m' B line_end.NoMemory stops none fits = tt
+  stopped m m' B line_end.DiskFault stops none fits = none (failed_commit (disk_between tells m m') m.stand m'.stand B stops.commits)
+  stopped m m' B (line_end.StateFull needed limit) stops none fits =
+      let d = disk_between tells m m' in
+      let f = full_commit d m.stand m'.stand B needed limit stops.commits in
+      not_over f.base B needed limit (fits f.base (ready_base (until d f.between) m.stand f.base B f.ready)) f.applies.comes.0
+
   not_answered : (m m' : Scene) (n : ℕ) (bytes : List ℕ) (end : StepEnd) → Ends tells m n bytes end m' → ¬ (Rose m.faults m'.faults)
-      → ((l : Line) (B : Batch) → Means m.book.kind bytes l → Brings m l B → HasRoom m.stand B) → IsDoneOrShort (Err (Machine end))
-  not_answered m m' n bytes line_end.NoMemory ends none fits = tt
-  not_answered m m' n bytes line_end.DiskFault ends none fits = none ends.2.2.applies.comes.rose
-  not_answered m m' n bytes (line_end.StateFull needed limit) ends none fits =
-      not_over m.stand ends.2.0 needed limit (fits ends.0 ends.2.0 ends.1 ends.2.1) ends.2.2.applies.comes.0
+      → ((l : Line) (B : Batch) (base : Stand) → Means m.book.kind bytes l → Brings m l B → IsBase m.stand B base → HasRoom base B) → IsDoneOrShort (Err (Machine end))
+  not_answered m m' n bytes end (inl none) unfailed fits = subst (λ (e : StepEnd). IsDoneOrShort (Err (Machine e))) (sym none.0) tt
+  not_answered m m' n bytes end (inr (l, means, inl none)) unfailed fits = subst (λ (e : StepEnd). IsDoneOrShort (Err (Machine e))) (sym none.0) tt
+  not_answered m m' n bytes end (inr (l, means, inr (B, brings, stops))) unfailed fits = stopped m m' B end stops unfailed (λ base is. fits l B base means brings is)
 
 -- the next line of what was read, where the end is told
 told_next : (read line : List ℕ) (lines : List (List ℕ)) (most : ℕ) (Told AtEnd : Type 0) → Told → IsNext read lines line most (Told → AtEnd) → IsNext read lines line most AtEnd
@@ -79,4 +91,4 @@ session_done tells source_tells sink_tells m m' script left k k' limit (Err (Mac
     let whole : lines_of script.left ≡ lines ++ bytes ∷ next.0 = ap lines_of (is.ended.1 told) ∙ next.1 in
     let same : mid.faults ≡ m.faults = all_answered tells 1 m mid lines stopped.1 stopped.5 in
     not_answered tells mid m' (length lines + 1) bytes end stopped.6 (subst (λ (n : ℕ). ¬ (Rose n m'.faults)) (sym same) none.disk)
-    (λ l B means brings. fits lines next.0 bytes stopped.1 mid l B whole stopped.5 means brings)
+    (λ l B base means brings is. fits lines next.0 bytes stopped.1 mid l B base whole stopped.5 means brings is)

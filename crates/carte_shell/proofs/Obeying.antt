@@ -1,10 +1,10 @@
 -- From what a line does to what a step answers.
-use Rattle.std.proofs.Common.{◌≡◌, ℕ, List, Result, Ok, Err, refl, sym, ap, subst, inr}
+use Rattle.std.proofs.Common.{◌≡◌, ℕ, List, Result, Ok, Err, refl, ap, inl, inr}
 use Rattle.std.specs.Prelude.{MatchResult}
 use Rattle.carte_value.specs.declared.value.Value.{Value}
 use Rattle.carte_book.specs.Book.{Book}
 use Rattle.carte_session.specs.declared.end.StepEnd.{StepEnd}
-use Rattle.carte_session.specs.declared.end.StepEnd.TheVariants.{DiskFault, StateFull, NoMemory}
+use Rattle.carte_session.specs.declared.end.StepEnd.TheVariants.{NoMemory}
 use Rattle.carte_name.specs.declared.kind.Kind.{Kind}
 use Rattle.carte_words.specs.Lines.{Means}
 use Rattle.carte_words.specs.Named.{LineNamed}
@@ -16,9 +16,7 @@ use Rattle.carte_shell.specs.Scenes.{Scene}
 
 module _ (tells : Type 0) (m m' : Scene) where
   pub ends_at : (n : ℕ) (bytes : List ℕ) (l : Line) (end : StepEnd) → Means m.book.kind bytes l → Breaks tells m l end m' → Ends tells m n bytes end m'
-  ends_at n bytes l DiskFault means breaks = (l, means, breaks)
-  ends_at n bytes l (StateFull needed limit) means breaks = (l, means, breaks)
-  ends_at n bytes l NoMemory means breaks = breaks
+  ends_at n bytes l end means breaks = inr (l, means, breaks)
 
   pub answers_with : (n : ℕ) (bytes : List ℕ) (l : Line) (reply : Said) → Means m.book.kind bytes l → Obeys tells m l reply m' → Answers tells m n bytes reply.text m'
   answers_with n bytes l reply means does = inr (l, means, reply, refl, does)
@@ -35,4 +33,4 @@ pub sets_by : {S : Type 0} (said : S → Said) (tells : Type 0) (m : Scene) (c :
     → MatchResult q (λ t. SetsInput m.book c k v (said t)) (λ end. (end ≡ NoMemory) × (c ≡ m.book))
     → MatchResult q (λ t. Obeys tells m (line.Set k v) (said t) (record m { book = c })) (λ end. Breaks tells m (line.Set k v) end (record m { book = c }))
 sets_by said tells m c k v (Ok t) sets = (sets, refl)
-sets_by said tells m c k v (Err end) sets = subst (λ e. Breaks tells m (line.Set k v) e (record m { book = c })) (sym sets.0) (ap (λ (b : Book). record m { book = b }) sets.1)
+sets_by said tells m c k v (Err end) sets = inl (sets.0, ap (λ (b : Book). record m { book = b }) sets.1)

@@ -1,10 +1,7 @@
 -- Lines leave the state sound, whatever crash comes.
 use Rattle.std.proofs.Common.{◌≡◌, ℕ, ◌+◌, Bool, true, false, if◌then◌else◌, List, [], ◌∷◌, ◌++◌, Result, Ok, Err, refl, sym, ◌∙◌, ap, subst, inl, inr, ◌⊎◌, arith, append_assoc}
 use Rattle.carte_io.specs.Disk.{LeavesOnly, Story}
-use Rattle.carte_io.specs.Stations.{IsAtOneOf, Step}
-use Rattle.carte_io.proofs.Acknowledged.{steps_leave}
 use Rattle.carte_io.proofs.Images.{leaves_more, leaves_none, leaves_then}
-use Rattle.carte_journal.specs.Journals.{calls_of}
 use Rattle.carte_value.specs.declared.value.Value.{Value}
 use Rattle.carte_book.specs.Book.{Book}
 use Rattle.carte_book.specs.Edits.{Sets}
@@ -12,21 +9,20 @@ use Rattle.carte_book.specs.declared.fault.SetFault.{SetFault}
 use Rattle.carte_book.specs.declared.fault.SetFault.TheVariants as set
 use Rattle.carte_engine.specs.Clearing.{clearing}
 use Rattle.carte_engine.specs.declared.answer.Answer.{Answer}
+use Rattle.carte_engine.proofs.Committing.{commit_leaves, commit_limit, has_put}
 use Rattle.carte_engine.proofs.Emptying.{clearing_empties}
 use Rattle.carte_engine.proofs.Keeping.{plan_sound}
 use Rattle.carte_record.specs.declared.batch.Batch.{Batch}
-use Rattle.carte_record.specs.Empty.{is_empty}
 use Rattle.carte_record.specs.Folds.{apply}
 use Rattle.carte_record.specs.Kept.{SomeKept}
 use Rattle.carte_session.specs.Session.{Goes}
 use Rattle.carte_session.specs.declared.end.StepEnd.{StepEnd}
-use Rattle.carte_session.specs.declared.end.StepEnd.TheVariants.{DiskFault, StateFull, NoMemory}
 use Rattle.carte_sound.specs.Base.{HasDistinctDigests}
 use Rattle.carte_sound.specs.Sound.{IsSound}
 use Rattle.carte_sound.proofs.Begins.{behind_sound, front_distinct}
 use Rattle.carte_sound.proofs.Histories.{nothing_sound}
 use Rattle.carte_state.specs.Folding.{Keeps}
-use Rattle.carte_state.specs.States.{IsKeptOn, Stand, kept_in, step_for}
+use Rattle.carte_state.specs.States.{IsKeptOn, Stand, kept_in}
 use Rattle.carte_state.specs.declared.fault.ApplyFault.{ApplyFault}
 use Rattle.carte_state.proofs.Applies.{kept_leaves}
 use Rattle.carte_words.specs.Lines.{Means}
@@ -35,7 +31,7 @@ use Rattle.carte_words.specs.declared.line.Line.TheVariants as line
 use Rattle.carte_shell.specs.Answers.{Answers, Brings, Ends, Obeys, Plans, SetsInput}
 use Rattle.carte_shell.specs.Books.{AreBooks, Edits, IsBookAt, LooksAt}
 use Rattle.carte_shell.specs.Chosen.{how_of, scheduler_of}
-use Rattle.carte_shell.specs.Commits.{Commits, Puts, Stops}
+use Rattle.carte_shell.specs.Commits.{Commits, Puts, Stops, disk_between}
 use Rattle.carte_shell.specs.Replies.{Said}
 use Rattle.carte_shell.specs.Scenes.{Scene}
 use Rattle.carte_shell.specs.Stopping.{fault_of}
@@ -43,45 +39,38 @@ use Rattle.carte_shell.specs.Sound.{EndLeavesSound, KeepsSound, LeavesSound, Lin
 
 -- ---- one commit
 
-station : (limit : ℕ) (K : SomeKept) (empty : Bool) (step : Step SomeKept) (file : List ℕ) → IsAtOneOf (Keeps limit) K (if empty then [] else step ∷ []) file
-    → Keeps limit K file ⊎ Keeps limit step.to file
-station limit K true step file at = inl at
-station limit K false step file (inl at) = inl at
-station limit K false step file (inr at) = inr at
-
 module _ (m m' : Scene) (B : Batch) (J : List Book) where
   -- what is sound before a batch, and what it makes of it
   abbrev Sounds : List Book → Type 0
   Sounds H = IsSound (kept_in m.stand) (H ++ J) × IsSound (apply B (kept_in m.stand)) (H ++ J)
 
-  steps_sound : (tells : Type 0) (result : Result (Unit {0}) ApplyFault) → Commits tells m m' B result → tells → IsKeptOn m.stand m.story → (H : List Book) → Sounds H
+  images_sound : (tells : Type 0) (result : Result (Unit {0}) ApplyFault) → Commits tells m m' B result → tells → IsKeptOn m.stand m.story → (H : List Book) → Sounds H
       → LeavesOnly m.story m'.story (KeepsSound m.stand.journal.limit (H ++ J))
-  steps_sound tells result c told on H sounds =
-      leaves_more m.story m'.story (IsAtOneOf (Keeps m.stand.journal.limit) (kept_in m.stand) (step_for m.stand.journal (kept_in m.stand) B)) (KeepsSound m.stand.journal.limit (H ++ J)) at
-      (steps_leave (Keeps m.stand.journal.limit) (kept_in m.stand) (step_for m.stand.journal (kept_in m.stand) B) m.story m'.story (c.applies.ordered told) (c.applies.steps told on))
+  images_sound tells result c told on H sounds =
+      leaves_more m.story m'.story (λ file. Keeps m.stand.journal.limit (kept_in m.stand) file ⊎ Keeps m.stand.journal.limit (apply B (kept_in m.stand)) file) (KeepsSound m.stand.journal.limit (H ++ J)) at
+      (commit_leaves (disk_between tells m m') m.stand B told on m'.stand result c.commits)
     where
-      at : (file : List ℕ) → IsAtOneOf (Keeps m.stand.journal.limit) (kept_in m.stand) (step_for m.stand.journal (kept_in m.stand) B) file → KeepsSound m.stand.journal.limit (H ++ J) file
-      at file there = elim (station m.stand.journal.limit (kept_in m.stand) (is_empty B) (record { calls = calls_of m.stand.journal; to = apply B (kept_in m.stand) }) file there) [
-        | inl old ↦ (kept_in m.stand, old, sounds.0)
-        | inr new ↦ (apply B (kept_in m.stand), new, sounds.1)
-      ]
+      at : (file : List ℕ) → Keeps m.stand.journal.limit (kept_in m.stand) file ⊎ Keeps m.stand.journal.limit (apply B (kept_in m.stand)) file → KeepsSound m.stand.journal.limit (H ++ J) file
+      at file (inl old) = (kept_in m.stand, old, sounds.0)
+      at file (inr new) = (apply B (kept_in m.stand), new, sounds.1)
 
   abbrev MakesSound : Type 0
   MakesSound = (H : List Book) → IsSound (kept_in m.stand) H → HasDistinctDigests (H ++ J) → IsSound (apply B (kept_in m.stand)) (H ++ J)
 
   pub put_sound : (tells : Type 0) → Puts tells m m' B → MakesSound → StaysSound tells m m' J
   put_sound tells puts makes told H stands distinct =
-      let made = makes H stands.sound distinct in (
+      let made = makes H stands.sound distinct in
+      let put = has_put (disk_between tells m m') m.stand m'.stand B puts.commits in (
         record {
-          kept_on = puts.applies.comes.rest told stands.kept_on;
-          sound = subst (λ (L : SomeKept). IsSound L (H ++ J)) (sym puts.applies.comes.after.kept) made;
+          kept_on = put.rest told stands.kept_on;
+          sound = subst (λ (L : SomeKept). IsSound L (H ++ J)) (sym put.kept) made;
         },
-        steps_sound tells (Ok tt) puts told stands.kept_on H (behind_sound (kept_in m.stand) H J stands.sound, made),
+        images_sound tells (Ok tt) puts told stands.kept_on H (behind_sound (kept_in m.stand) H J stands.sound, made),
       )
 
   pub stop_sound : (tells : Type 0) (end : StepEnd) → Stops tells m m' B end → MakesSound → LeavesSound tells m m' J
   stop_sound tells end stops makes told H stands distinct =
-      steps_sound tells (Err (fault_of end)) stops told stands.kept_on H (behind_sound (kept_in m.stand) H J stands.sound, makes H stands.sound distinct)
+      images_sound tells (Err (fault_of end)) stops told stands.kept_on H (behind_sound (kept_in m.stand) H J stands.sound, makes H stands.sound distinct)
 
 -- ---- no commit
 
@@ -135,13 +124,13 @@ module _ (tells : Type 0) (m m' : Scene) (bytes text : List ℕ) where
   obeyed (line.Build targets) reply means does = (
     m.book ∷ [],
     inr (line.Build targets, means, (refl, does.4.book)),
-    does.4.applies.limit,
+    commit_limit (disk_between tells m m') m.stand m'.stand does.1 (Ok tt) does.4.commits,
     put_sound m m' does.1 (m.book ∷ []) tells does.4 (built_sound m targets does.0 does.1 does.2),
   )
   obeyed (line.Explain targets) reply means does =
       (m.book ∷ [], inr (line.Explain targets, means, (refl, ap (λ (x : Scene). x.book) does.1)), ap (λ (x : Scene). x.stand.journal.limit) does.1, same_sound tells m m' (m.book ∷ []) does.1)
   obeyed line.Clean reply means does =
-      ([], inr (line.Clean, means, (refl, does.1.book)), does.1.applies.limit, put_sound m m' (clearing m.stand) [] tells does.1 (cleaned_sound m (clearing m.stand) refl))
+      ([], inr (line.Clean, means, (refl, does.1.book)), commit_limit (disk_between tells m m') m.stand m'.stand (clearing m.stand) (Ok tt) does.1.commits, put_sound m m' (clearing m.stand) [] tells does.1 (cleaned_sound m (clearing m.stand) refl))
 
   pub answered : (n : ℕ) → Answers tells m n bytes text m' → One tells m m' bytes
   answered n (inl stray) =
@@ -194,6 +183,6 @@ module _ (tells : Type 0) (m m' : Scene) (bytes : List ℕ) where
   brought line.Nothing end means B brings stops = absurd brings
 
 pub end_sound : (tells : Type 0) → EndLeavesSound tells
-end_sound tells n m m' bytes DiskFault ends = brought tells m m' bytes ends.0 DiskFault ends.1 ends.2.0 ends.2.1 ends.2.2
-end_sound tells n m m' bytes (StateFull needed limit) ends = brought tells m m' bytes ends.0 (StateFull needed limit) ends.1 ends.2.0 ends.2.1 ends.2.2
-end_sound tells n m m' bytes NoMemory ends = ([], inl refl, leaves tells m m' [] (same_sound tells m m' [] ends))
+end_sound tells n m m' bytes end (inl none) = ([], inl refl, leaves tells m m' [] (same_sound tells m m' [] none.1))
+end_sound tells n m m' bytes end (inr (l, means, inl none)) = ([], inl refl, leaves tells m m' [] (same_sound tells m m' [] none.1))
+end_sound tells n m m' bytes end (inr (l, means, inr (B, brings, stops))) = brought tells m m' bytes l end means B brings stops

@@ -74,11 +74,9 @@ Brings m (line.Build targets) B = (a : Answer) × Plans m targets a B
 Brings m line.Clean B = B ≡ clearing m.stand
 Brings m l B = ⊥
 
--- want of memory comes before any commit, and leaves all as before the line
+-- Want of memory comes before any commit, and leaves all as before the line; or the line's batch isn't put, for this reason.
 abbrev pub Breaks : Type 0 → Scene → Line → StepEnd → Scene → Type 0
-Breaks tells m l NoMemory m' = m' ≡ m
-Breaks tells m l end m' = (B : Batch) × Brings m l B × Stops tells m m' B end
+Breaks tells m l end m' = ((end ≡ NoMemory) × (m' ≡ m)) ⊎ ((B : Batch) × Brings m l B × Stops tells m m' B end)
 
 abbrev pub Ends : Type 0 → Scene → ℕ → List ℕ → StepEnd → Scene → Type 0
-Ends tells m n bytes NoMemory m' = m' ≡ m
-Ends tells m n bytes end m' = (l : Line) × Means m.book.kind bytes l × Breaks tells m l end m'
+Ends tells m n bytes end m' = ((end ≡ NoMemory) × (m' ≡ m)) ⊎ ((l : Line) × Means m.book.kind bytes l × Breaks tells m l end m')

@@ -3,7 +3,7 @@ use Rattle.std.specs.Prelude.{◌≡◌, Result, Ok, Err}
 use Rattle.carte_state.specs.Around.{OverDisk}
 use Rattle.carte_record.specs.declared.batch.Batch.{Batch}
 use Rattle.carte_session.specs.declared.end.StepEnd.{StepEnd}
-use Rattle.carte_state.specs.Applying.{Applies}
+use Rattle.carte_engine.specs.Committing.{Commits as CommitsTo}
 use Rattle.carte_state.specs.declared.fault.ApplyFault.{ApplyFault}
 use Rattle.carte_shell.specs.Scenes.{Scene}
 use Rattle.carte_shell.specs.Stopping.{fault_of}
@@ -16,7 +16,7 @@ disk_between tells m m' = record { tells = tells; old = m.story; new = m'.story;
 pub record Commits (tells : Type 0) (m m' : Scene) (B : Batch) (result : Result (Unit {0}) ApplyFault) : Type 0 where
   pub choices : m'.choices ≡ m.choices
   pub book : m'.book ≡ m.book
-  pub applies : Applies (disk_between tells m m') m.stand m'.stand B result
+  pub commits : CommitsTo (disk_between tells m m') m.stand m'.stand B result
 
 abbrev pub Puts : Type 0 → Scene → Scene → Batch → Type 0
 Puts tells m m' B = Commits tells m m' B (Ok tt)

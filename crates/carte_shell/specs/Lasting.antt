@@ -8,16 +8,17 @@ use Rattle.carte_session.specs.Session.{Goes, IsSession}
 use Rattle.carte_session.specs.declared.end.SessionEnd.{SessionEnd}
 use Rattle.carte_session.specs.declared.end.SessionEnd.TheVariants.{Machine, NoMemory}
 use Rattle.carte_session.specs.declared.end.StepEnd.TheVariants.{NoMemory as LineNoMemory}
-use Rattle.carte_state.specs.States.{HasRoom}
+use Rattle.carte_engine.specs.Committing.{IsBase}
+use Rattle.carte_state.specs.States.{HasRoom, Stand}
 use Rattle.carte_words.specs.Lines.{Means}
 use Rattle.carte_words.specs.declared.line.Line.{Line}
 use Rattle.carte_shell.specs.Answers.{Answers, Brings, Ends}
 use Rattle.carte_shell.specs.Scenes.{Scene}
 
--- wherever the lines before lead, there is room for each batch that the next line may bring
+-- wherever the lines before lead, there is room for each batch that the next line may bring, in the file as it stands when it is put
 abbrev pub AllFit : Type 0 → Scene → List (List ℕ) → Type 0
-AllFit tells m script = (lines later : List (List ℕ)) (bytes said : List ℕ) (mid : Scene) (l : Line) (B : Batch)
-    → script ≡ lines ++ bytes ∷ later → Goes (Answers tells) 1 m lines said mid → Means mid.book.kind bytes l → Brings mid l B → HasRoom mid.stand B
+AllFit tells m script = (lines later : List (List ℕ)) (bytes said : List ℕ) (mid : Scene) (l : Line) (B : Batch) (base : Stand)
+    → script ≡ lines ++ bytes ∷ later → Goes (Answers tells) 1 m lines said mid → Means mid.book.kind bytes l → Brings mid l B → IsBase mid.stand B base → HasRoom base B
 
 -- no call of the script's source, of the sink and of the disk failed
 pub record NoneFailed (script left : SourceState) (k k' : SinkState) (m m' : Scene) : Type 0 where

@@ -48,7 +48,7 @@ module _ (kind : Kind) (s : OverSource) (b : Book) (holds : Holds kind s (λ c. 
 pub no_book : (limit : ℕ) (w : Asked) (s : OverSource) (d : OverDisk) (k : OverSink) (status : Status) → LoadsBook w.kind s (Err status) → IsUnvisited d → IsUntouched k → Builds limit w s d k status
 no_book limit w s d k (BookRefused fault) load unvisited untouched = record { did = (load.loads, unvisited, untouched); read = load.read; visits = inl unvisited; source = load.source; disk = unvisited.faults; sink = untouched.2 }
 no_book limit w s d k ReadFault load unvisited untouched = record { did = (unvisited, untouched); read = load.read; visits = inl unvisited; source = load.source; disk = unvisited.faults; sink = untouched.2 }
-no_book limit w s d k NoMemory load unvisited untouched = record { did = (untouched, λ told. unvisited.story); read = load.read; visits = inl unvisited; source = load.source; disk = unvisited.faults; sink = untouched.2 }
+no_book limit w s d k NoMemory load unvisited untouched = record { did = (untouched, inl (λ told. unvisited.story)); read = load.read; visits = inl unvisited; source = load.source; disk = unvisited.faults; sink = untouched.2 }
 no_book limit w s d k Done load unvisited untouched = absurd load.loads
 no_book limit w s d k (Usage fault) load unvisited untouched = absurd load.loads
 no_book limit w s d k (BuildRefused reason) load unvisited untouched = absurd load.loads

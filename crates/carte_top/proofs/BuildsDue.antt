@@ -8,6 +8,7 @@ use Rattle.carte_record.specs.declared.batch.Batch.{Batch}
 use Rattle.carte_sound.specs.Base.{HasDistinctDigests}
 use Rattle.carte_sound.specs.Sound.{IsSound}
 use Rattle.carte_state.specs.Folding.{Keeps}
+use Rattle.carte_state.specs.States.{HasRoom, Stand, needs_for}
 use Rattle.carte_state.proofs.Folds.{bad_at_one, keeps_one, keeps_or_bad}
 use Rattle.carte_words.specs.declared.words.Words.{Words as Asked}
 use Rattle.carte_engine.specs.Schedulers.{IsServed, IsRefusedFor}
@@ -18,9 +19,10 @@ use Rattle.carte_report.specs.declared.status.Status.TheVariants.{Done, BookRefu
 use Rattle.carte_top.specs.Around.{OverDisk, OverSink, TakesAll}
 use Rattle.carte_top.specs.Chosen.{scheduler_of}
 use Rattle.carte_top.specs.Due.{AllFit, AllOver, IsBadNow, IsDueOver, IsFound, IsHindered, IsKept, IsPlanned}
-use Rattle.carte_top.specs.Found.{Commits, FitsIn, Found, IsNeeded, IsOver, IsPut, Overfills, Replies, behind}
+use Rattle.carte_top.specs.Found.{Commits, Found, IsOver, IsPut, Overfills, Replies, behind}
 use Rattle.carte_top.specs.Outcome.{BuiltOver, IsBad}
-use Rattle.carte_top.proofs.Unique.{one_needed, one_refusal, served_or_refused}
+use Rattle.carte_top.proofs.Putting.{base_limit, base_of}
+use Rattle.carte_top.proofs.Unique.{one_refusal, served_or_refused}
 
 -- ---- the state and its room
 
@@ -39,21 +41,24 @@ module _ (limit : ℕ) (d : OverDisk) where
 pub bad_one : (limit : ℕ) (d : OverDisk) (at offset : ℕ) → IsBadNow limit d at → IsBad limit d offset → BadState offset ≡ BadState at
 bad_one limit d at offset is bad = ap BadState (bad_at_one limit d.old.now.reads offset at (bad is.0).0 is.1)
 
-fits_or_over : (limit : ℕ) (file : List ℕ) (B : Batch) (needed : ℕ) → FitsIn limit file B → is_empty B ≡ false → IsNeeded limit file B needed → limit < needed → ⊥
-fits_or_over limit file B needed (inl empty) filled is over = cc
-fits_or_over limit file B needed (inr fits) filled is over = omega (arith, fits needed is, over)
+fits_or_over : (limit : ℕ) (base : Stand) (B : Batch) (needed : ℕ) → HasRoom base B → base.journal.limit ≡ limit → is_empty B ≡ false → needed ≡ needs_for base B → limit < needed → ⊥
+fits_or_over limit base B needed (inl empty) same filled is over = cc
+fits_or_over limit base B needed (inr fits) same filled is over = omega (arith, fits, same, is, over)
 
 -- what such a batch says of a limit, against what all of them say
-module _ (limit : ℕ) (d : OverDisk) (May : Batch → Type 0) (B : Batch) (may : May B) (told : d.tells) where
-  pub all_fit : AllFit limit d May → (needed most : ℕ) → is_empty B ≡ false → IsOver limit d B needed most → ⊥
-  all_fit fit needed most filled over = fits_or_over limit d.old.now.reads B needed (fit B may) filled (over.needed_is told) over.over
+module _ (limit : ℕ) (d : OverDisk) (May : Batch → Type 0) (K : SomeKept) (B : Batch) (may : May B) (told : d.tells) where
+  pub all_fit : AllFit limit d May → (needed most : ℕ) → is_empty B ≡ false → IsOver limit d K B needed most → ⊥
+  all_fit fit needed most filled over =
+      fits_or_over limit over.from.base B needed (fit B may over.from.base (base_of limit d K B over.from told)) (base_limit limit d K B over.from) filled over.needed_is over.over
 
-  pub all_over : (K : SomeKept) (needed most : ℕ) → AllOver limit d needed most May → IsPut limit d K B → ⊥
-  all_over K needed most all put = let is = all.2 B may in fits_or_over limit d.old.now.reads B needed (put.room told) is.0 is.1 all.1
+  pub all_over : (needed most : ℕ) → AllOver limit d needed most May → IsPut limit d K B → ⊥
+  all_over needed most all put =
+      let is = all.2 B may in
+      fits_or_over limit put.from.base B needed put.room (base_limit limit d K B put.from) is.0 (is.1 put.from.base (base_of limit d K B put.from told)) all.1
 
-  pub over_same : (K : SomeKept) (needed most n m : ℕ) → Keeps limit K d.old.now.reads → AllOver limit d needed most May → IsOver limit d B n m → StateFull n m ≡ StateFull needed most
-  over_same K needed most n m keeps all over =
-      let numbers : n ≡ needed = one_needed limit d.old.now.reads K B n needed keeps (over.needed_is told) (all.2 B may).1 in
+  pub over_same : (needed most n m : ℕ) → AllOver limit d needed most May → IsOver limit d K B n m → StateFull n m ≡ StateFull needed most
+  over_same needed most n m all over =
+      let numbers : n ≡ needed = over.needed_is ∙ sym ((all.2 B may).1 over.from.base (base_of limit d K B over.from told)) in
       let limits : m ≡ most = over.most_is ∙ sym all.0 in
       cc
 
@@ -115,7 +120,7 @@ module _ (limit : ℕ) (d : OverDisk) (Is Has : (Book → Type 0) → Type 0) (o
       not_full : (needed most : ℕ) → Has (λ b. Found limit d (Overfills limit w d needed most b)) → ⊥
       not_full needed most did =
           let m = meets (λ b. Overfills limit w d needed most b) did in
-          all_fit limit d (IsPlanned w m.book m.kept) m.did.batch (m.did.answer, m.did.answers m.history m.sound m.distinct) m.told m.room needed most m.did.filled m.did.over
+          all_fit limit d (IsPlanned w m.book m.kept) m.kept m.did.batch (m.did.answer, m.did.answers m.history m.sound m.distinct) m.told m.room needed most m.did.filled m.did.over
 
       refused : (reason : Reason) → Has (λ b. Found limit d (λ K. Commits limit w d b K (answer.Refused reason))) → (b : Book) × X b × IsRefusedFor (scheduler_of w.scheduler) b w.targets reason
       refused reason did =
@@ -139,7 +144,7 @@ module _ (limit : ℕ) (d : OverDisk) (Is Has : (Book → Type 0) → Type 0) (o
       meets_over Q did = meet (λ b. IsFound limit d b (Over b)) (λ b. Unit {0}) Over Q (λ b part. (tt, part)) is did
 
       not_committed : (b : Book) (K : SomeKept) (H : List Book) (a : Answer) → d.tells → IsSound K H → HasDistinctDigests (H ++ b ∷ []) → Over b K → Commits limit w d b K a → ⊥
-      not_committed b K H a told sound distinct all did = all_over limit d (IsPlanned w b K) did.batch (a, did.answers H sound distinct) told K needed most all did.put
+      not_committed b K H a told sound distinct all did = all_over limit d (IsPlanned w b K) K did.batch (a, did.answers H sound distinct) told needed most all did.put
 
       not_done : Has (λ b. Found limit d (Replied b)) → ⊥
       not_done did =
@@ -154,7 +159,7 @@ module _ (limit : ℕ) (d : OverDisk) (Is Has : (Book → Type 0) → Type 0) (o
       as_full : (n most_told : ℕ) → Has (λ b. Found limit d (Overfills limit w d n most_told b)) → StateFull n most_told ≡ StateFull needed most
       as_full n most_told did =
           let m = meets_over (λ b. Overfills limit w d n most_told b) did in
-          over_same limit d (IsPlanned w m.book m.kept) m.did.batch (m.did.answer, m.did.answers m.history m.sound m.distinct) m.told m.kept needed most n most_told m.keeps m.room m.did.over
+          over_same limit d (IsPlanned w m.book m.kept) m.kept m.did.batch (m.did.answer, m.did.answers m.history m.sound m.distinct) m.told needed most n most_told m.room m.did.over
 
       not_bad_over : Has (λ b. Unit {0}) → (offset : ℕ) → IsBad limit d offset → ⊥
       not_bad_over has offset bad = never_bad (λ b. IsFound limit d b (Over b)) (λ b. Unit {0}) Over (λ b part. (tt, part)) is has offset bad

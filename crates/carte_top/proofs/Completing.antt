@@ -137,17 +137,17 @@ module _ (limit : ℕ) (d : OverDisk) (k : OverSink) where
   cleaned_due Done (BadState at) did is = absurd (found_or_bad limit d (Clears limit d k TakesAll) at is did)
   cleaned_due Done (StateFull n m) did is =
       let at = found_one limit d (λ K. AllOver limit d n m (IsClearing K)) (Clears limit d k TakesAll) is did in
-      absurd (all_over limit d (IsClearing at.0) at.3.batch at.3.clearing is.0 at.0 n m at.2 at.3.put)
+      absurd (all_over limit d (IsClearing at.0) at.0 at.3.batch at.3.clearing is.0 n m at.2 at.3.put)
   cleaned_due (BadState at) Done did is = absurd (kept_or_bad limit d Fits at is did.0)
   cleaned_due (BadState at) (BadState offset) did is = inl (bad_one limit d offset at is did.0)
   cleaned_due (BadState at) (StateFull n m) did is = absurd (kept_or_bad limit d (λ K. AllOver limit d n m (IsClearing K)) at is did.0)
   cleaned_due (StateFull n m) Done did is =
       let at = found_one limit d Fits (ClearsNot limit d n m) is did.0 in
-      absurd (all_fit limit d (IsClearing at.0) at.3.batch at.3.clearing is.0 at.2 n m at.3.filled at.3.over)
+      absurd (all_fit limit d (IsClearing at.0) at.0 at.3.batch at.3.clearing is.0 at.2 n m at.3.filled at.3.over)
   cleaned_due (StateFull n m) (BadState at) did is = absurd (found_or_bad limit d (ClearsNot limit d n m) at is did.0)
   cleaned_due (StateFull n m) (StateFull needed most) did is =
       let at = found_one limit d (λ K. AllOver limit d needed most (IsClearing K)) (ClearsNot limit d n m) is did.0 in
-      inl (over_same limit d (IsClearing at.0) at.3.batch at.3.clearing is.0 at.0 needed most n m at.1 at.2 at.3.over)
+      inl (over_same limit d (IsClearing at.0) at.0 at.3.batch at.3.clearing is.0 needed most n m at.2 at.3.over)
 
 -- ---- an explanation
 

@@ -145,7 +145,7 @@ module _ (limit : ℕ) (words : List (List ℕ)) (state : Story) (asks : AsksPla
   served = plain_served plain_book no_rule (scheduler_of asks.asked.scheduler) asks.asked.targets (subst (AllClean plain_book) (sym asks.targets) all_clean)
 
   fits : AllFit limit (told_disk state) (IsPlanned asks.asked plain_book nothing_kept)
-  fits B (a, plan) = inl (ap is_empty (plain_leads plain_book no_rule (scheduler_of asks.asked.scheduler) (how_of asks.asked.rebuilder) asks.asked.targets a B plan.leads))
+  fits B (a, plan) base of_file = inl (ap is_empty (plain_leads plain_book no_rule (scheduler_of asks.asked.scheduler) (how_of asks.asked.rebuilder) asks.asked.targets a B plan.leads))
 
   found : IsFound limit (told_disk state) plain_book (λ K. AllFit limit (told_disk state) (IsPlanned asks.asked plain_book K))
   found = (tt, nothing_kept, subst (Keeps limit nothing_kept) (sym empty_file) (record { gate = 8; bodies = []; reads = refl; folded = refl }), ([], nothing_sound [], plain_distinct, fits))

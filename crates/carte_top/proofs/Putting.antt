@@ -1,20 +1,20 @@
 -- What a commit makes of a disk on which was found what is kept.
-use Rattle.std.proofs.Common.{◌≡◌, ℕ, ◌+◌, ◌≤◌, Bool, true, false, if◌then◌else◌, List, [], ◌∷◌, sym, ◌∙◌, ap, subst, inl, inr, ◌⊎◌}
-use Rattle.carte_io.specs.Disk.{CountsUp, IsSettled, LeavesOnly, Story, moments}
-use Rattle.carte_io.specs.Stations.{IsAtOneOf, Step, StepsThrough}
-use Rattle.carte_io.proofs.Acknowledged.{steps_leave}
-use Rattle.carte_io.proofs.Images.{leaves_more, leaves_none, settled_image}
+use Rattle.std.proofs.Common.{◌≡◌, ℕ, ◌+◌, Bool, true, false, if◌then◌else◌, List, sym, ◌∙◌, ap, subst}
+use Rattle.carte_io.specs.Disk.{IsSettled, LeavesOnly, Story}
+use Rattle.carte_io.proofs.Images.{leaves_none, settled_image}
 use Rattle.carte_journal.specs.Frames.{BodyAt, Ends, Reading, end_of, reading}
-use Rattle.carte_journal.specs.Journals.{Standing, calls_of, committed}
+use Rattle.carte_journal.specs.Journals.{Standing, committed}
 use Rattle.carte_record.specs.Bodies.{spelled_batch}
 use Rattle.carte_record.specs.Empty.{is_empty}
 use Rattle.carte_record.specs.Folds.{apply}
 use Rattle.carte_record.specs.Kept.{SomeKept, nothing_kept}
 use Rattle.carte_record.specs.declared.batch.Batch.{Batch}
 use Rattle.carte_state.specs.Folding.{IsFolded, Keeps}
-use Rattle.carte_state.specs.States.{HasRoom, IsAfter, IsKeptOn, IsLoaded, Stand, calls_for, kept_in, needs_for, step_for}
+use Rattle.carte_state.specs.States.{HasRoom, IsAfter, IsKeptOn, IsLoaded, Stand, calls_for, kept_in}
+use Rattle.carte_engine.specs.Committing.{until}
+use Rattle.carte_engine.proofs.Committing.{ready_base, ready_kept, ready_limit, ready_rest}
 use Rattle.carte_top.specs.Around.{OverDisk}
-use Rattle.carte_top.specs.Found.{EndsWith, FitsIn, GrowsBy, IsNeeded, IsPut}
+use Rattle.carte_top.specs.Found.{EndsWith, GrowsBy, IsBaseOf, IsPut, IsReadied, StandsFrom}
 
 pub kept_on : (e : Stand) (s : Story) → IsLoaded e s.now.reads → IsSettled s.now → IsKeptOn e s
 kept_on e s loaded settled = record { bodies = loaded.bodies; rest = record { read = loaded.read; settled = settled }; folded = loaded.folded }
@@ -29,16 +29,6 @@ grown e f B false is = ap (λ (j : Standing). j.gate) is
 one_end : (r : Reading) (gate end : ℕ) (bodies more : List BodyAt) → r ≡ Ends gate bodies → r ≡ Ends end more → gate ≡ end
 one_end r gate end bodies more one two = let both : Ends gate bodies ≡ Ends end more = sym one ∙ two in cc
 
--- room in the journal is room in the file
-pub fits_in : (e : Stand) (file : List ℕ) (B : Batch) → IsLoaded e file → HasRoom e B → FitsIn e.journal.limit file B
-fits_in e file B loaded (inl empty) = inl empty
-fits_in e file B loaded (inr room) = inr (λ needed is. subst (λ n. n ≤ e.journal.limit) (sym (is e.journal.gate loaded.bodies loaded.read.reads)) room)
-
-pub needed_in : (e : Stand) (file : List ℕ) (B : Batch) (needed : ℕ) → IsLoaded e file → needed ≡ needs_for e B → IsNeeded e.journal.limit file B needed
-needed_in e file B needed loaded is gate bodies reads =
-    let same : gate ≡ e.journal.gate = one_end (reading e.journal.limit file) gate e.journal.gate bodies loaded.bodies reads loaded.read.reads in
-    is ∙ ap (λ g. end_of g (spelled_batch B) + 1) (sym same)
-
 -- what the file keeps behind a commit
 pub ends_with : (limit : ℕ) (L : SomeKept) (f : Stand) (u : Story) → f.journal.limit ≡ limit → kept_in f ≡ L → IsKeptOn f u → EndsWith limit L u.now
 ends_with limit L f u limit_is kept on = record {
@@ -51,37 +41,41 @@ ends_with limit L f u limit_is kept on = record {
   };
 }
 
--- a commit that has passed
-pub put_in : (e f : Stand) (d : OverDisk) (B : Batch) → (d.tells → IsLoaded e d.old.now.reads) → HasRoom e B → IsAfter B e f → f.journal.limit ≡ e.journal.limit → (d.tells → IsKeptOn e d.old → IsKeptOn f d.new)
-    → (d.tells → d.new.now.passed ≡ d.old.now.passed + calls_for e.journal B) → IsPut e.journal.limit d (kept_in e) B
-put_in e f d B loaded room after limit rest calls = record {
-  room = λ told. fits_in e d.old.now.reads B (loaded told) room;
-  ends = λ told settled. ends_with e.journal.limit (apply B (kept_in e)) f d.new limit after.kept (rest told (kept_on e d.old (loaded told) settled));
-  grows = λ told settled. grows told settled;
-  calls = λ told. calls told ∙ ap (λ (fresh : Bool). d.old.now.passed + (if is_empty B then 0 else (if fresh then 6 else 4))) (loaded told).read.fresh_is;
-}
-  where
-    grows : d.tells → IsSettled d.old.now → GrowsBy e.journal.limit B d.old.now.reads d.new.now.reads
-    grows told settled gate bodies reads =
-        let on = rest told (kept_on e d.old (loaded told) settled) in
-        let same : gate ≡ e.journal.gate = one_end (reading e.journal.limit d.old.now.reads) gate e.journal.gate bodies (loaded told).bodies reads (loaded told).read.reads in
-        let end : f.journal.gate ≡ (if is_empty B then gate else end_of gate (spelled_batch B)) = subst (λ (g : ℕ). f.journal.gate ≡ (if is_empty B then g else end_of g (spelled_batch B))) (sym same) (grown e f B (is_empty B) after.journal) in
-        (on.bodies, ap (λ l. reading l d.new.now.reads) (sym limit) ∙ on.rest.read.reads ∙ ap (λ g. Ends g on.bodies) end)
+module _ (limit : ℕ) (d : OverDisk) (K : SomeKept) (B : Batch) (r : IsReadied limit d K B) where
+  -- the base is that of what the file held
+  pub base_of : d.tells → IsBaseOf limit d.old.now.reads B r.base
+  base_of told = (r.found.stand, r.found.loaded told, r.found.limit_is, ready_base (until d r.between) r.found.stand r.base B r.ready)
 
-station : (limit : ℕ) (K : SomeKept) (empty : Bool) (step : Step SomeKept) (file : List ℕ) → IsAtOneOf (Keeps limit) K (if empty then [] else step ∷ []) file
-    → Keeps limit K file ⊎ Keeps limit step.to file
-station limit K true step file at = inl at
-station limit K false step file (inl at) = inl at
-station limit K false step file (inr at) = inr at
+  pub base_limit : r.base.journal.limit ≡ limit
+  base_limit = ready_limit (until d r.between) r.found.stand r.base B r.ready ∙ r.found.limit_is
 
--- what a crash leaves at each moment of it
-pub stays_with : (e : Stand) (s u : Story) (B : Batch) → CountsUp (moments u) → StepsThrough (Keeps e.journal.limit) (kept_in e) (step_for e.journal (kept_in e) B) s u
-    → LeavesOnly s u (λ file. Keeps e.journal.limit (kept_in e) file ⊎ Keeps e.journal.limit (apply B (kept_in e)) file)
-stays_with e s u B up steps =
-    leaves_more s u (IsAtOneOf (Keeps e.journal.limit) (kept_in e) (step_for e.journal (kept_in e) B))
-    (λ file. Keeps e.journal.limit (kept_in e) file ⊎ Keeps e.journal.limit (apply B (kept_in e)) file)
-    (λ file at. station e.journal.limit (kept_in e) (is_empty B) (record { calls = calls_of e.journal; to = apply B (kept_in e) }) file at)
-    (steps_leave (Keeps e.journal.limit) (kept_in e) (step_for e.journal (kept_in e) B) s u up steps)
+  base_kept : kept_in r.base ≡ K
+  base_kept = ready_kept (until d r.between) r.found.stand r.base B r.ready ∙ r.found.keeps
+
+  base_on : d.tells → IsSettled d.old.now → IsKeptOn r.base r.between
+  base_on told settled = ready_rest (until d r.between) r.found.stand r.base B r.ready told (kept_on r.found.stand d.old (r.found.loaded told) settled)
+
+  -- a commit that has passed
+  pub put_in : (f : Stand) → HasRoom r.base B → IsAfter B r.base f → f.journal.limit ≡ r.base.journal.limit → (d.tells → IsKeptOn r.base r.between → IsKeptOn f d.new)
+      → (d.tells → d.new.now.passed ≡ r.between.now.passed + calls_for r.base.journal B) → (d.tells → IsSettled d.old.now → StandsFrom limit d K B r)
+      → IsPut limit d K B
+  put_in f room after same rest calls stands = record {
+    from = r;
+    room = room;
+    ends = λ told settled. ends_with limit (apply B K) f d.new (same ∙ base_limit) (after.kept ∙ ap (apply B) base_kept) (rest told (base_on told settled));
+    grows = grows;
+    calls = calls;
+    stands = stands;
+  }
+    where
+      grows : d.tells → IsSettled d.old.now → GrowsBy limit B r.between.now.reads d.new.now.reads
+      grows told settled gate bodies reads =
+          let was = base_on told settled in
+          let on = rest told was in
+          let there : reading limit r.between.now.reads ≡ Ends r.base.journal.gate was.bodies = ap (λ (l : ℕ). reading l r.between.now.reads) (sym base_limit) ∙ was.rest.read.reads in
+          let same_gate : gate ≡ r.base.journal.gate = one_end (reading limit r.between.now.reads) gate r.base.journal.gate bodies was.bodies reads there in
+          let end : f.journal.gate ≡ (if is_empty B then gate else end_of gate (spelled_batch B)) = subst (λ (g : ℕ). f.journal.gate ≡ (if is_empty B then g else end_of g (spelled_batch B))) (sym same_gate) (grown r.base f B (is_empty B) after.journal) in
+          (on.bodies, ap (λ (l : ℕ). reading l d.new.now.reads) (sym (same ∙ base_limit)) ∙ on.rest.read.reads ∙ ap (λ (g : ℕ). Ends g on.bodies) end)
 
 -- and where no call is made
 pub stays_kept : (limit : ℕ) (K : SomeKept) (s u : Story) (P : List ℕ → Type 0) → Keeps limit K s.now.reads → IsSettled s.now → u ≡ s → ((file : List ℕ) → Keeps limit K file → P file) → LeavesOnly s u P

@@ -1,8 +1,10 @@
 -- What a run with one request has done, from the two scenes between which it was carried out.
-use Rattle.std.proofs.Common.{◌≡◌, ℕ, ◌+◌, ◌<◌, ◌≤◌, Bool, if◌then◌else◌, List, [], ◌++◌, Option, Some, None, Result, Ok, Err, sym, ◌∙◌, ap, subst, inl, inr, ◌⊎◌}
+use Rattle.std.proofs.Common.{◌≡◌, ℕ, ◌+◌, ◌<◌, ◌≤◌, false, List, [], ◌++◌, Option, Some, None, Result, Ok, Err, refl, sym, ◌∙◌, ap, subst, inl, inr, ◌⊎◌}
 use Rattle.carte_io.specs.Causes.{Rose}
 use Rattle.carte_io.specs.Disk.{IsSettled, LeavesOnly, Story}
+use Rattle.carte_io.specs.Stations.{Step, StepsThrough}
 use Rattle.carte_io.proofs.Images.{leaves_more}
+use Rattle.carte_journal.specs.Regions.{calls_to_turn}
 use Rattle.carte_book.specs.Book.{Book}
 use Rattle.carte_book.specs.Reason.{AllClean, IsReason}
 use Rattle.carte_book.specs.declared.reason.Reason.{Reason}
@@ -13,9 +15,8 @@ use Rattle.carte_record.specs.Kept.{SomeKept}
 use Rattle.carte_session.specs.declared.end.SessionEnd.TheVariants.{Machine}
 use Rattle.carte_session.specs.declared.end.StepEnd.{StepEnd}
 use Rattle.carte_session.specs.declared.end.StepEnd.TheVariants as line_end
-use Rattle.carte_state.specs.Applying.{IsOver as IsTooMuch}
 use Rattle.carte_state.specs.Folding.{IsBadState, Keeps}
-use Rattle.carte_state.specs.States.{IsKeptOn, IsLoaded, kept_in}
+use Rattle.carte_state.specs.States.{IsKeptOn, IsLoaded, calls_for, kept_in, step_for}
 use Rattle.carte_state.specs.declared.fault.ApplyFault.{ApplyFault}
 use Rattle.carte_state.specs.declared.fault.ApplyFault.TheVariants as applying
 use Rattle.carte_state.proofs.Folds.{keeps_one}
@@ -35,18 +36,21 @@ use Rattle.carte_shell.specs.Commits.{Commits as CommitsTo, Puts, disk_between}
 use Rattle.carte_shell.specs.Explained.{AreWhys, Explained as IsExplained}
 use Rattle.carte_shell.specs.Replies.{Said, build_reply}
 use Rattle.carte_shell.specs.Scenes.{Scene}
+use Rattle.carte_shell.specs.Stopping.{fault_of}
 use Rattle.carte_shell.specs.declared.choices.Choices.{Choices}
+use Rattle.carte_engine.specs.Committing.{Commits as CommitsOf, Follows, steps_ready, until}
+use Rattle.carte_engine.proofs.Committing.{commit_leaves, follow_steps, full_commit, readies_from, short_commit, steps_from}
 use Rattle.carte_engine.proofs.Keeping.{plan_keeps}
 use Rattle.carte_top.specs.Around.{OverSource, OverDisk, OverSink, IsUntouched, TakesAll, TakesFront}
 use Rattle.carte_top.specs.Chosen.{choices_of, scheduler_of, how_of}
-use Rattle.carte_top.specs.Found.{Answers, Clears, Commits, EndsWith, Explains, FitsIn, Found, GrowsBy, Halts, HasBook, Holds, IsClearing, IsCut, IsNeeded, IsOver, IsPut, Makes, Overfills, Replies, behind, calls_into, for_last, front_of}
-use Rattle.carte_top.specs.Outcome.{Built, BuiltOver, Cleaned, Explained, IsSpared, TellsDisk, TellsSink, TellsSource, status_of}
+use Rattle.carte_top.specs.Found.{Answers, Clears, Commits, Explains, Found, Halts, HasBook, Holds, IsClearing, IsCut, IsFoundAs, IsOver, IsPut, IsReadied, Makes, Overfills, Replies, StandsFrom, behind, for_last, front_of}
+use Rattle.carte_top.specs.Outcome.{Built, BuiltOver, Cleaned, Explained, IsLeftSo, IsSpared, TellsDisk, TellsSink, TellsSource, status_of}
 use Rattle.carte_top.specs.Running.{Builds, Cleans, Generates, LoadedOr, Opens, Prints, ReadsEnough, RequestsOver, Shows, Tells}
 use Rattle.carte_top.specs.Sound.{IsStation, MayBuild, StaysAt}
 use Rattle.carte_top.proofs.Books.{holds_so}
 use Rattle.carte_top.proofs.Clearing.{is_clearing}
-use Rattle.carte_top.proofs.Putting.{kept_on, keeps_loaded, needed_in, put_in, stays_kept, stays_with}
-use Rattle.carte_top.proofs.Serving.{obeyed_faults}
+use Rattle.carte_top.proofs.Putting.{base_limit, kept_on, keeps_loaded, put_in, stays_kept}
+use Rattle.carte_top.proofs.Serving.{broken_faults, obeyed_faults}
 
 -- ---- a reason
 
@@ -119,41 +123,82 @@ module _ (limit : ℕ) (x : Choices) (b : Book) (d : OverDisk) (m m' : Scene) (o
   settled_here : d.tells → IsSettled d.old.now → IsSettled m.story.now
   settled_here told settled = subst (λ (u : Story). IsSettled u.now) (sym (opens.story told)) settled
 
-  module _ (B : Batch) where
-    put : Puts d.tells m m' B → IsPut limit d (kept_in m.stand) B
-    put puts =
-        let c = puts.applies.comes in
-        let here : IsPut limit (disk_between d.tells m m') (kept_in m.stand) B =
-        subst (λ (n : ℕ). IsPut n (disk_between d.tells m m') (kept_in m.stand) B) opens.limit_is
-        (put_in m.stand m'.stand (disk_between d.tells m m') B loaded_here c.room c.after puts.applies.limit c.rest c.calls) in
-        record {
-          room = λ told. subst (λ (u : Story). FitsIn limit u.now.reads B) (opens.story told) (here.room told);
-          ends = λ told settled. subst (λ (u : Story). EndsWith limit (apply B (kept_in m.stand)) u.now) last (here.ends told (settled_here told settled));
-          grows = λ told settled. subst (λ (u : Story). GrowsBy limit B d.old.now.reads u.now.reads) last
-              (subst (λ (u : Story). GrowsBy limit B u.now.reads m'.story.now.reads) (opens.story told) (here.grows told (settled_here told settled)));
-          calls = λ told. subst (λ (u : Story). u.now.passed ≡ d.old.now.passed + calls_into d.old.now.reads B) last
-              (subst (λ (u : Story). m'.story.now.passed ≡ u.now.passed + calls_into u.now.reads B) (opens.story told) (here.calls told));
-        }
+  abbrev found_as : IsFoundAs limit d (kept_in m.stand)
+  found_as = record { stand = m.stand; loaded = opens.loaded; limit_is = opens.limit_is; keeps = refl }
 
-    over : (needed most : ℕ) → IsTooMuch m.stand B needed most → m'.story ≡ m.story → IsOver limit d B needed most
-    over needed most much same =
-        let most_is : most ≡ limit = much.limit_is ∙ opens.limit_is in
+  module _ (B : Batch) where
+    -- how the state stood when the batch was put
+    abbrev readied : (result : Result (Unit {0}) ApplyFault) → Follows (disk_between d.tells m m') m.stand m'.stand B result → IsReadied limit d (kept_in m.stand) B
+    readied result f = record {
+      found = found_as;
+      base = f.base;
+      between = f.between;
+      ready = readies_from d.tells m.story d.old f.between m.faults d.failed_before opens.story opens.faults m.stand f.base B f.ready;
+    }
+
+    stands : (result : Result (Unit {0}) ApplyFault) (f : Follows (disk_between d.tells m m') m.stand m'.stand B result) → d.tells → IsSettled d.old.now
+        → StandsFrom limit d (kept_in m.stand) B (readied result f)
+    stands result f told settled =
+        let K = kept_in m.stand in
+        let on : IsKeptOn m.stand m.story = kept_on m.stand m.story (loaded_here told) (settled_here told settled) in
+        let batch = step_for f.base.journal K B in
+        let ready = steps_ready (until (disk_between d.tells m m') f.between) m.stand f.base B f.ready in
+        let here : StepsThrough (Keeps m.stand.journal.limit) K (ready ++ batch) m.story m'.story = follow_steps (disk_between d.tells m m') m.stand B told on m'.stand result f in
+        let there : StepsThrough (Keeps limit) K (ready ++ batch) d.old d.new =
+        subst (λ (n : ℕ). StepsThrough (Keeps n) K (ready ++ batch) d.old d.new) opens.limit_is
+        (subst (λ (u : Story). StepsThrough (Keeps m.stand.journal.limit) K (ready ++ batch) d.old u) last
+        (subst (λ (u : Story). StepsThrough (Keeps m.stand.journal.limit) K (ready ++ batch) u m'.story) (opens.story told) here)) in
+        subst (λ (steps : List (Step SomeKept)). StepsThrough (Keeps limit) K (steps ++ batch) d.old d.new)
+        (sym (steps_from d.tells m.story d.old f.between m.faults d.failed_before opens.story opens.faults m.stand f.base B f.ready)) there
+
+    put_behind : CommitsOf (disk_between d.tells m m') m.stand m'.stand B (Ok tt) → IsPut limit d (kept_in m.stand) B
+    put_behind (inl f) =
+        put_in limit d (kept_in m.stand) B (readied (Ok tt) f) m'.stand f.applies.comes.room f.applies.comes.after f.applies.limit
+        (λ told on. subst (λ (u : Story). IsKeptOn m'.stand u) last (f.applies.comes.rest told on))
+        (λ told. subst (λ (u : Story). u.now.passed ≡ f.between.now.passed + calls_for f.base.journal B) last (f.applies.comes.calls told))
+        (stands (Ok tt) f)
+    put_behind (inr (fault, is, unready)) = cc
+
+    put : Puts d.tells m m' B → IsPut limit d (kept_in m.stand) B
+    put puts = put_behind puts.commits
+
+    over : (needed most : ℕ) → CommitsOf (disk_between d.tells m m') m.stand m'.stand B (Err (applying.Full needed most)) → IsOver limit d (kept_in m.stand) B needed most
+    over needed most commits =
+        let f = full_commit (disk_between d.tells m m') m.stand m'.stand B needed most commits in
+        let r = readied (Err (applying.Full needed most)) f in
+        let much = f.applies.comes.0 in
+        let most_is : most ≡ limit = much.limit_is ∙ base_limit limit d (kept_in m.stand) B r in
         record {
-          needed_is = λ told. subst (λ (n : ℕ). IsNeeded n d.old.now.reads B needed) opens.limit_is (needed_in m.stand d.old.now.reads B needed (opens.loaded told) much.needed_is);
+          from = r;
+          needed_is = much.needed_is;
           most_is = most_is;
           over = subst (λ (n : ℕ). n < needed) most_is much.over;
-          story = spared same;
+          story = λ told. sym last ∙ f.applies.comes.1.disk.story;
         }
 
-    cut : CommitsTo d.tells m m' B (Err applying.DiskFault) → IsCut d B
-    cut stops told =
-        let few = stops.applies.comes.few told in
-        let below : m'.story.now.passed < m.story.now.passed + calls_into m.story.now.reads B =
-        subst (λ (fresh : Bool). m'.story.now.passed < m.story.now.passed + (if is_empty B then 0 else (if fresh then 6 else 4))) (loaded_here told).read.fresh_is few.1 in (
-          subst (λ (u : Story). d.old.now.passed ≤ u.now.passed) last (subst (λ (u : Story). u.now.passed ≤ m'.story.now.passed) (opens.story told) few.0),
-          subst (λ (u : Story). u.now.passed < d.old.now.passed + calls_into d.old.now.reads B) last
-              (subst (λ (u : Story). m'.story.now.passed < u.now.passed + calls_into u.now.reads B) (opens.story told) below),
-        )
+    filled : (needed most : ℕ) → CommitsOf (disk_between d.tells m m') m.stand m'.stand B (Err (applying.Full needed most)) → is_empty B ≡ false
+    filled needed most commits = (full_commit (disk_between d.tells m m') m.stand m'.stand B needed most commits).applies.comes.0.filled
+
+    cut : CommitsOf (disk_between d.tells m m') m.stand m'.stand B (Err applying.DiskFault) → IsCut limit d (kept_in m.stand) B
+    cut (inl f) = inl (record {
+      from = readied (Err applying.DiskFault) f;
+      few = λ told. subst (λ (u : Story). (f.between.now.passed ≤ u.now.passed) × (u.now.passed < f.between.now.passed + calls_for f.base.journal B)) last (f.applies.comes.few told);
+      stands = stands (Err applying.DiskFault) f;
+    })
+    cut (inr (fault, is, inl b)) = inr (record {
+      found = found_as;
+      due = b.due;
+      few = λ told. subst (λ (u : Story). (d.old.now.passed ≤ u.now.passed) × (u.now.passed < d.old.now.passed + calls_to_turn m.stand.journal.bank)) last
+          (subst (λ (u : Story). (u.now.passed ≤ m'.story.now.passed) × (m'.story.now.passed < u.now.passed + calls_to_turn m.stand.journal.bank)) (opens.story told) (b.rewrites.comes.few told));
+    })
+    cut (inr (fault, is, inr l)) = let why = l.is in cc
+
+    -- where memory ran out, the file was made ready at most
+    left_so : CommitsOf (disk_between d.tells m m') m.stand m'.stand B (Err applying.NoMemory) → IsLeftSo limit d
+    left_so commits = elim (short_commit (disk_between d.tells m m') m.stand m'.stand B commits) [
+      | inl f ↦ inr (kept_in m.stand, found, (B, readied (Err applying.NoMemory) f, λ told. sym last ∙ f.applies.comes.1.disk.story))
+      | inr still ↦ inl (spared still.disk.story)
+    ]
 
     stays : (May : SomeKept → Batch → Type 0) (result : Result (Unit {0}) ApplyFault) → CommitsTo d.tells m m' B result → May (kept_in m.stand) B → StaysAt limit May d
     stays May result c may told settled L keeps =
@@ -162,7 +207,7 @@ module _ (limit : ℕ) (x : Choices) (b : Book) (d : OverDisk) (m m' : Scene) (o
         let on : IsKeptOn m.stand m.story = kept_on m.stand m.story (loaded_here told) (settled_here told settled) in
         let here : LeavesOnly m.story m'.story (IsStation limit May K) =
         leaves_more m.story m'.story (λ file. Keeps m.stand.journal.limit K file ⊎ Keeps m.stand.journal.limit (apply B K) file) (IsStation limit May K) at
-        (stays_with m.stand m.story m'.story B (c.applies.ordered told) (c.applies.steps told on)) in
+        (commit_leaves (disk_between d.tells m m') m.stand B told on m'.stand result c.commits) in
         let there : LeavesOnly d.old d.new (IsStation limit May K) =
         subst (λ (u : Story). LeavesOnly d.old u (IsStation limit May K)) last (subst (λ (u : Story). LeavesOnly u m'.story (IsStation limit May K)) (opens.story told) here) in
         subst (λ (M : SomeKept). LeavesOnly d.old d.new (IsStation limit May M)) (sym same) there
@@ -178,9 +223,9 @@ still_at limit d May story told settled K keeps = stays_kept limit K d.old d.new
 
 stop_told : (d : OverDisk) (m m' : Scene) (l : Line) → m.faults ≡ d.failed_before → m'.faults ≡ d.failed → (end : StepEnd) → Breaks d.tells m l end m' → TellsDisk d (status_of (Err (Machine end)))
 stop_told d m m' l before after line_end.DiskFault breaks =
-    subst (λ (n : ℕ). Rose n d.failed) before (subst (λ (n : ℕ). Rose m.faults n) after breaks.2.applies.comes.rose)
-stop_told d m m' l before after (line_end.StateFull needed most) breaks = sym after ∙ breaks.2.applies.comes.1.disk.faults ∙ before
-stop_told d m m' l before after line_end.NoMemory breaks = sym after ∙ ap (λ (s : Scene). s.faults) breaks ∙ before
+    subst (λ (n : ℕ). Rose n d.failed) before (subst (λ (n : ℕ). Rose m.faults n) after (broken_faults d.tells m m' l line_end.DiskFault breaks))
+stop_told d m m' l before after (line_end.StateFull needed most) breaks = sym after ∙ broken_faults d.tells m m' l (line_end.StateFull needed most) breaks ∙ before
+stop_told d m m' l before after line_end.NoMemory breaks = sym after ∙ broken_faults d.tells m m' l line_end.NoMemory breaks ∙ before
 
 stop_quiet : (k : OverSink) → k.new.faults ≡ k.old.faults → (end : StepEnd) → TellsSink k (status_of (Err (Machine end)))
 stop_quiet k same line_end.DiskFault = same
@@ -230,43 +275,43 @@ module _ (limit : ℕ) (x : Choices) (b : Book) (d : OverDisk) (k : OverSink) wh
     )
 
     clear_stopped : (end : StepEnd) → Breaks d.tells m line.Clean end m' → IsUntouched k → Cleaned limit d k (status_of (Err (Machine end)))
-    clear_stopped line_end.DiskFault (B, is, stops) untouched = (
+    clear_stopped end (inl (is, same)) untouched =
+        subst (λ (e : StepEnd). Cleaned limit d k (status_of (Err (Machine e)))) (sym is) (untouched, inl (spared limit x b d m m' opens last (ap (λ (s : Scene). s.story) same)))
+    clear_stopped line_end.DiskFault (inr (B, is, stops)) untouched = (
       inr (
         kept_in m.stand,
         found limit x b d m m' opens last,
         record {
           batch = B;
           clearing = subst (IsClearing (kept_in m.stand)) (sym is) (is_clearing m.stand);
-          cut = cut limit x b d m m' opens last B stops;
+          cut = cut limit x b d m m' opens last B stops.commits;
         },
       ),
       untouched,
     )
-    clear_stopped (line_end.StateFull needed most) (B, is, stops) untouched = (
+    clear_stopped (line_end.StateFull needed most) (inr (B, is, stops)) untouched = (
       (
         kept_in m.stand,
         found limit x b d m m' opens last,
         record {
           batch = B;
           clearing = subst (IsClearing (kept_in m.stand)) (sym is) (is_clearing m.stand);
-          filled = stops.applies.comes.0.filled;
-          over = over limit x b d m m' opens last B needed most stops.applies.comes.0 stops.applies.comes.1.disk.story;
+          filled = filled limit x b d m m' opens last B needed most stops.commits;
+          over = over limit x b d m m' opens last B needed most stops.commits;
         },
       ),
       untouched,
     )
-    clear_stopped line_end.NoMemory same untouched = (untouched, spared limit x b d m m' opens last (ap (λ (s : Scene). s.story) same))
+    clear_stopped line_end.NoMemory (inr (B, is, stops)) untouched = (untouched, left_so limit x b d m m' opens last B stops.commits)
 
     clear_stays : (end : StepEnd) → Breaks d.tells m line.Clean end m' → StaysAt limit IsClearing d
-    clear_stays line_end.DiskFault (B, is, stops) =
-        stays limit x b d m m' opens last B IsClearing (Err applying.DiskFault) stops (subst (IsClearing (kept_in m.stand)) (sym is) (is_clearing m.stand))
-    clear_stays (line_end.StateFull needed most) (B, is, stops) =
-        stays limit x b d m m' opens last B IsClearing (Err (applying.Full needed most)) stops (subst (IsClearing (kept_in m.stand)) (sym is) (is_clearing m.stand))
-    clear_stays line_end.NoMemory same = still_at limit d IsClearing (spared limit x b d m m' opens last (ap (λ (s : Scene). s.story) same))
+    clear_stays end (inl (is, same)) = still_at limit d IsClearing (spared limit x b d m m' opens last (ap (λ (s : Scene). s.story) same))
+    clear_stays end (inr (B, is, stops)) =
+        stays limit x b d m m' opens last B IsClearing (Err (fault_of end)) stops (subst (IsClearing (kept_in m.stand)) (sym is) (is_clearing m.stand))
 
   cleaned : (status : Status) → RequestsOver limit x b line.Clean [] d k status → Cleaned limit d k status
   cleaned status (inl (loads, untouched)) =
-      by_load (Cleaned limit d k) limit d (inl loads.story, untouched) (λ at bad. ((λ told. (bad told, loads.story told)), untouched)) (untouched, loads.story) status loads.loaded
+      by_load (Cleaned limit d k) limit d (inl loads.story, untouched) (λ at bad. ((λ told. (bad told, loads.story told)), untouched)) (untouched, inl loads.story) status loads.loaded
   cleaned status (inr (m, m', opens, last, faults, inl (r, does, shows))) =
       by_shows (Cleaned limit d k) [] r k (λ reason some untouched. absurd (not_both r.refused reason (ap (λ (q : Said). q.refused) does.0) some))
       (λ none prints. clears m m' opens last TakesAll r does prints.0) (λ none prints. clears m m' opens last TakesFront r does prints.0) status shows
@@ -321,11 +366,8 @@ module _ (limit : ℕ) (w : Asked) (d : OverDisk) (k : OverSink) (b : Book) wher
         }
 
     build_stays : (end : StepEnd) → Breaks d.tells m (line.Build w.targets) end m' → StaysAt limit (MayBuild w b) d
-    build_stays line_end.DiskFault (B, (a, plans), stops) =
-        stays limit (choices_of w) b d m m' opens last B (MayBuild w b) (Err applying.DiskFault) stops (may_build a B plans)
-    build_stays (line_end.StateFull needed most) (B, (a, plans), stops) =
-        stays limit (choices_of w) b d m m' opens last B (MayBuild w b) (Err (applying.Full needed most)) stops (may_build a B plans)
-    build_stays line_end.NoMemory same = still_at limit d (MayBuild w b) (spared limit (choices_of w) b d m m' opens last (ap (λ (q : Scene). q.story) same))
+    build_stays end (inl (is, same)) = still_at limit d (MayBuild w b) (spared limit (choices_of w) b d m m' opens last (ap (λ (q : Scene). q.story) same))
+    build_stays end (inr (B, (a, plans), stops)) = stays limit (choices_of w) b d m m' opens last B (MayBuild w b) (Err (fault_of end)) stops (may_build a B plans)
 
     -- the lines of an explanation
     explains : (Takes : OverSink → List ℕ → Type 0) (r : Said) → IsExplained (how_of m.choices.rebuilder) (kept_in m.stand) m.book w.targets r → r.refused ≡ None → (k.tells → Takes k r.text)
@@ -350,9 +392,8 @@ module _ (limit : ℕ) (w : Asked) (d : OverDisk) (k : OverSink) (b : Book) wher
         (subst (λ (c : Book). Under (kept_in m.stand) c (IsReason c w.targets other)) opens.book why)
 
     explain_spared : (end : StepEnd) → Breaks d.tells m (line.Explain w.targets) end m' → IsSpared d
-    explain_spared line_end.DiskFault (B, never, stops) = absurd never
-    explain_spared (line_end.StateFull needed most) (B, never, stops) = absurd never
-    explain_spared line_end.NoMemory same = spared limit (choices_of w) b d m m' opens last (ap (λ (q : Scene). q.story) same)
+    explain_spared end (inl (is, same)) = spared limit (choices_of w) b d m m' opens last (ap (λ (q : Scene). q.story) same)
+    explain_spared end (inr (B, never, stops)) = absurd never
 
   module _ (front : List ℕ) where
     built_at : (status : Status) → RequestsOver limit (choices_of w) b (line.Build w.targets) front d k status → StaysAt limit (MayBuild w b) d
@@ -371,26 +412,28 @@ module _ (limit : ℕ) (w : Asked) (d : OverDisk) (k : OverSink) (b : Book) wher
         there P holds_there = has (λ c. Found limit d (P c)) (found_there m m' opens last P holds_there)
 
         build_stopped : (end : StepEnd) → Breaks d.tells m (line.Build w.targets) end m' → IsUntouched k → Did (status_of (Err (Machine end)))
-        build_stopped line_end.DiskFault (B, (a, plans), stops) untouched = (
-          inr (there (Halts w d) (record { answer = a; batch = B; answers = answers m m' opens last a B plans; cut = cut limit (choices_of w) b d m m' opens last B stops })),
+        build_stopped end (inl (is, same)) untouched =
+            subst (λ (e : StepEnd). Did (status_of (Err (Machine e)))) (sym is) (untouched, inl (spared limit (choices_of w) b d m m' opens last (ap (λ (q : Scene). q.story) same)))
+        build_stopped line_end.DiskFault (inr (B, (a, plans), stops)) untouched = (
+          inr (there (Halts limit w d) (record { answer = a; batch = B; answers = answers m m' opens last a B plans; cut = cut limit (choices_of w) b d m m' opens last B stops.commits })),
           untouched,
         )
-        build_stopped (line_end.StateFull needed most) (B, (a, plans), stops) untouched = (
+        build_stopped (line_end.StateFull needed most) (inr (B, (a, plans), stops)) untouched = (
           there (Overfills limit w d needed most) (record {
             answer = a;
             batch = B;
             answers = answers m m' opens last a B plans;
-            filled = stops.applies.comes.0.filled;
-            over = over limit (choices_of w) b d m m' opens last B needed most stops.applies.comes.0 stops.applies.comes.1.disk.story;
+            filled = filled limit (choices_of w) b d m m' opens last B needed most stops.commits;
+            over = over limit (choices_of w) b d m m' opens last B needed most stops.commits;
           }),
           untouched,
         )
-        build_stopped line_end.NoMemory same untouched = (untouched, spared limit (choices_of w) b d m m' opens last (ap (λ (q : Scene). q.story) same))
+        build_stopped line_end.NoMemory (inr (B, (a, plans), stops)) untouched = (untouched, left_so limit (choices_of w) b d m m' opens last B stops.commits)
 
       built : (status : Status) → RequestsOver limit (choices_of w) b (line.Build w.targets) front d k status → Did status
       built status (inl (loads, untouched)) =
           by_load Did limit d (inl (has (λ c. Unit {0}) tt, loads.story), untouched) (λ at bad. (has (λ c. Unit {0}) tt, (λ told. (bad told, loads.story told)), untouched))
-          (untouched, loads.story) status loads.loaded
+          (untouched, inl loads.story) status loads.loaded
       built status (inr (m, m', opens, last, faults, inl (r, (a, B, plans, is, puts), shows))) =
           by_shows Did front r k
           (λ reason some untouched. (there m m' opens last (λ c K. Commits limit w d c K (answer.Refused reason)) (refuses m m' opens last r a B plans is puts reason some), untouched))
@@ -431,9 +474,8 @@ module _ (limit : ℕ) (w : Asked) (s : OverSource) (d : OverDisk) (k : OverSink
   has_book = holds_so w.kind s b holds (λ c. Unit {0}) tt
 
   explain_stopped : (end : StepEnd) (m m' : Scene) → Breaks d.tells m (line.Explain w.targets) end m' → IsUntouched k → Explained limit w s d k (status_of (Err (Machine end)))
-  explain_stopped line_end.DiskFault m m' (B, never, stops) untouched = absurd never
-  explain_stopped (line_end.StateFull needed most) m m' (B, never, stops) untouched = absurd never
-  explain_stopped line_end.NoMemory m m' same untouched = (tt, untouched)
+  explain_stopped end m m' (inl (is, same)) untouched = subst (λ (e : StepEnd). Explained limit w s d k (status_of (Err (Machine e)))) (sym is) (tt, untouched)
+  explain_stopped end m m' (inr (B, never, stops)) untouched = absurd never
 
   module _ (m m' : Scene) (opens : Opens limit (choices_of w) b d m) (last : m'.story ≡ d.new) where
     explained_there : (P : Book → SomeKept → Type 0) → P b (kept_in m.stand) → Holds w.kind s (λ c. Found limit d (P c))

@@ -13,7 +13,11 @@ use Rattle.carte_session.specs.declared.end.StepEnd.{StepEnd}
 use Rattle.carte_session.specs.declared.end.StepEnd.TheVariants as line
 use Rattle.carte_session.proofs.LineLemmas.{lines_of-all, lines_of-front, next_is, next_weaker, whole_more}
 use Rattle.carte_session.proofs.SessionLemmas.{goes_more}
-use Rattle.carte_shell.specs.Answers.{Answers, Ends, Obeys}
+use Rattle.carte_record.specs.declared.batch.Batch.{Batch}
+use Rattle.carte_engine.specs.Clearing.{clearing}
+use Rattle.carte_engine.proofs.Committing.{failed_commit, full_faults, has_put, short_faults}
+use Rattle.carte_shell.specs.Answers.{Answers, Breaks, Ends, Obeys}
+use Rattle.carte_shell.specs.Commits.{Stops, disk_between}
 use Rattle.carte_shell.specs.Books.{AreBooks, IsBookAt}
 use Rattle.carte_shell.specs.Replies.{Said}
 use Rattle.carte_shell.specs.Scenes.{Scene}
@@ -62,9 +66,9 @@ module _ (tells : Type 0) where
   pub obeyed_faults : (m m' : Scene) (l : Line) (reply : Said) → Obeys tells m l reply m' → m'.faults ≡ m.faults
   obeyed_faults m m' meaning.Nothing reply does = ap (λ (x : Scene). x.faults) does.1
   obeyed_faults m m' (meaning.Set k v) reply does = ap (λ (x : Scene). x.faults) does.1
-  obeyed_faults m m' (meaning.Build targets) reply does = does.4.applies.comes.faults
+  obeyed_faults m m' (meaning.Build targets) reply does = (has_put (disk_between tells m m') m.stand m'.stand does.1 does.4.commits).faults
   obeyed_faults m m' (meaning.Explain targets) reply does = ap (λ (x : Scene). x.faults) does.1
-  obeyed_faults m m' meaning.Clean reply does = does.1.applies.comes.faults
+  obeyed_faults m m' meaning.Clean reply does = (has_put (disk_between tells m m') m.stand m'.stand (clearing m.stand) does.1.commits).faults
 
   answered_faults : (m m' : Scene) (n : ℕ) (bytes text : List ℕ) → Answers tells m n bytes text m' → m'.faults ≡ m.faults
   answered_faults m m' n bytes text (inl stray) = ap (λ (x : Scene). x.faults) stray.2
@@ -73,6 +77,27 @@ module _ (tells : Type 0) where
   goes_faults : (n : ℕ) (m m' : Scene) (lines : List (List ℕ)) (said : List ℕ) → Goes (Answers tells) n m lines said m' → m'.faults ≡ m.faults
   goes_faults n m m' [] said goes = ap (λ (x : Scene). x.faults) goes.0
   goes_faults n m m' (bytes ∷ lines) said goes = goes_faults (n + 1) goes.0 m' lines goes.2 goes.4 ∙ answered_faults m goes.0 n bytes goes.1 goes.3
+
+  -- a line that isn't answered: the count rose where the disk failed, and there alone
+  abbrev pub Counts : StepEnd → ℕ → ℕ → Type 0
+  Counts line.DiskFault before after = Rose before after
+  Counts end before after = after ≡ before
+
+  stopped_faults : (m m' : Scene) (B : Batch) (end : StepEnd) → Stops tells m m' B end → Counts end m.faults m'.faults
+  stopped_faults m m' B line.DiskFault stops = failed_commit (disk_between tells m m') m.stand m'.stand B stops.commits
+  stopped_faults m m' B (line.StateFull needed most) stops = full_faults (disk_between tells m m') m.stand m'.stand B needed most stops.commits
+  stopped_faults m m' B line.NoMemory stops = short_faults (disk_between tells m m') m.stand m'.stand B stops.commits
+
+  same_count : (m m' : Scene) (end : StepEnd) → end ≡ line.NoMemory → m' ≡ m → Counts end m.faults m'.faults
+  same_count m m' end is same = subst (λ (e : StepEnd). Counts e m.faults m'.faults) (sym is) (ap (λ (x : Scene). x.faults) same)
+
+  pub broken_faults : (m m' : Scene) (l : Line) (end : StepEnd) → Breaks tells m l end m' → Counts end m.faults m'.faults
+  broken_faults m m' l end (inl (is, same)) = same_count m m' end is same
+  broken_faults m m' l end (inr (B, brings, stops)) = stopped_faults m m' B end stops
+
+  ended_faults : (m m' : Scene) (n : ℕ) (bytes : List ℕ) (end : StepEnd) → Ends tells m n bytes end m' → Counts end m.faults m'.faults
+  ended_faults m m' n bytes end (inl (is, same)) = same_count m m' end is same
+  ended_faults m m' n bytes end (inr (l, means, breaks)) = broken_faults m m' l end breaks
 
   module _ (c : OverSource) (k : OverSink) (d : OverDisk) (m m' : Scene) (before : m.faults ≡ d.failed_before) (after : m'.faults ≡ d.failed) where
     same_faults : m'.faults ≡ m.faults → d.failed ≡ d.failed_before
@@ -86,13 +111,13 @@ module _ (tells : Type 0) where
         same_faults (answered_faults is.0.2 m' (length is.0.0 + 1) is.0.3 is.0.4 is.0.7 ∙ goes_faults 1 m is.0.2 is.0.0 is.0.1 is.0.6)
     told_disk limit read (Err NoMemory) is = same_faults (goes_faults 1 m m' is.0.0 is.0.1 is.0.8)
     told_disk limit read (Err (Machine line.DiskFault)) is =
-        let there : Rose is.0.2.faults m'.faults = is.0.6.2.2.applies.comes.rose in
+        let there : Rose is.0.2.faults m'.faults = ended_faults is.0.2 m' (length is.0.0 + 1) is.0.3 line.DiskFault is.0.6 in
         let from : Rose m.faults m'.faults = subst (λ (n : ℕ). Rose n m'.faults) (goes_faults 1 m is.0.2 is.0.0 is.0.1 is.0.5) there in
         subst (λ (n : ℕ). Rose n d.failed) before (subst (λ (n : ℕ). Rose m.faults n) after from)
     told_disk limit read (Err (Machine (line.StateFull needed most))) is =
-        same_faults (is.0.6.2.2.applies.comes.1.disk.faults ∙ goes_faults 1 m is.0.2 is.0.0 is.0.1 is.0.5)
+        same_faults (ended_faults is.0.2 m' (length is.0.0 + 1) is.0.3 (line.StateFull needed most) is.0.6 ∙ goes_faults 1 m is.0.2 is.0.0 is.0.1 is.0.5)
     told_disk limit read (Err (Machine line.NoMemory)) is =
-        same_faults (ap (λ (x : Scene). x.faults) is.0.6 ∙ goes_faults 1 m is.0.2 is.0.0 is.0.1 is.0.5)
+        same_faults (ended_faults is.0.2 m' (length is.0.0 + 1) is.0.3 line.NoMemory is.0.6 ∙ goes_faults 1 m is.0.2 is.0.0 is.0.1 is.0.5)
 
 -- ---- the books at the lines with which a session began, and what it leaves
 

@@ -1,7 +1,9 @@
 -- What a run has found, and what a build has made of it.
-use Rattle.std.specs.Prelude.{ℕ, ◌≡◌, ◌⊎◌, ◌+◌, ◌<◌, ◌≤◌, nat_le, true, false, List, [], ◌∷◌, ◌++◌, codes, length, map, Result, Ok, Err, if◌then◌else◌}
-use Rattle.carte_io.specs.Disk.{IsSettled, Moment}
+use Rattle.std.specs.Prelude.{ℕ, ◌≡◌, ◌⊎◌, ◌+◌, ◌<◌, ◌≤◌, true, false, List, [], ◌∷◌, ◌++◌, codes, length, map, Result, Ok, Err, if◌then◌else◌}
+use Rattle.carte_io.specs.Disk.{IsSettled, Moment, Story}
+use Rattle.carte_io.specs.Stations.{StepsThrough}
 use Rattle.carte_journal.specs.Frames.{BodyAt, Ends, end_of, reading}
+use Rattle.carte_journal.specs.Regions.{calls_to_turn}
 use Rattle.carte_name.specs.declared.kind.Kind.{Kind}
 use Rattle.carte_book.specs.Book.{Book}
 use Rattle.carte_book.specs.Reason.{AllClean}
@@ -17,13 +19,14 @@ use Rattle.carte_sound.specs.LeadsTo.{empty_batch}
 use Rattle.carte_session.specs.Session.{IsSession}
 use Rattle.carte_session.specs.declared.end.SessionEnd.{SessionEnd}
 use Rattle.carte_state.specs.Folding.{Keeps}
-use Rattle.carte_state.specs.States.{IsLoaded, kept_in}
+use Rattle.carte_state.specs.States.{HasRoom, IsLoaded, Stand, calls_for, kept_in, needs_for, step_for}
 use Rattle.carte_words.specs.declared.words.Words.{Words as Asked}
 use Rattle.carte_generate.specs.Generated.{IsGenerated, inputs_of, target_of}
 use Rattle.carte_engine.specs.declared.answer.Answer.{Answer}
 use Rattle.carte_engine.specs.declared.answer.Answer.TheVariants as answer
 use Rattle.carte_engine.specs.declared.answer.Built.{Built}
 use Rattle.carte_engine.specs.Answers.{IsPlan, Under}
+use Rattle.carte_engine.specs.Committing.{IsBase, IsDue, Readies, steps_ready, until}
 use Rattle.carte_engine.specs.Schedulers.{KeepsBy}
 use Rattle.carte_explain.specs.declared.why.Why.{Why}
 use Rattle.carte_report.specs.Lines.{why_lines}
@@ -71,46 +74,81 @@ pub record EndsWith (limit : ℕ) (K : SomeKept) (m : Moment) : Type 0 where
   pub settled : IsSettled m
   pub keeps : Keeps limit K m.reads
 
+-- how the state in a file stands when a batch is put into it: as the file has it, or rewritten, where that is due
+abbrev pub IsBaseOf : ℕ → List ℕ → Batch → Stand → Type 0
+IsBaseOf limit file B base = (s : Stand) × IsLoaded s file × (s.journal.limit ≡ limit) × IsBase s B base
+
 -- the file needs so many bytes with the batch
 abbrev pub IsNeeded : ℕ → List ℕ → Batch → ℕ → Type 0
-IsNeeded limit file B needed = (gate : ℕ) (bodies : List BodyAt) → reading limit file ≡ Ends gate bodies → needed ≡ end_of gate (spelled_batch B) + 1
-
--- which aren't more than the limit
-abbrev pub HasRoomFor : ℕ → List ℕ → Batch → Type 0
-HasRoomFor limit file B = (needed : ℕ) → IsNeeded limit file B needed → needed ≤ limit
+IsNeeded limit file B needed = (base : Stand) → IsBaseOf limit file B base → needed ≡ needs_for base B
 
 -- there is room for the batch; an empty one takes none
 abbrev pub FitsIn : ℕ → List ℕ → Batch → Type 0
-FitsIn limit file B = (is_empty B ≡ true) ⊎ HasRoomFor limit file B
+FitsIn limit file B = (base : Stand) → IsBaseOf limit file B base → HasRoom base B
 
 -- the frames of a file have grown by just that of the batch, and by none for an empty one
 abbrev pub GrowsBy : ℕ → Batch → List ℕ → List ℕ → Type 0
 GrowsBy limit B file after = (gate : ℕ) (bodies : List BodyAt) → reading limit file ≡ Ends gate bodies
     → (all : List BodyAt) × (reading limit after ≡ Ends (if is_empty B then gate else end_of gate (spelled_batch B)) all)
 
--- how many writing calls its commit makes: none for an empty batch, and two more where the file is new
-abbrev pub calls_into : List ℕ → Batch → ℕ
-calls_into file B = if is_empty B then 0 else (if nat_le (length file) 9 then 6 else 4)
-
 -- ---- the commit
 
--- The batch was put into what was kept, once and nothing besides. Under a crash at any later moment the file keeps it.
-pub record IsPut (limit : ℕ) (d : OverDisk) (K : SomeKept) (B : Batch) : Type 0 where
-  pub room : d.tells → FitsIn limit d.old.now.reads B
-  pub ends : d.tells → IsSettled d.old.now → EndsWith limit (apply B K) d.new.now
-  pub grows : d.tells → IsSettled d.old.now → GrowsBy limit B d.old.now.reads d.new.now.reads
-  pub calls : d.tells → d.new.now.passed ≡ d.old.now.passed + calls_into d.old.now.reads B
+-- the state that was found: where the disk tells what it reads, this is loaded from it
+pub record IsFoundAs (limit : ℕ) (d : OverDisk) (K : SomeKept) : Type 0 where
+  pub stand : Stand
+  pub loaded : d.tells → IsLoaded stand d.old.now.reads
+  pub limit_is : stand.journal.limit ≡ limit
+  pub keeps : kept_in stand ≡ K
 
--- the file would need so many bytes with the batch, which are more than the limit; nothing was written
-pub record IsOver (limit : ℕ) (d : OverDisk) (B : Batch) (needed most : ℕ) : Type 0 where
-  pub needed_is : d.tells → IsNeeded limit d.old.now.reads B needed
+-- how it stood when the batch was put, and the disk's story up to there: nothing had been done, or the file had been rewritten, where that is due
+pub record IsReadied (limit : ℕ) (d : OverDisk) (K : SomeKept) (B : Batch) : Type 0 where
+  pub found : IsFoundAs limit d K
+  pub base : Stand
+  pub between : Story
+  pub ready : Readies (until d between) found.stand B base
+
+-- the steps of what was done up to there, and of the batch: each moment's images are at the station behind those of which all calls have passed, or at a later one
+abbrev pub StandsFrom : (limit : ℕ) (d : OverDisk) (K : SomeKept) (B : Batch) → IsReadied limit d K B → Type 0
+StandsFrom limit d K B from =
+    StepsThrough (Keeps limit) (kept_in from.found.stand)
+    (steps_ready (until d from.between) from.found.stand from.base B from.ready ++ step_for from.base.journal (kept_in from.found.stand) B) d.old d.new
+
+-- The batch was put into what was kept, once and nothing besides. Under a crash at any later moment the file keeps it. It makes no writing call where it is
+-- empty, else 4, and 6 where the file is new; a rewriting before it makes 4, 5 or 7.
+pub record IsPut (limit : ℕ) (d : OverDisk) (K : SomeKept) (B : Batch) : Type 0 where
+  pub from : IsReadied limit d K B
+  pub room : HasRoom from.base B
+  pub ends : d.tells → IsSettled d.old.now → EndsWith limit (apply B K) d.new.now
+  pub grows : d.tells → IsSettled d.old.now → GrowsBy limit B from.between.now.reads d.new.now.reads
+  pub calls : d.tells → d.new.now.passed ≡ from.between.now.passed + calls_for from.base.journal B
+  pub stands : d.tells → IsSettled d.old.now → StandsFrom limit d K B from
+
+-- the file would need so many bytes with the batch, which are more than the limit; nothing was written but what made it ready
+pub record IsOver (limit : ℕ) (d : OverDisk) (K : SomeKept) (B : Batch) (needed most : ℕ) : Type 0 where
+  pub from : IsReadied limit d K B
+  pub needed_is : needed ≡ needs_for from.base B
   pub most_is : most ≡ limit
   pub over : limit < needed
-  pub story : d.tells → d.new ≡ d.old
+  pub story : d.tells → d.new ≡ from.between
 
 -- its commit was begun, and not all of its calls passed
-abbrev pub IsCut : OverDisk → Batch → Type 0
-IsCut d B = d.tells → (d.old.now.passed ≤ d.new.now.passed) × (d.new.now.passed < d.old.now.passed + calls_into d.old.now.reads B)
+pub record IsCutOff (limit : ℕ) (d : OverDisk) (K : SomeKept) (B : Batch) : Type 0 where
+  pub from : IsReadied limit d K B
+  pub few : d.tells → (from.between.now.passed ≤ d.new.now.passed) × (d.new.now.passed < from.between.now.passed + calls_for from.base.journal B)
+  pub stands : d.tells → IsSettled d.old.now → StandsFrom limit d K B from
+
+-- or not all of those of the rewriting that was due before it
+pub record IsCutBefore (limit : ℕ) (d : OverDisk) (K : SomeKept) (B : Batch) : Type 0 where
+  pub found : IsFoundAs limit d K
+  pub due : IsDue found.stand B
+  pub few : d.tells → (d.old.now.passed ≤ d.new.now.passed) × (d.new.now.passed < d.old.now.passed + calls_to_turn found.stand.journal.bank)
+
+abbrev pub IsCut : ℕ → OverDisk → SomeKept → Batch → Type 0
+IsCut limit d K B = IsCutOff limit d K B ⊎ IsCutBefore limit d K B
+
+-- nothing was written but what made the file ready for some batch, which wasn't put
+abbrev pub IsReadiedAlone : ℕ → OverDisk → SomeKept → Type 0
+IsReadiedAlone limit d K = (B : Batch) × (r : IsReadied limit d K B) × (d.tells → d.new ≡ r.between)
 
 -- ---- the build
 
@@ -151,14 +189,14 @@ pub record Overfills (limit : ℕ) (w : Asked) (d : OverDisk) (needed most : ℕ
   pub batch : Batch
   pub answers : Answers w b K answer batch
   pub filled : is_empty batch ≡ false
-  pub over : IsOver limit d batch needed most
+  pub over : IsOver limit d K batch needed most
 
 -- the commit of a batch that a build may commit was cut off
-pub record Halts (w : Asked) (d : OverDisk) (b : Book) (K : SomeKept) : Type 0 where
+pub record Halts (limit : ℕ) (w : Asked) (d : OverDisk) (b : Book) (K : SomeKept) : Type 0 where
   pub answer : Answer
   pub batch : Batch
   pub answers : Answers w b K answer batch
-  pub cut : IsCut d batch
+  pub cut : IsCut limit d K batch
 
 -- ---- the clearing
 
@@ -179,13 +217,13 @@ pub record ClearsNot (limit : ℕ) (d : OverDisk) (needed most : ℕ) (K : SomeK
   pub batch : Batch
   pub clearing : IsClearing K batch
   pub filled : is_empty batch ≡ false
-  pub over : IsOver limit d batch needed most
+  pub over : IsOver limit d K batch needed most
 
 -- its commit was cut off
-pub record ClearsInPart (d : OverDisk) (K : SomeKept) : Type 0 where
+pub record ClearsInPart (limit : ℕ) (d : OverDisk) (K : SomeKept) : Type 0 where
   pub batch : Batch
   pub clearing : IsClearing K batch
-  pub cut : IsCut d batch
+  pub cut : IsCut limit d K batch
 
 -- ---- the explanation
 

@@ -1,8 +1,8 @@
 use Rattle.std.proofs.Common.{Ok, Err, refl, ap, subst, ◌∙◌, inl, inr}
 use Rattle.std.proofs.lemmas.Result.{err_from_is_err_and}
 use Rattle.carte_state.specs.Around.{over_disk}
-use Rattle.carte_state.specs.Applying.{Applies}
 use Rattle.carte_state.specs.States.{Stand}
+use Rattle.carte_engine.specs.Committing.{Commits}
 use Rattle.carte_engine.proofs.engine.Engine.build.Goals as goal
 
 pub returns-in_err-batch : goal.returns-in_err-batch
@@ -21,8 +21,8 @@ returns-in_err-commit g c =
       c.in_ok-batch.field-0,
       Err c.in_err-commit.field-0.0,
       c.in_ok-batch.ensures.plans,
-      subst (λ (old : Stand). Applies seen old c.commit.new.self batch (Err c.in_err-commit.field-0.0)) c.plan.ensures.kept
-          (subst (λ applied. Applies seen c.plan.new.self c.commit.new.self batch applied) c.in_err-commit.was c.commit.ensures),
+      subst (λ (old : Stand). Commits seen old c.commit.new.self batch (Err c.in_err-commit.field-0.0)) c.plan.ensures.kept
+          (subst (λ applied. Commits seen c.plan.new.self c.commit.new.self batch applied) c.in_err-commit.was c.commit.ensures),
       p.1 ∙ ap Err p.2,
     )
 
@@ -33,7 +33,7 @@ returns g c =
       c.in_ok-batch.field-0,
       Ok c.in_ok-commit.field-0,
       c.in_ok-batch.ensures.plans,
-      subst (λ (old : Stand). Applies seen old c.commit.new.self c.in_ok-batch.field-0.batch (Ok c.in_ok-commit.field-0)) c.plan.ensures.kept
-          (subst (λ applied. Applies seen c.plan.new.self c.commit.new.self c.in_ok-batch.field-0.batch applied) c.in_ok-commit.was c.commit.ensures),
+      subst (λ (old : Stand). Commits seen old c.commit.new.self c.in_ok-batch.field-0.batch (Ok c.in_ok-commit.field-0)) c.plan.ensures.kept
+          (subst (λ applied. Commits seen c.plan.new.self c.commit.new.self c.in_ok-batch.field-0.batch applied) c.in_ok-commit.was c.commit.ensures),
       c.answered.ensures,
     )

@@ -1,11 +1,12 @@
 use Rattle.std.proofs.Common.{Ok, Err, refl, sym, subst, ap, ◌∙◌}
 use Rattle.carte_engine.specs.Clearing.{clearing}
+use Rattle.carte_engine.specs.Committing.{Commits, seen}
+use Rattle.carte_engine.proofs.Committing.{commits_seen}
 use Rattle.carte_state.specs.Around.{over_disk}
-use Rattle.carte_state.specs.Applying.{Applies}
 use Rattle.carte_words.specs.declared.line.Line.TheVariants as line
 use Rattle.carte_shell.specs.Replies.{plain}
 use Rattle.carte_shell.specs.Scenes.{scene}
-use Rattle.carte_shell.proofs.Committing.{applies_seen, breaks, seen}
+use Rattle.carte_shell.proofs.Committing.{breaks}
 use Rattle.carte_shell.proofs.Results.{on_ok}
 use Rattle.carte_shell.proofs.shell.Shell.clean.Goals as goal
 
@@ -17,8 +18,8 @@ returns-in-Ok-clause-carried g c =
       record {
         choices = refl;
         book = refl;
-        applies = applies_seen d engine c.clean.new.self (clearing engine) (Ok tt)
-            (subst (Applies d engine c.clean.new.self (clearing engine)) c.in-Ok.is c.clean.ensures.applies);
+        commits = commits_seen d engine c.clean.new.self (clearing engine) (Ok tt)
+            (subst (Commits d engine c.clean.new.self (clearing engine)) c.in-Ok.is c.clean.ensures.commits);
       },
       on_ok c.clean.result _ _ c.in-Ok.is c.clean.ensures.cleaned,
     )
@@ -31,7 +32,7 @@ returns-in-Err-clause-carried g c =
     breaks g.D.Disk.tells (see (c.args.self.now, c.args.disk.now)) (see (record c.args.self.now { engine = c.clean.new.self }, c.clean.new.disk)) line.Clean (clearing engine) c.stopped.result refl (record {
       choices = refl;
       book = refl;
-      applies = subst (λ fault. Applies (seen d) engine c.clean.new.self (clearing engine) (Err fault)) (sym c.stopped.ensures)
-          (applies_seen d engine c.clean.new.self (clearing engine) (Err c.in-Err.fault)
-          (subst (Applies d engine c.clean.new.self (clearing engine)) c.in-Err.is c.clean.ensures.applies));
+      commits = subst (λ fault. Commits (seen d) engine c.clean.new.self (clearing engine) (Err fault)) (sym c.stopped.ensures)
+          (commits_seen d engine c.clean.new.self (clearing engine) (Err c.in-Err.fault)
+          (subst (Commits d engine c.clean.new.self (clearing engine)) c.in-Err.is c.clean.ensures.commits));
     })

@@ -1,7 +1,7 @@
 use Rattle.std.proofs.Common.{Ok, Err, refl, sym, ap, subst, ◌∙◌}
 use Rattle.carte_state.specs.Around.{over_disk}
-use Rattle.carte_state.specs.Applying.{Applies}
-use Rattle.carte_shell.proofs.Committing.{applies_seen, seen}
+use Rattle.carte_engine.specs.Committing.{Commits, seen}
+use Rattle.carte_engine.proofs.Committing.{commits_seen}
 use Rattle.carte_shell.proofs.shell.Shell.commit.Goals as goal
 
 pub returns-in-Ok-clause-carried : goal.returns-in-Ok-clause-carried
@@ -10,8 +10,8 @@ returns-in-Ok-clause-carried g c =
     record {
       choices = refl;
       book = refl;
-      applies = applies_seen d c.args.self.now.engine c.commit.new.self c.args.batch (Ok tt)
-          (subst (Applies d c.args.self.now.engine c.commit.new.self c.args.batch) c.in-Ok.is c.commit.ensures);
+      commits = commits_seen d c.args.self.now.engine c.commit.new.self c.args.batch (Ok tt)
+          (subst (Commits d c.args.self.now.engine c.commit.new.self c.args.batch) c.in-Ok.is c.commit.ensures);
     }
 
 pub returns-in-Err-clause-carried : goal.returns-in-Err-clause-carried
@@ -20,7 +20,7 @@ returns-in-Err-clause-carried g c =
     record {
       choices = refl;
       book = refl;
-      applies = subst (λ fault. Applies (seen d) c.args.self.now.engine c.commit.new.self c.args.batch (Err fault)) (sym c.stopped.ensures)
-          (applies_seen d c.args.self.now.engine c.commit.new.self c.args.batch (Err c.in-Err.fault)
-          (subst (Applies d c.args.self.now.engine c.commit.new.self c.args.batch) c.in-Err.is c.commit.ensures));
+      commits = subst (λ fault. Commits (seen d) c.args.self.now.engine c.commit.new.self c.args.batch (Err fault)) (sym c.stopped.ensures)
+          (commits_seen d c.args.self.now.engine c.commit.new.self c.args.batch (Err c.in-Err.fault)
+          (subst (Commits d c.args.self.now.engine c.commit.new.self c.args.batch) c.in-Err.is c.commit.ensures));
     }
