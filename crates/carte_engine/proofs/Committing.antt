@@ -1,5 +1,6 @@
 -- What a commit comes to, and what its images keep.
-use Rattle.std.proofs.Common.{◌≡◌, ◌⊎◌, ℕ, ◌+◌, Bool, true, false, if◌then◌else◌, List, [], ◌∷◌, Result, Ok, Err, refl, sym, ◌∙◌, ap, subst, inl, inr}
+use Rattle.std.proofs.Common.{◌≡◌, ◌⊎◌, ℕ, ◌+◌, Bool, true, false, if◌then◌else◌, List, [], ◌∷◌, ◌++◌, Result, Ok, Err, refl, sym, ◌∙◌, ap, subst, inl, inr}
+use Rattle.std.specs.Prelude.{MatchResult}
 use Rattle.carte_io.specs.Causes.{Rose}
 use Rattle.carte_io.specs.Disk.{LeavesOnly, Story}
 use Rattle.carte_io.specs.Stations.{IsAtOneOf, Step, StepsThrough}
@@ -19,9 +20,9 @@ use Rattle.carte_state.specs.declared.fault.ApplyFault.{ApplyFault}
 use Rattle.carte_state.specs.declared.fault.ApplyFault.TheVariants.{DiskFault, Full, NoMemory}
 use Rattle.carte_state.proofs.Applies.{kept_leaves}
 use Rattle.carte_compact.specs.Rewriting.{Renewed, Rewrites, step_again}
-use Rattle.carte_compact.proofs.Behind.{kept_throughout, stations_behind, told_applied, told_renewed}
+use Rattle.carte_compact.proofs.Behind.{kept_throughout, stations_behind, steps_behind, told_applied, told_renewed}
 use Rattle.carte_compact.proofs.Room.{due_has_room}
-use Rattle.carte_engine.specs.Committing.{Breaks, Commits, Follows, IsBase, IsDue, IsNotDue, Lacks, Readies, Unreadied, behind, seen, until}
+use Rattle.carte_engine.specs.Committing.{Breaks, Commits, Follows, IsBase, IsDue, IsNotDue, Lacks, Readies, Unreadied, behind, seen, steps_ready, until}
 
 -- ---- disks by what is told of them
 
@@ -79,11 +80,11 @@ renews_until d old base r = record {
 }
 
 readies_until : (d : OverDisk) (old base : Stand) (B : Batch) → Readies d old B base → Readies (until d d.new) old B base
-readies_until d old base B (inl (no, same, story, faults)) = inl (no, same, story, refl)
+readies_until d old base B (inl (undue, same, story, faults)) = inl (undue, same, story, refl)
 readies_until d old base B (inr (due, rewrites)) = inr (due, renews_until d old base rewrites)
 
 readies_faults : (d : OverDisk) (old base : Stand) (B : Batch) → Readies d old B base → d.failed ≡ d.failed_before
-readies_faults d old base B (inl (no, same, story, faults)) = faults
+readies_faults d old base B (inl (undue, same, story, faults)) = faults
 readies_faults d old base B (inr (due, rewrites)) = rewrites.comes.faults
 
 -- two stretches of one disk: up to the first call's end, and from there on
@@ -126,8 +127,13 @@ module _ (tells : Type 0) (old first between : Story) (before failed : ℕ) (sam
   }
 
   pub readies_from : Readies (From old before) s B base → Readies (From first failed) s B base
-  readies_from (inl (no, same, story, faults)) = inl (no, same, (λ told. story told ∙ same_story told), refl)
+  readies_from (inl (undue, same, story, faults)) = inl (undue, same, (λ told. story told ∙ same_story told), refl)
   readies_from (inr (due, rewrites)) = inr (due, rewrites_from rewrites)
+
+  pub steps_from : (r : Readies (From old before) s B base) → steps_ready (From first failed) s base B (readies_from r) ≡ steps_ready (From old before) s base B r
+  unfolding readies_from
+  steps_from (inl plain) = refl
+  steps_from (inr turned) = refl
 
 -- a rewriting that is due and wasn't made
 pub unreadied : (d : OverDisk) (old new : Stand) (B : Batch) (fault : ApplyFault) → IsDue old B → Rewrites d old new (Err fault) → Unreadied d old new B fault
@@ -135,24 +141,30 @@ unreadied d old new B DiskFault due r = inl (record { due = due; is = refl; rewr
 unreadied d old new B NoMemory due r = inr (record { is = refl; still = r.comes })
 unreadied d old new B (Full needed limit) due r = absurd (due_has_room old B true due needed limit r.comes.0)
 
+-- what comes of a rewriting that is due
+pub made_ready : (d : OverDisk) (old new : Stand) (B : Batch) (result : Result (Unit {0}) ApplyFault) → IsDue old B → Rewrites d old new result
+    → MatchResult result (λ done. Readies d old B new) (λ fault. Unreadied d old new B fault)
+made_ready d old new B (Ok done) due rewrites = inr (due, rewrites)
+made_ready d old new B (Err fault) due rewrites = unreadied d old new B fault due rewrites
+
 -- ---- what is told of every commit
 
 pub ready_kept : (d : OverDisk) (old base : Stand) (B : Batch) → Readies d old B base → kept_in base ≡ kept_in old
-ready_kept d old base B (inl (no, same, story, faults)) = ap kept_in same
+ready_kept d old base B (inl (undue, same, story, faults)) = ap kept_in same
 ready_kept d old base B (inr (due, rewrites)) = ap kept_view rewrites.kept
 
 pub ready_limit : (d : OverDisk) (old base : Stand) (B : Batch) → Readies d old B base → base.journal.limit ≡ old.journal.limit
-ready_limit d old base B (inl (no, same, story, faults)) = ap (λ (s : Stand). s.journal.limit) same
+ready_limit d old base B (inl (undue, same, story, faults)) = ap (λ (s : Stand). s.journal.limit) same
 ready_limit d old base B (inr (due, rewrites)) = rewrites.limit
 
 pub ready_rest : (d : OverDisk) (old base : Stand) (B : Batch) → Readies d old B base → d.tells → IsKeptOn old d.old → IsKeptOn base d.new
-ready_rest d old base B (inl (no, same, story, faults)) told on =
+ready_rest d old base B (inl (undue, same, story, faults)) told on =
     subst (λ (u : Story). IsKeptOn base u) (sym (story told)) (subst (λ (s : Stand). IsKeptOn s d.old) (sym same) on)
 ready_rest d old base B (inr (due, rewrites)) told on = rewrites.comes.rest told on
 
 -- the state as it stood when the batch was put
 pub ready_base : (d : OverDisk) (old base : Stand) (B : Batch) → Readies d old B base → IsBase old B base
-ready_base d old base B (inl (no, same, story, faults)) = inl (no, same)
+ready_base d old base B (inl (undue, same, story, faults)) = inl (undue, same)
 ready_base d old base B (inr (due, rewrites)) = inr (due, rewrites.comes.region, rewrites.comes.live, rewrites.comes.after)
 
 pub commit_limit : (d : OverDisk) (old new : Stand) (B : Batch) (result : Result (Unit {0}) ApplyFault) → Commits d old new B result → new.journal.limit ≡ old.journal.limit
@@ -174,7 +186,7 @@ has_put d old new B (inl f) = record {
   faults = f.applies.comes.faults;
   rest = λ told on. f.applies.comes.rest told (ready_rest (until d f.between) old f.base B f.ready told on);
 }
-has_put d old new B (inr (fault, is, no)) = cc
+has_put d old new B (inr (fault, is, unready)) = cc
 
 -- and one that didn't: only of a disk that failed the count has risen
 pub failed_commit : (d : OverDisk) (old new : Stand) (B : Batch) → Commits d old new B (Err DiskFault) → Rose d.failed_before d.failed
@@ -227,10 +239,26 @@ module _ (d : OverDisk) (old : Stand) (B : Batch) (told : d.tells) (on : IsKeptO
   follow_leaves new result f = by f.base f.between f.ready f.applies
     where
       by : (base : Stand) (between : Story) → Readies (until d between) old B base → Applies (behind d between) base new B result → Stays d.new
-      by base between (inl (no, same, story, faults)) applies =
+      by base between (inl (undue, same, story, faults)) applies =
           plain_leaves d.new new result (behind d between) (story told) refl told (subst (λ (s : Stand). Applies (behind d between) s new B result) same applies)
       by base between (inr (due, rewrites)) applies =
           stations_behind old base B d.old between d.new (told_renewed (until d between) old base rewrites told on)
+          (told_applied (behind d between) base new B result applies told (rewrites.comes.rest told on))
+
+  -- what was acknowledged stands: a rewriting and the batch are steps, one after another
+  pub follow_steps : (new : Stand) (result : Result (Unit {0}) ApplyFault) (f : Follows d old new B result)
+      → StepsThrough (Keeps old.journal.limit) (kept_in old) (steps_ready (until d f.between) old f.base B f.ready ++ step_for f.base.journal (kept_in old) B) d.old d.new
+  follow_steps new result f = by f.base f.between f.ready f.applies
+    where
+      by : (base : Stand) (between : Story) (ready : Readies (until d between) old B base) → Applies (behind d between) base new B result
+          → StepsThrough (Keeps old.journal.limit) (kept_in old) (steps_ready (until d between) old base B ready ++ step_for base.journal (kept_in old) B) d.old d.new
+      by base between (inl (undue, same, story, faults)) applies =
+          let here : StepsThrough (Keeps base.journal.limit) (kept_in base) (step_for base.journal (kept_in base) B) between d.new =
+          applies.steps told (ready_rest (until d between) old base B (inl (undue, same, story, faults)) told on) in
+          subst (λ (u : Story). StepsThrough (Keeps old.journal.limit) (kept_in old) (step_for base.journal (kept_in old) B) u d.new) (story told)
+          (subst (λ (s : Stand). StepsThrough (Keeps s.journal.limit) (kept_in s) (step_for base.journal (kept_in s) B) between d.new) same here)
+      by base between (inr (due, rewrites)) applies =
+          steps_behind old base B d.old between d.new (told_renewed (until d between) old base rewrites told on)
           (told_applied (behind d between) base new B result applies told (rewrites.comes.rest told on))
 
   pub commit_leaves : (new : Stand) (result : Result (Unit {0}) ApplyFault) → Commits d old new B result → Stays d.new

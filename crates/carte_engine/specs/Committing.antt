@@ -1,7 +1,10 @@
 -- A commit, before which the state's file is rewritten where that is due.
-use Rattle.std.specs.Prelude.{◌≡◌, ◌⊎◌, true, false, List, Result, Ok, Err}
+use Rattle.std.specs.Prelude.{◌≡◌, ◌⊎◌, true, false, List, [], Result, Ok, Err}
+use Rattle.std.proofs.Common.{inl, inr}
 use Rattle.carte_io.specs.Disk.{Story}
+use Rattle.carte_io.specs.Stations.{Step}
 use Rattle.carte_journal.specs.Regions.{Planned, rewritten}
+use Rattle.carte_record.specs.Kept.{SomeKept}
 use Rattle.carte_record.specs.declared.batch.Batch.{Batch}
 use Rattle.carte_state.specs.Applying.{Applies, IsStill}
 use Rattle.carte_state.specs.Around.{OverDisk}
@@ -12,7 +15,7 @@ use Rattle.carte_state.specs.declared.fault.ApplyFault.TheVariants.{DiskFault, N
 use Rattle.carte_compact.specs.Due.{is_due}
 use Rattle.carte_compact.specs.Lengths.{region_length}
 use Rattle.carte_compact.specs.Live.{IsLive}
-use Rattle.carte_compact.specs.Rewriting.{IsLiveRegion, Rewrites}
+use Rattle.carte_compact.specs.Rewriting.{IsLiveRegion, Rewrites, step_again}
 
 -- ---- when
 
@@ -44,6 +47,11 @@ behind d between = record { tells = d.tells; old = between; new = d.new; failed_
 abbrev pub Readies : OverDisk → Stand → Batch → Stand → Type 0
 Readies d old B base =
     (IsNotDue old B × (base ≡ old) × (d.tells → d.new ≡ d.old) × (d.failed ≡ d.failed_before)) ⊎ (IsDue old B × Rewrites d old base (Ok tt))
+
+-- as steps: none, or one from what is kept to the same
+abbrev pub steps_ready : (d : OverDisk) (old base : Stand) (B : Batch) → Readies d old B base → List (Step SomeKept)
+steps_ready d old base B (inl plain) = []
+steps_ready d old base B (inr turned) = step_again old
 
 -- ---- the commit
 

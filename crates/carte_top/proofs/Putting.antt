@@ -14,7 +14,7 @@ use Rattle.carte_state.specs.States.{HasRoom, IsAfter, IsKeptOn, IsLoaded, Stand
 use Rattle.carte_engine.specs.Committing.{until}
 use Rattle.carte_engine.proofs.Committing.{ready_base, ready_kept, ready_limit, ready_rest}
 use Rattle.carte_top.specs.Around.{OverDisk}
-use Rattle.carte_top.specs.Found.{EndsWith, GrowsBy, IsBaseOf, IsPut, IsReadied}
+use Rattle.carte_top.specs.Found.{EndsWith, GrowsBy, IsBaseOf, IsPut, IsReadied, StandsFrom}
 
 pub kept_on : (e : Stand) (s : Story) → IsLoaded e s.now.reads → IsSettled s.now → IsKeptOn e s
 kept_on e s loaded settled = record { bodies = loaded.bodies; rest = record { read = loaded.read; settled = settled }; folded = loaded.folded }
@@ -57,13 +57,15 @@ module _ (limit : ℕ) (d : OverDisk) (K : SomeKept) (B : Batch) (r : IsReadied 
 
   -- a commit that has passed
   pub put_in : (f : Stand) → HasRoom r.base B → IsAfter B r.base f → f.journal.limit ≡ r.base.journal.limit → (d.tells → IsKeptOn r.base r.between → IsKeptOn f d.new)
-      → (d.tells → d.new.now.passed ≡ r.between.now.passed + calls_for r.base.journal B) → IsPut limit d K B
-  put_in f room after same rest calls = record {
+      → (d.tells → d.new.now.passed ≡ r.between.now.passed + calls_for r.base.journal B) → (d.tells → IsSettled d.old.now → StandsFrom limit d K B r)
+      → IsPut limit d K B
+  put_in f room after same rest calls stands = record {
     from = r;
     room = room;
     ends = λ told settled. ends_with limit (apply B K) f d.new (same ∙ base_limit) (after.kept ∙ ap (apply B) base_kept) (rest told (base_on told settled));
     grows = grows;
     calls = calls;
+    stands = stands;
   }
     where
       grows : d.tells → IsSettled d.old.now → GrowsBy limit B r.between.now.reads d.new.now.reads

@@ -2,6 +2,7 @@
 use Rattle.std.proofs.Common.{◌≡◌, ℕ, ◌+◌, ◌<◌, ◌≤◌, false, List, [], ◌++◌, Option, Some, None, Result, Ok, Err, refl, sym, ◌∙◌, ap, subst, inl, inr, ◌⊎◌}
 use Rattle.carte_io.specs.Causes.{Rose}
 use Rattle.carte_io.specs.Disk.{IsSettled, LeavesOnly, Story}
+use Rattle.carte_io.specs.Stations.{Step, StepsThrough}
 use Rattle.carte_io.proofs.Images.{leaves_more}
 use Rattle.carte_journal.specs.Regions.{calls_to_turn}
 use Rattle.carte_book.specs.Book.{Book}
@@ -15,7 +16,7 @@ use Rattle.carte_session.specs.declared.end.SessionEnd.TheVariants.{Machine}
 use Rattle.carte_session.specs.declared.end.StepEnd.{StepEnd}
 use Rattle.carte_session.specs.declared.end.StepEnd.TheVariants as line_end
 use Rattle.carte_state.specs.Folding.{IsBadState, Keeps}
-use Rattle.carte_state.specs.States.{IsKeptOn, IsLoaded, calls_for, kept_in}
+use Rattle.carte_state.specs.States.{IsKeptOn, IsLoaded, calls_for, kept_in, step_for}
 use Rattle.carte_state.specs.declared.fault.ApplyFault.{ApplyFault}
 use Rattle.carte_state.specs.declared.fault.ApplyFault.TheVariants as applying
 use Rattle.carte_state.proofs.Folds.{keeps_one}
@@ -37,12 +38,12 @@ use Rattle.carte_shell.specs.Replies.{Said, build_reply}
 use Rattle.carte_shell.specs.Scenes.{Scene}
 use Rattle.carte_shell.specs.Stopping.{fault_of}
 use Rattle.carte_shell.specs.declared.choices.Choices.{Choices}
-use Rattle.carte_engine.specs.Committing.{Commits as CommitsOf, Follows}
-use Rattle.carte_engine.proofs.Committing.{commit_leaves, full_commit, readies_from, short_commit}
+use Rattle.carte_engine.specs.Committing.{Commits as CommitsOf, Follows, steps_ready, until}
+use Rattle.carte_engine.proofs.Committing.{commit_leaves, follow_steps, full_commit, readies_from, short_commit, steps_from}
 use Rattle.carte_engine.proofs.Keeping.{plan_keeps}
 use Rattle.carte_top.specs.Around.{OverSource, OverDisk, OverSink, IsUntouched, TakesAll, TakesFront}
 use Rattle.carte_top.specs.Chosen.{choices_of, scheduler_of, how_of}
-use Rattle.carte_top.specs.Found.{Answers, Clears, Commits, Explains, Found, Halts, HasBook, Holds, IsClearing, IsCut, IsFoundAs, IsOver, IsPut, IsReadied, Makes, Overfills, Replies, behind, for_last, front_of}
+use Rattle.carte_top.specs.Found.{Answers, Clears, Commits, Explains, Found, Halts, HasBook, Holds, IsClearing, IsCut, IsFoundAs, IsOver, IsPut, IsReadied, Makes, Overfills, Replies, StandsFrom, behind, for_last, front_of}
 use Rattle.carte_top.specs.Outcome.{Built, BuiltOver, Cleaned, Explained, IsLeftSo, IsSpared, TellsDisk, TellsSink, TellsSource, status_of}
 use Rattle.carte_top.specs.Running.{Builds, Cleans, Generates, LoadedOr, Opens, Prints, ReadsEnough, RequestsOver, Shows, Tells}
 use Rattle.carte_top.specs.Sound.{IsStation, MayBuild, StaysAt}
@@ -135,11 +136,27 @@ module _ (limit : ℕ) (x : Choices) (b : Book) (d : OverDisk) (m m' : Scene) (o
       ready = readies_from d.tells m.story d.old f.between m.faults d.failed_before opens.story opens.faults m.stand f.base B f.ready;
     }
 
+    stands : (result : Result (Unit {0}) ApplyFault) (f : Follows (disk_between d.tells m m') m.stand m'.stand B result) → d.tells → IsSettled d.old.now
+        → StandsFrom limit d (kept_in m.stand) B (readied result f)
+    stands result f told settled =
+        let K = kept_in m.stand in
+        let on : IsKeptOn m.stand m.story = kept_on m.stand m.story (loaded_here told) (settled_here told settled) in
+        let batch = step_for f.base.journal K B in
+        let ready = steps_ready (until (disk_between d.tells m m') f.between) m.stand f.base B f.ready in
+        let here : StepsThrough (Keeps m.stand.journal.limit) K (ready ++ batch) m.story m'.story = follow_steps (disk_between d.tells m m') m.stand B told on m'.stand result f in
+        let there : StepsThrough (Keeps limit) K (ready ++ batch) d.old d.new =
+        subst (λ (n : ℕ). StepsThrough (Keeps n) K (ready ++ batch) d.old d.new) opens.limit_is
+        (subst (λ (u : Story). StepsThrough (Keeps m.stand.journal.limit) K (ready ++ batch) d.old u) last
+        (subst (λ (u : Story). StepsThrough (Keeps m.stand.journal.limit) K (ready ++ batch) u m'.story) (opens.story told) here)) in
+        subst (λ (steps : List (Step SomeKept)). StepsThrough (Keeps limit) K (steps ++ batch) d.old d.new)
+        (sym (steps_from d.tells m.story d.old f.between m.faults d.failed_before opens.story opens.faults m.stand f.base B f.ready)) there
+
     put_behind : CommitsOf (disk_between d.tells m m') m.stand m'.stand B (Ok tt) → IsPut limit d (kept_in m.stand) B
     put_behind (inl f) =
         put_in limit d (kept_in m.stand) B (readied (Ok tt) f) m'.stand f.applies.comes.room f.applies.comes.after f.applies.limit
         (λ told on. subst (λ (u : Story). IsKeptOn m'.stand u) last (f.applies.comes.rest told on))
         (λ told. subst (λ (u : Story). u.now.passed ≡ f.between.now.passed + calls_for f.base.journal B) last (f.applies.comes.calls told))
+        (stands (Ok tt) f)
     put_behind (inr (fault, is, no)) = cc
 
     put : Puts d.tells m m' B → IsPut limit d (kept_in m.stand) B
@@ -166,6 +183,7 @@ module _ (limit : ℕ) (x : Choices) (b : Book) (d : OverDisk) (m m' : Scene) (o
     cut (inl f) = inl (record {
       from = readied (Err applying.DiskFault) f;
       few = λ told. subst (λ (u : Story). (f.between.now.passed ≤ u.now.passed) × (u.now.passed < f.between.now.passed + calls_for f.base.journal B)) last (f.applies.comes.few told);
+      stands = stands (Err applying.DiskFault) f;
     })
     cut (inr (fault, is, inl b)) = inr (record {
       found = found_as;

@@ -1,6 +1,7 @@
 -- What a run has found, and what a build has made of it.
 use Rattle.std.specs.Prelude.{ℕ, ◌≡◌, ◌⊎◌, ◌+◌, ◌<◌, ◌≤◌, true, false, List, [], ◌∷◌, ◌++◌, codes, length, map, Result, Ok, Err, if◌then◌else◌}
 use Rattle.carte_io.specs.Disk.{IsSettled, Moment, Story}
+use Rattle.carte_io.specs.Stations.{StepsThrough}
 use Rattle.carte_journal.specs.Frames.{BodyAt, Ends, end_of, reading}
 use Rattle.carte_journal.specs.Regions.{calls_to_turn}
 use Rattle.carte_name.specs.declared.kind.Kind.{Kind}
@@ -18,14 +19,14 @@ use Rattle.carte_sound.specs.LeadsTo.{empty_batch}
 use Rattle.carte_session.specs.Session.{IsSession}
 use Rattle.carte_session.specs.declared.end.SessionEnd.{SessionEnd}
 use Rattle.carte_state.specs.Folding.{Keeps}
-use Rattle.carte_state.specs.States.{HasRoom, IsLoaded, Stand, calls_for, kept_in, needs_for}
+use Rattle.carte_state.specs.States.{HasRoom, IsLoaded, Stand, calls_for, kept_in, needs_for, step_for}
 use Rattle.carte_words.specs.declared.words.Words.{Words as Asked}
 use Rattle.carte_generate.specs.Generated.{IsGenerated, inputs_of, target_of}
 use Rattle.carte_engine.specs.declared.answer.Answer.{Answer}
 use Rattle.carte_engine.specs.declared.answer.Answer.TheVariants as answer
 use Rattle.carte_engine.specs.declared.answer.Built.{Built}
 use Rattle.carte_engine.specs.Answers.{IsPlan, Under}
-use Rattle.carte_engine.specs.Committing.{IsBase, IsDue, Readies, until}
+use Rattle.carte_engine.specs.Committing.{IsBase, IsDue, Readies, steps_ready, until}
 use Rattle.carte_engine.specs.Schedulers.{KeepsBy}
 use Rattle.carte_explain.specs.declared.why.Why.{Why}
 use Rattle.carte_report.specs.Lines.{why_lines}
@@ -106,6 +107,12 @@ pub record IsReadied (limit : ℕ) (d : OverDisk) (K : SomeKept) (B : Batch) : T
   pub between : Story
   pub ready : Readies (until d between) found.stand B base
 
+-- the steps of what was done up to there, and of the batch: each moment's images are at the station behind those of which all calls have passed, or at a later one
+abbrev pub StandsFrom : (limit : ℕ) (d : OverDisk) (K : SomeKept) (B : Batch) → IsReadied limit d K B → Type 0
+StandsFrom limit d K B from =
+    StepsThrough (Keeps limit) (kept_in from.found.stand)
+    (steps_ready (until d from.between) from.found.stand from.base B from.ready ++ step_for from.base.journal (kept_in from.found.stand) B) d.old d.new
+
 -- The batch was put into what was kept, once and nothing besides. Under a crash at any later moment the file keeps it. It makes no writing call where it is
 -- empty, else 4, and 6 where the file is new; a rewriting before it makes 4, 5 or 7.
 pub record IsPut (limit : ℕ) (d : OverDisk) (K : SomeKept) (B : Batch) : Type 0 where
@@ -114,6 +121,7 @@ pub record IsPut (limit : ℕ) (d : OverDisk) (K : SomeKept) (B : Batch) : Type 
   pub ends : d.tells → IsSettled d.old.now → EndsWith limit (apply B K) d.new.now
   pub grows : d.tells → IsSettled d.old.now → GrowsBy limit B from.between.now.reads d.new.now.reads
   pub calls : d.tells → d.new.now.passed ≡ from.between.now.passed + calls_for from.base.journal B
+  pub stands : d.tells → IsSettled d.old.now → StandsFrom limit d K B from
 
 -- the file would need so many bytes with the batch, which are more than the limit; nothing was written but what made it ready
 pub record IsOver (limit : ℕ) (d : OverDisk) (K : SomeKept) (B : Batch) (needed most : ℕ) : Type 0 where
@@ -127,6 +135,7 @@ pub record IsOver (limit : ℕ) (d : OverDisk) (K : SomeKept) (B : Batch) (neede
 pub record IsCutOff (limit : ℕ) (d : OverDisk) (K : SomeKept) (B : Batch) : Type 0 where
   pub from : IsReadied limit d K B
   pub few : d.tells → (from.between.now.passed ≤ d.new.now.passed) × (d.new.now.passed < from.between.now.passed + calls_for from.base.journal B)
+  pub stands : d.tells → IsSettled d.old.now → StandsFrom limit d K B from
 
 -- or not all of those of the rewriting that was due before it
 pub record IsCutBefore (limit : ℕ) (d : OverDisk) (K : SomeKept) (B : Batch) : Type 0 where

@@ -10,7 +10,7 @@ use Rattle.carte_engine.specs.Clearing.{clearing}
 use Rattle.carte_engine.specs.Committing.{Commits}
 use Rattle.carte_engine.proofs.Committing.{has_put}
 use Rattle.carte_engine.proofs.Emptying.{clearing_empties}
-use Rattle.carte_engine.proofs.commit.Engine.clean.Goals as goal
+use Rattle.carte_engine.proofs.engine.Engine.clean.Goals as goal
 
 cleaned : (d : OverDisk) (s t : Stand) (B : Batch) (r : Result (Unit {0}) ApplyFault) → B ≡ clearing s → Commits d s t B r → OnOk r (kept_in t ≡ nothing_kept)
 cleaned d s t B (Ok done) is commits = (has_put d s t B commits).kept ∙ ap (λ (C : Batch). apply C (kept_in s)) is ∙ clearing_empties s
