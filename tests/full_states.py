@@ -109,13 +109,13 @@ def live_alone(runs):
 
 
 def too_little_room(runs):
-    """A rewriting that leaves too little room is made all the same: refused with the number of the rewritten file, which keeps what it did."""
+    """A rewriting behind the bank that leaves too little room is made all the same: refused with the number of the rewritten file. The next run puts the region in front."""
     body, size = edited_body(runs), 180_000_000
     live = states.LIMIT - 57 - size - 50
     before = dead_and_live(size, live, 57)
     due, is_over, after = outcome(runs, "too little room", before, BUILD, body, None)
     runs.same("rewritten, and full", (due, is_over, len(after)), (True, True, states.LIMIT - 50))
-    runs.same("and again", outcome(runs, "too little room, again", after, BUILD, body, None)[:2], (False, True))
+    runs.same("and again", outcome(runs, "too little room, again", after, BUILD, body, EDITED)[:2], (True, False))
 
 
 def full_list(runs):

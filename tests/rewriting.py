@@ -20,7 +20,9 @@ import time
 
 import batches
 import states
+from engine import Kept as Told
 from sessions import Piped, Runs, at_most, run
+from shell import Shell
 
 TOP = pathlib.Path(__file__).resolve().parent.parent
 sys.path.insert(0, str(TOP / "bench"))
@@ -105,10 +107,10 @@ def moves(runs):
     runs.put("small.toml", SMALL)
     move, faulty = faulty_moves(small_state(1))
     for what, data in faulty.items():
+        runs.put("bad", data)
         for words in (["build", "small.toml", "bad", "b2"], ["clean", "small.toml", "bad"]):
-            runs.put("bad", data)
             runs.same(f"{what}: {words}", run(runs, words, b""), (7, b"", b"carte: bad state at byte %d\n" % move))
-            runs.same("and nothing was written", (runs.folder / "bad").read_bytes() == data, True)
+        runs.same("and nothing was written", (runs.folder / "bad").read_bytes() == data, True)
         try:
             runs.same(f"{what}, read a second time", states.read(data), None)
         except states.BadState as bad:
@@ -170,7 +172,7 @@ def each_build(runs, seed):
         state = runs.folder / f"each{number}"
         session = Piped(runs, ["session", "totals.csv", state.name, "--rebuilder", rebuilder])
         before = b""
-        for _ in range(40):
+        for _ in range(60):
             line = chance.choice([b"set A1 %d" % chance.randint(1, 3)] * 3 + [b"build C1"] * 5 + [b"clean", b"set C2 5"])
             session.write(line)
             reply = b""
@@ -180,41 +182,53 @@ def each_build(runs, seed):
             counts[follows(runs, f"{rebuilder}, {line}", before, after)] += after != before
             before = after
         session.end()
-    runs.same("files that were rewritten", counts[True] > 10, True)
+    runs.same("files that were rewritten", counts[True] > 8, True)
     print(f"commits over a pipe: {sum(counts.values())}, of them behind a rewriting {counts[True]}")
 
 
 # Killed, and without room
 
+def alike(kept, told):
+    """Whether a file keeps what the second reading of builds does."""
+    traces = {way: {} for way in states.WAYS}
+    for way in states.WAYS:
+        for name, links, result in reversed(states.last_ones(kept.traces[way])):
+            traces[way].setdefault(name, []).append((links, result))
+    entries = {name: (it.result, list(it.needs), it.stale, it.shallow) for name, it in told.entries.items()}
+    return (kept.seen == told.seen and traces == told.traces and tuple(kept.chain) == told.chain
+            and {name: (it[1], it[3], name in kept.stale, bool(it[2])) for name, it in kept.entries.items()} == entries
+            and {batches.digest(value): value for value in kept.values} == told.store)
+
+
+def lines_of(chance, count):
+    """Pairs of lines that set a first number and build."""
+    return [line for _ in range(count) for line in (b"set A1 %d" % chance.randint(1, 3), b"build C1")]
+
+
 def killed(runs, count, seed):
-    """A session that is killed has kept all lines whose replies were read, and perhaps the next one; no more and no less."""
+    """A session that is killed has kept all lines whose replies were read, and perhaps some of the next ones; no more and no less."""
+    state, cut, kept = runs.folder / "killed", collections.Counter(), Told()
     runs.put("totals.csv", totals(1))
-    state, cut = runs.folder / "killed", collections.Counter()
+    runs.put("killed", "")
     for number in range(count):
-        chance = random.Random(f"{seed}/kill/{number}")
-        session, shown = Piped(runs, ["session", "totals.csv", "killed"]), None
-        for at in range(chance.randint(0, 6)):
-            shown = at % 3 + 1
-            wanted = b"set A1\n" + REPLY.format(total(shown)).encode()
-            session.write(b"set A1 %d\nbuild C1" % shown)
-            got = b""
-            while got.count(b"\n") < 3:
-                got += session.read(1)
-            runs.same(f"kill {number}, line {at}", got.splitlines()[1], wanted.splitlines()[1])
-        before, generation = state.read_bytes(), states.read(state.read_bytes()).generation
-        session.write(b"set A1 %d\nbuild C1\nclean\nbuild C1\nset A1 7\nbuild C1" % chance.randint(1, 3))
-        time.sleep(chance.uniform(0, 0.02))
+        chance, shell = random.Random(f"{seed}/kill/{number}"), Shell(totals(1).encode(), True, kept)
+        session = Piped(runs, ["session", "totals.csv", "killed"])
+        for line in lines_of(chance, chance.randint(0, 2)):
+            if not session.is_answered(runs, f"kill {number}, {line}", line, shell.reply(0, line)):
+                return
+        before, stations = state.read_bytes(), [shell.kept]
+        for line in lines_of(chance, 4):
+            session.write(line)
+            shell.reply(0, line)
+            stations.append(shell.kept)
+        time.sleep(chance.uniform(0, 0.03))
         session.kill()
         after = state.read_bytes()
-        cut["rewritten" if states.read(after).generation > generation else "changed" if after != before else "as before"] += 1
-        if shown and after == before:
-            runs.put("shown.csv", totals(shown))
-            again = b"C1 = %d\nran 0, given up 0, reused 1\n" % total(shown)
-            runs.same(f"what was acknowledged before kill {number}", run(runs, ["build", "shown.csv", "killed", "C1"], b""), (0, again, b""))
-        value = chance.randint(1, 9)
-        runs.put("next.csv", totals(value))
-        got = run(runs, ["build", "next.csv", "killed", "C1"], b"")
-        runs.same(f"after kill {number}", (got[0], got[1].splitlines()[0]), (0, b"C1 = %d" % total(value)))
+        found = [it for it in stations if alike(states.fold(states.read(after)), it)]
+        runs.same(f"kill {number}: a station", found != [], True)
+        kept = found[0] if found else shell.kept
+        is_turned = states.read(after).generation != states.read(before).generation
+        cut["rewritten behind the last reply" if is_turned else "changed" if after != before else "as before"] += 1
     print("killed: " + ", ".join(f"{times} {what}" for what, times in sorted(cut.items())))
 
 
@@ -359,7 +373,8 @@ def before(runs, program):
         runs.same(f"{name}: and nothing was written", (runs.folder / name).read_bytes() == data, True)
         runs.put("totals.csv", totals(9))
         runs.same(f"{name}: gone on in", run(runs, ["build", *words], b""), (0, REPLY.format(total(9)).encode(), b""))
-        runs.same(f"{name}: rewritten", follows(runs, f"{name}, the file", data, (runs.folder / name).read_bytes()), True)
+        is_turned = follows(runs, f"{name}, the file", data, (runs.folder / name).read_bytes())
+        runs.same(f"{name}: rewritten", is_turned, rebuilder in ("verifying", "dirty"))
 
 
 def main():
