@@ -1,5 +1,5 @@
 #!/usr/bin/env python3
-"""Drives the built program over states that are rewritten: rewriting.py [PROGRAM] [--kills N] [--seed S] [--only PART]
+"""Drives the built program over states that are rewritten: rewriting.py [PROGRAM] [--kills N] [--seed S] [--before PROGRAM] [--only PART]
 
 What a file has to hold behind each build, byte for byte, is worked out by a second reading (`states.py`) that shares no code with the
 program. Histories in which a state would grow without end; states near their limit, which are rewritten, or can't be; sessions that are
@@ -139,7 +139,8 @@ def value_of(text, edits):
 
 
 def edited(runs, what, rebuilder, edits, count=2_000, seed=1):
-    """A session of one edit and one build each; each value is right, and the file has few bytes more than twice what is live."""
+    """A session of one edit and one build each; each value is right, and the file has no more than its list at 8 and two banks, each of at
+    most twice what is live, or 65,536 bytes, and one body."""
     text, state = rule_file(seed, count), f"edited.{what}"
     runs.put("keys.toml", text)
     script = b"".join(b"set %s %d\nbuild k%d\n" % (name.encode(), value, count - 1) for name, value in edits)
@@ -151,8 +152,8 @@ def edited(runs, what, rebuilder, edits, count=2_000, seed=1):
     got = [line for line in out.decode().splitlines() if not line.startswith("ran ")]
     runs.same(f"values of {what}", (status, got == wanted, err), (0, True, b""))
     data = (runs.folder / state).read_bytes()
-    long = len(states.region(kept_of(data)))
-    runs.same(f"{what}: {len(data)} bytes, {long} live", len(data) <= 2.5 * long + 200_000, True)
+    long, most = len(states.region(kept_of(data))), max(len(body) for _, body in states.read(data).bodies)
+    runs.same(f"{what}: {len(data)} bytes, {long} live", len(data) <= 3 * (max(states.WIDE, 2 * long) + most + 5) + 100, True)
     print(f"{what}: {len(edits)} edits, {len(data)} bytes, {long} live, generation {states.read(data).generation}")
 
 
