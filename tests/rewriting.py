@@ -139,18 +139,19 @@ def value_of(text, edits):
 
 
 def edited(runs, what, rebuilder, edits, count=2_000, seed=1):
-    """A session of one edit and one build each; each value is right, and the file has no more than its list at 8 and two banks, each of at
+    """Sessions of 25 edits, each with a build; each value is right, and the file has no more than its list at 8 and two banks, each of at
     most twice what is live, or 65,536 bytes, and one body."""
-    text, state = rule_file(seed, count), f"edited.{what}"
-    runs.put("keys.toml", text)
-    script = b"".join(b"set %s %d\nbuild k%d\n" % (name.encode(), value, count - 1) for name, value in edits)
-    now, wanted = {}, []
-    for name, value in edits:
-        now[name] = value
-        wanted += [f"set {name}", f"k{count - 1} = {value_of(text, now)}"]
-    status, out, err = run(runs, ["session", "keys.toml", state, "--rebuilder", rebuilder], script)
-    got = [line for line in out.decode().splitlines() if not line.startswith("ran ")]
-    runs.same(f"values of {what}", (status, got == wanted, err), (0, True, b""))
+    text, state, now = rule_file(seed, count), f"edited.{what}", {}
+    for at in range(0, len(edits), 25):
+        runs.put("keys.toml", re.sub(r"^(\w+) = \d+$", lambda it: f"{it[1]} = {now.get(it[1], it[0].split()[2])}", text, flags=re.M))
+        script, wanted = b"", []
+        for name, value in edits[at : at + 25]:
+            now[name] = value
+            script += b"set %s %d\nbuild k%d\n" % (name.encode(), value, count - 1)
+            wanted += [f"set {name}", f"k{count - 1} = {value_of(text, now)}"]
+        status, out, err = run(runs, ["session", "keys.toml", state, "--rebuilder", rebuilder], script)
+        got = [line for line in out.decode().splitlines() if not line.startswith("ran ")]
+        runs.same(f"values of {what}", (status, got == wanted, err), (0, True, b""))
     data = (runs.folder / state).read_bytes()
     long, most = len(states.region(kept_of(data))), max(len(body) for _, body in states.read(data).bodies)
     runs.same(f"{what}: {len(data)} bytes, {long} live", len(data) <= 3 * (max(states.WIDE, 2 * long) + most + 5) + 100, True)
