@@ -10,7 +10,8 @@
 //! The faults of all keys come before that of too many. So reading goes on where the book is full, and a draft
 //! then keeps the names alone, without values and formulas, since a rule may still stand at the name of an
 //! input. To count the keys first would have needed a second reader for documents of too many. To ask the
-//! document's own table for the name would have kept all inputs twice.
+//! document's own table for the name would have kept all inputs twice. The text of a rule is read before its
+//! name is looked up, so that one look tells what stands there and puts the rule; the name's fault is told first.
 //!
 //! A file of plain lines is read without a document: the headers of both tables, inputs first, and below them keys
 //! of one part with integers and with texts on one line that have no escapes (`line`, `plain`). Its entries are slices
