@@ -12,5 +12,5 @@ pub mod Alike
 pub mod Rewritten
 pub mod Behind
 pub mod Room
-pub mod Least
+pub mod Covered
 pub mod Wanted

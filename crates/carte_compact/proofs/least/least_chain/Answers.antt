@@ -1,5 +1,5 @@
 use Rattle.std.proofs.Common.{arith}
-use Rattle.carte_compact.proofs.Least.{chain_long}
+use Rattle.carte_compact.proofs.Covered.{chain_long}
 use Rattle.carte_compact.proofs.least.least_chain.Goals as goal
 
 pub returns : goal.returns

@@ -4,7 +4,7 @@ use Rattle.carte_value.specs.Spelling.{spelling}
 use Rattle.carte_codec.specs.Parts.{spelled_link}
 use Rattle.carte_record.specs.Bodies.{spelled_entry, spelled_start}
 use Rattle.carte_compact.specs.Live.{start_for}
-use Rattle.carte_compact.proofs.Least.{front_covered}
+use Rattle.carte_compact.proofs.Covered.{front_covered}
 use Rattle.carte_compact.proofs.Sizes.{if_known}
 use Rattle.carte_compact.proofs.least.least_front.Goals as goal
 

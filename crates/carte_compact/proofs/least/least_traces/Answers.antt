@@ -1,4 +1,4 @@
-use Rattle.carte_compact.proofs.Least.{traces_long}
+use Rattle.carte_compact.proofs.Covered.{traces_long}
 use Rattle.carte_compact.proofs.least.least_traces.Goals as goal
 
 pub returns : goal.returns
