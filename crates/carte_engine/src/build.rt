@@ -8,25 +8,33 @@ use carte_book::Book;
 use carte_io::Disk;
 use carte_rebuild::Rebuilder;
 use carte_value::Names;
+use carte_wave::Gate;
 use std::alloc::Global;
+use std::marker::Sync;
+use std::thread::Threads;
 
 impl Engine {
     /// Builds the targets, and keeps what was finished: a plan, its commit, and then its answer. A refused build keeps what
     /// it finished too. Where the disk fails the engine is broken; where there is no room, or no memory, nothing has changed.
-    pub fn build<D: Disk, R: Rebuilder>(
+    pub fn build<D: Disk, R: Rebuilder, G: Gate, T: Threads + Sync>(
         &mut self,
+        rt: &T,
         alloc: Global,
         disk: &mut D,
         book: &Book,
         rebuilder: &R,
         scheduler: Scheduler,
+        workers: usize,
         targets: &Names,
+        gate: &G,
     ) -> Result<Built, BuildFault>
         requires { self.old.journal.broken ≡ false }
         ensures { Builds scheduler (R.how rebuilder.now) (book_view book.now) targets.now
             (over_disk D.tells D.story D.faults disk.old disk.new) self.old self.new result }
     {
-        let Plan { batch, answer } = self.plan(alloc, book, rebuilder, scheduler, targets)?;
+        let Plan { batch, answer } = self.plan(
+            rt, alloc, book, rebuilder, scheduler, workers, targets, gate,
+        )?;
         self.commit(alloc, disk, batch)?;
         answered(answer)
     }

@@ -18,8 +18,10 @@ use carte_rebuild::Rebuilder;
 use carte_record::Kept;
 use carte_state::{LoadFault, State};
 use carte_value::{Digest, Names, NoMemory, Seeded, Value};
+use carte_wave::Gate;
 use std::alloc::Global;
-use std::marker::Model;
+use std::marker::{Model, Sync};
+use std::thread::Threads;
 
 /// What is kept from build to build, and the builds over it. It doesn't hold the disk: each call that takes one is meant
 /// for the disk that the engine was loaded from, as its own calls left it.
@@ -72,13 +74,19 @@ impl Engine {
 
     /// Works out a build of the targets: what it answers, and the batch that it brings to the state. Nothing is changed,
     /// and no call of a disk is made. What is known of it holds where what is kept is sound, for whatever history.
-    pub fn plan<R: Rebuilder>(
+    ///
+    /// Where rules wait for what they need, several workers drive side by side those that can go on, and `gate` is passed
+    /// by each of them. No clause names them: what is told is told for any number. Other schedulers take no notice of them.
+    pub fn plan<R: Rebuilder, G: Gate, T: Threads + Sync>(
         &mut self,
+        rt: &T,
         alloc: Global,
         book: &Book,
         rebuilder: &R,
         scheduler: Scheduler,
+        workers: usize,
         targets: &Names,
+        gate: &G,
     ) -> Result<Plan, NoMemory>
         ensures kept { self.new ≡ self.old }
         ensures unmarked { IfOk result (λ p. EachFits IsUnmarked p.batch.entries) }
@@ -86,18 +94,23 @@ impl Engine {
             (IfOk result (IsPlan scheduler (R.how rebuilder.now) (kept_in self.old) (book_view book.now) targets.now)) }
     {
         let rules = book.rules_digest(alloc)?;
-        self.plan_under(alloc, book, &rules, rebuilder, scheduler, targets)
+        self.plan_under(
+            rt, alloc, book, &rules, rebuilder, scheduler, workers, targets, gate,
+        )
     }
 
     /// The same for whoever has the digest of the book's rules. It is worked out over all rules, and no input changes it.
-    pub fn plan_under<R: Rebuilder>(
+    pub fn plan_under<R: Rebuilder, G: Gate, T: Threads + Sync>(
         &mut self,
+        rt: &T,
         alloc: Global,
         book: &Book,
         rules: &Digest,
         rebuilder: &R,
         scheduler: Scheduler,
+        workers: usize,
         targets: &Names,
+        gate: &G,
     ) -> Result<Plan, NoMemory>
         requires { rules.now ≡ rules_digest_of (book_view book.now) }
         ensures kept { self.new ≡ self.old }
@@ -109,11 +122,13 @@ impl Engine {
         if !begun.same {
             let nothing = Kept::empty(alloc, book.hasher());
             return plan_over(
-                alloc, rebuilder, &begun, &nothing, *rules, book, scheduler, targets,
+                rt, alloc, rebuilder, &begun, &nothing, *rules, book, scheduler, workers, targets,
+                gate,
             );
         }
         self.state.mark(&begun.marks);
         let plan = plan_over(
+            rt,
             alloc,
             rebuilder,
             &begun,
@@ -121,7 +136,9 @@ impl Engine {
             *rules,
             book,
             scheduler,
+            workers,
             targets,
+            gate,
         );
         self.state.unmark(&begun.marks);
         plan

@@ -19,10 +19,14 @@ use carte_plan::{plan, plan_chained};
 use carte_rebuild::{Rebuilder, Work, WorkEnd};
 use carte_record::{Batch, Kept};
 use carte_value::{Digest, Names, NoMemory};
+use carte_wave::Gate;
 use std::alloc::Global;
+use std::marker::Sync;
+use std::thread::Threads;
 
 /// The plan of a build that begins so, over what it begins with. `rules` is the digest of the book's rules.
-pub(crate) fn plan_over<R: Rebuilder>(
+pub(crate) fn plan_over<R: Rebuilder, G: Gate, T: Threads + Sync>(
+    rt: &T,
     alloc: Global,
     rebuilder: &R,
     begun: &Begun,
@@ -30,31 +34,41 @@ pub(crate) fn plan_over<R: Rebuilder>(
     rules: Digest,
     book: &Book,
     scheduler: Scheduler,
+    workers: usize,
     targets: &Names,
+    gate: &G,
 ) -> Result<Plan, NoMemory>
     requires { rules ≡ rules_digest_of (book_view book.now) }
     ensures unmarked { IfOk result (λ p. EachFits IsUnmarked p.batch.entries) }
     ensures plans { let h = R.how rebuilder.now in let b = book_view book.now in (K : SomeKept) → BeginsWith K b begun.now (kept_view base.now)
         → Under K b (IfOk result (IsPlan scheduler h K b targets.now)) }
 {
-    let end = run(alloc, rebuilder, base, book, scheduler, targets)?;
+    let end = run(
+        rt, alloc, rebuilder, base, book, scheduler, workers, targets, gate,
+    )?;
     planned(alloc, rebuilder, begun, base, rules, book, targets, end)
 }
 
-// The build that the scheduler makes.
-fn run<R: Rebuilder>(
+// The build that the scheduler makes. Where one that suspends has several workers, it goes in waves.
+fn run<R: Rebuilder, G: Gate, T: Threads + Sync>(
+    rt: &T,
     alloc: Global,
     rebuilder: &R,
     kept: &Kept,
     book: &Book,
     scheduler: Scheduler,
+    workers: usize,
     targets: &Names,
+    gate: &G,
 ) -> Result<WorkEnd, NoMemory>
     ensures { IfOk result (EndsBy scheduler (R.how rebuilder.now) (kept_view kept.now) (book_view book.now) targets.now) }
 {
     match scheduler {
         Scheduler::Topological => carte_topo::build(alloc, rebuilder, kept, book, targets),
         Scheduler::Restarting => carte_restart::build(alloc, rebuilder, kept, book, targets),
+        Scheduler::Suspending if workers > 1 => {
+            carte_wave::build(rt, alloc, rebuilder, kept, book, targets, workers, gate)
+        }
         Scheduler::Suspending => carte_suspend::build(alloc, rebuilder, kept, book, targets),
     }
 }

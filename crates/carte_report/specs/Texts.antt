@@ -11,7 +11,7 @@ use Rattle.carte_tree.specs.declared.fault.FormulaFault.TheVariants.{BadToken, B
 use Rattle.carte_book.specs.declared.reason.Reason.{Reason}
 use Rattle.carte_book.specs.declared.reason.Reason.TheVariants.{Cycle, Missing, Dynamic}
 use Rattle.carte_words.specs.declared.fault.WordsFault.{WordsFault}
-use Rattle.carte_words.specs.declared.fault.WordsFault.TheVariants.{Words, NoTarget, TargetsNotTaken, SeedAndCount, BadTarget, NoMemory as WordsNoMemory}
+use Rattle.carte_words.specs.declared.fault.WordsFault.TheVariants.{Words, NoTarget, TargetsNotTaken, SeedAndCount, BadTarget, WorkersNeedSuspending, NoMemory as WordsNoMemory}
 use Rattle.carte_report.specs.declared.status.Status.{Status}
 use Rattle.carte_report.specs.declared.status.Status.TheVariants.{Done, BookRefused, Usage, BuildRefused, ReadFault, WriteFault, DiskFault, BadState, StateFull, NoMemory, ScriptTooLong}
 
@@ -46,6 +46,7 @@ words_fault_text NoTarget = codes "no target"
 words_fault_text TargetsNotTaken = codes "targets not taken"
 words_fault_text SeedAndCount = codes "generate takes a seed and a count"
 words_fault_text (BadTarget word) = codes "bad target " ++ quoted word
+words_fault_text WorkersNeedSuspending = codes "workers need the suspending scheduler"
 words_fault_text WordsNoMemory = codes "out of memory"
 
 abbrev pub arrows : List (List ℕ) → List ℕ

@@ -67,6 +67,9 @@ fn words_fault_text(alloc: Global, fault: &WordsFault) -> Result<String, NoMemor
         WordsFault::TargetsNotTaken => plain(alloc, "targets not taken"),
         WordsFault::SeedAndCount => plain(alloc, "generate takes a seed and a count"),
         WordsFault::BadTarget(word) => quoted_after(alloc, "bad target ", word.text()),
+        WordsFault::WorkersNeedSuspending => {
+            plain(alloc, "workers need the suspending scheduler")
+        }
         WordsFault::NoMemory => plain(alloc, "out of memory"),
     }
 }

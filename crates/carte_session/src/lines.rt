@@ -8,6 +8,8 @@ ghost use Rattle.carte_session.specs.Carried.{Carried, Finished, Progress, Says}
 use crate::{Machine, SessionEnd};
 use carte_io::{Failed, Sink, write_all};
 use std::alloc::Global;
+use std::marker::Sync;
+use std::thread::Threads;
 
 /// How many lines were carried out, and the bytes of the next one so far.
 #[derive(Drop)]
@@ -27,8 +29,9 @@ impl Lines {
     }
 
     /// Takes some more bytes, and carries out each line that ends in them.
-    pub(crate) fn feed<D, M: Machine<D>, O: Sink>(
+    pub(crate) fn feed<D, M: Machine<D>, O: Sink, T: Threads + Sync>(
         &mut self,
+        rt: &T,
         alloc: Global,
         bytes: &[u8],
         machine: &mut M,
@@ -50,13 +53,14 @@ impl Lines {
         ensures cause { HasCauseOf SessionEnd.WriteFault (O.state out.old).faults (O.state out.new).faults result }
     {
         for byte in bytes {
-            self.take_byte(alloc, *byte, machine, disk, out)?;
+            self.take_byte(rt, alloc, *byte, machine, disk, out)?;
         }
         Ok(())
     }
 
-    fn take_byte<D, M: Machine<D>, O: Sink>(
+    fn take_byte<D, M: Machine<D>, O: Sink, T: Threads + Sync>(
         &mut self,
+        rt: &T,
         alloc: Global,
         byte: u8,
         machine: &mut M,
@@ -79,7 +83,15 @@ impl Lines {
     {
         if byte == b'\n' {
             self.count += 1;
-            carry_out(alloc, self.count, self.rest.as_slice(), machine, disk, out)?;
+            carry_out(
+                rt,
+                alloc,
+                self.count,
+                self.rest.as_slice(),
+                machine,
+                disk,
+                out,
+            )?;
             self.rest.clear();
         } else {
             self.rest.push(byte)?;
@@ -88,8 +100,9 @@ impl Lines {
     }
 
     /// Carries out the last line, where it lacks its line feed.
-    pub(crate) fn finish<D, M: Machine<D>, O: Sink>(
+    pub(crate) fn finish<D, M: Machine<D>, O: Sink, T: Threads + Sync>(
         &self,
+        rt: &T,
         alloc: Global,
         machine: &mut M,
         disk: &mut D,
@@ -110,12 +123,13 @@ impl Lines {
         if line.is_empty() {
             return Ok(());
         }
-        carry_out(alloc, self.count + 1, line, machine, disk, out)
+        carry_out(rt, alloc, self.count + 1, line, machine, disk, out)
     }
 }
 
 // One line, and its reply.
-fn carry_out<D, M: Machine<D>, O: Sink>(
+fn carry_out<D, M: Machine<D>, O: Sink, T: Threads + Sync>(
+    rt: &T,
     alloc: Global,
     number: usize,
     line: &[u8],
@@ -129,7 +143,7 @@ fn carry_out<D, M: Machine<D>, O: Sink>(
     ensures on { OnOk result (M.goes_on machine.new) }
     ensures cause { HasCauseOf SessionEnd.WriteFault (O.state out.old).faults (O.state out.new).faults result }
 {
-    let reply = machine.step(alloc, disk, number, line)?;
+    let reply = machine.step(rt, alloc, disk, number, line)?;
     match say(out, reply.as_str().as_bytes()) {
         Ok(()) => Ok(()),
         Err(Failed) => Err(SessionEnd::WriteFault),

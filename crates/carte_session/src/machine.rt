@@ -2,6 +2,8 @@ ghost use Rattle.std.specs.Prelude.{ℕ, List, MatchResult, OnOk, string_bytes};
 
 use crate::StepEnd;
 use std::alloc::Global;
+use std::marker::Sync;
+use std::thread::Threads;
 
 /// What carries out the lines of a session, over a disk that is lent to each step.
 pub trait Machine<D> {
@@ -16,9 +18,11 @@ pub trait Machine<D> {
     /// It can carry out a line.
     ghost goes_on: { Self → Type 0 };
 
-    /// Carries out a line, without its line feed, and gives its reply. All lines are counted, from 1.
-    fn step(
+    /// Carries out a line, without its line feed, and gives its reply. All lines are counted, from 1. What it does may have
+    /// threads of `rt`.
+    fn step<T: Threads + Sync>(
         &mut self,
+        rt: &T,
         alloc: Global,
         disk: &mut D,
         number: usize,

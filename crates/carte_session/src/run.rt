@@ -7,13 +7,16 @@ use crate::lines::Lines;
 use crate::{Machine, SessionEnd};
 use carte_io::{Sink, Source};
 use std::alloc::Global;
+use std::marker::Sync;
+use std::thread::Threads;
 
 // The most bytes of one read.
 const PIECE: usize = 8192;
 
 /// Reads the script to its end, or to one byte past the limit; carries out each line as soon as its line feed was read,
 /// or the end where the last one lacks it; and writes and hands on the reply of each before the next is carried out.
-pub fn run_session<S: Source, D, M: Machine<D>, O: Sink>(
+pub fn run_session<S: Source, D, M: Machine<D>, O: Sink, T: Threads + Sync>(
+    rt: &T,
     alloc: Global,
     script: &mut S,
     machine: &mut M,
@@ -35,15 +38,15 @@ pub fn run_session<S: Source, D, M: Machine<D>, O: Sink>(
         let room = (limit - taken).min(PIECE);
         let count = read(script, &mut piece[..room])?;
         if count == 0 {
-            return lines.finish(alloc, machine, disk, out);
+            return lines.finish(rt, alloc, machine, disk, out);
         }
-        lines.feed(alloc, &piece[..count], machine, disk, out)?;
+        lines.feed(rt, alloc, &piece[..count], machine, disk, out)?;
         taken += count;
     }
     if read(script, &mut piece[..1])? > 0 {
         return Err(SessionEnd::TooLong);
     }
-    lines.finish(alloc, machine, disk, out)
+    lines.finish(rt, alloc, machine, disk, out)
 }
 
 fn read<S: Source>(script: &mut S, into: &mut [u8]) -> Result<usize, SessionEnd>

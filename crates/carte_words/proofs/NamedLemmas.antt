@@ -10,7 +10,7 @@ use Rattle.std.specs.Str.Parse.{digits_value}
 use Rattle.carte_words.specs.declared.choices.Choices.{Choices}
 use Rattle.carte_words.specs.declared.targets.Aims.{Aims}
 use Rattle.carte_words.specs.declared.fault.WordsFault.{WordsFault}
-use Rattle.carte_words.specs.declared.fault.WordsFault.TheVariants.{BadTarget}
+use Rattle.carte_words.specs.declared.fault.WordsFault.TheVariants.{BadTarget, WorkersNeedSuspending}
 use Rattle.carte_words.specs.declared.line.Line.{Line}
 use Rattle.carte_words.specs.declared.line.Line.TheVariants.{Set, Build, Explain, Clean, Nothing}
 use Rattle.carte_words.specs.declared.words.Command.{Command}
@@ -19,7 +19,7 @@ use Rattle.carte_words.specs.declared.words.Words.{Words as Asked}
 use Rattle.carte_words.specs.Numbers.{is_numeral, seed_in, count_in}
 use Rattle.carte_words.specs.Lines.{in_front, names_of, Follows, Says, IsMeant}
 use Rattle.carte_words.specs.Cuts.{words_in, word_of, behind}
-use Rattle.carte_words.specs.Words.{◌>>=◌, or_words, put_first, names_in, aimed, some_targets, no_targets, numbered, seed_and_count, aims_for, aims_of, choices_of, words_with, chosen_of, meaning_of, Gives, IsCounted}
+use Rattle.carte_words.specs.Words.{◌>>=◌, or_words, put_first, names_in, aimed, some_targets, no_targets, numbered, seed_and_count, aims_for, aims_of, choices_of, words_with, takes, staffed, chosen_of, meaning_of, Gives, IsCounted}
 use Rattle.carte_words.specs.Named.{AllNamed, LineNamed}
 
 is_named : (kind : Kind) (t : Text) → IsTrue (is_text_of kind t) → IsTrue (is_name_of kind (name_of kind t))
@@ -138,14 +138,21 @@ aims_within command.Generate kind ts a e is = counting_within ts a e
 
 -- ---- all of it
 
+staffed_is : (w v : Asked) → staffed w ≡ Ok v → w ≡ v
+staffed_is w v e = go (takes w.scheduler w.workers) e
+  where
+    go : (b : Bool) → (if b then Ok w else Err WorkersNeedSuspending) ≡ Ok v → w ≡ v
+    go true e = cc
+    go false e = cc
+
 -- what has P with any aims that a command takes, has P where words mean it
 module _ (P : Asked → Type 0) (have : (book state : Text) (c : Choices) (ts : List Text) (a : Aims) → aims_of c ts ≡ Ok a → P (words_with book state c a)) where
   of_chosen : (rows : List Row) (book state : Text) (w : Asked) → chosen_of rows book state ≡ Ok w → P w
   of_chosen rows book state w e =
       let ts = unwrap_or (all_of (codes "target") rows) [] in
-      let c = bound_ok (or_words (choices_of rows book)) (λ c. aims_of c ts >>= (λ a. Ok (words_with book state c a))) w e in
-      let a = bound_ok (aims_of c.0 ts) (λ a. Ok (words_with book state c.0 a)) w c.2 in
-      let is : words_with book state c.0 a.0 ≡ w = cc (a.2) in
+      let c = bound_ok (or_words (choices_of rows book)) (λ c. aims_of c ts >>= (λ a. staffed (words_with book state c a))) w e in
+      let a = bound_ok (aims_of c.0 ts) (λ a. staffed (words_with book state c.0 a)) w c.2 in
+      let is : words_with book state c.0 a.0 ≡ w = staffed_is _ w a.2 in
       subst P is (have book state c.0 ts a.0 a.1)
 
   of_meaning : (rows : List Row) (w : Asked) → meaning_of rows ≡ Ok w → P w

@@ -32,7 +32,8 @@ abbrev pub with_places : App → App
 with_places a = with_rule (with_rule (with_rule (with_rule a (place_rule (codes "command"))) (place_rule (codes "book"))) (place_rule (codes "state"))) (many_rule (codes "target"))
 
 abbrev pub with_options : App → App
-with_options a = with_rule (with_rule (with_rule (with_rule a (default_rule (codes "scheduler") (codes "suspending"))) (default_rule (codes "rebuilder") (codes "verifying"))) (option_rule (codes "kind"))) (flag_rule (codes "list"))
+with_options a = with_rule (with_rule (with_rule (with_rule (with_rule a (default_rule (codes "scheduler") (codes "suspending"))) (default_rule (codes "rebuilder") (codes "verifying"))) (default_rule (codes "workers") (codes "1")))
+    (option_rule (codes "kind"))) (flag_rule (codes "list"))
 
 unfoldable pub carte : App
 carte = with_options (with_places bare)

@@ -1,18 +1,20 @@
 -- What words ask for, or the first fault why they ask for nothing.
-use Rattle.std.specs.Prelude.{◌≡◌, ◌≤◌, ℕ, Bool, false, List, [], ◌∷◌, codes, Option, Some, None, Result, Ok, Err, option_and_then, unwrap_or, bytes_eq, if◌then◌else◌}
+use Rattle.std.specs.Prelude.{◌≡◌, ◌≤◌, ℕ, nat_le, true, Bool, false, List, [], ◌∷◌, codes, Option, Some, None, Result, Ok, Err, option_and_then, unwrap_or, bytes_eq, if◌then◌else◌}
 use Rattle.clap.specs.Words.{Kinds, Row, Text, first_of, all_of}
 use Rattle.carte_name.specs.Kinds.{is_text_of, name_of}
 use Rattle.carte_name.specs.declared.kind.Kind.{Kind}
 use Rattle.carte_name.specs.declared.kind.Kind.TheVariants.{Rules}
 use Rattle.carte_words.specs.declared.words.Command.{Command}
 use Rattle.carte_words.specs.declared.words.Command.TheVariants as command
+use Rattle.carte_words.specs.declared.words.Scheduler4.{Scheduler4}
+use Rattle.carte_words.specs.declared.words.Scheduler4.TheVariants.{Suspending}
 use Rattle.carte_words.specs.declared.words.Words.{Words as Asked}
 use Rattle.carte_words.specs.declared.choices.Choices.{Choices}
 use Rattle.carte_words.specs.declared.targets.Aims.{Aims}
 use Rattle.carte_words.specs.declared.fault.WordsFault.{WordsFault}
-use Rattle.carte_words.specs.declared.fault.WordsFault.TheVariants.{Words, NoTarget, TargetsNotTaken, SeedAndCount, BadTarget, NoMemory}
+use Rattle.carte_words.specs.declared.fault.WordsFault.TheVariants.{Words, NoTarget, TargetsNotTaken, SeedAndCount, BadTarget, WorkersNeedSuspending, NoMemory}
 use Rattle.carte_words.specs.Arguments.{faults_of, values_of}
-use Rattle.carte_words.specs.Numbers.{seed_in, count_in}
+use Rattle.carte_words.specs.Numbers.{seed_in, count_in, workers_in}
 use Rattle.carte_words.specs.Tables.{command_named, scheduler_named, rebuilder_named, kind_named, kind_by_ending}
 
 -- a fault is the end, and else it goes on
@@ -44,13 +46,15 @@ kind_for c k = k
 -- what is chosen besides the files and what stands behind them
 abbrev pub choices_of : List Row → Text → Option Choices
 choices_of rows book =
-    option_and_then (λ c. option_and_then (λ k. option_and_then (λ s. option_and_then (λ r. Some (record {
+    option_and_then (λ c. option_and_then (λ k. option_and_then (λ s. option_and_then (λ r. option_and_then (λ n. Some (record {
       command = c;
       kind = kind_for c k;
       scheduler = s;
       rebuilder = r;
+      workers = n;
       list = is_set (first_of (codes "list") rows);
     }))
+    (option_and_then workers_in (first_of (codes "workers") rows)))
     (option_and_then rebuilder_named (first_of (codes "rebuilder") rows)))
     (option_and_then scheduler_named (first_of (codes "scheduler") rows)))
     (kind_of (first_of (codes "kind") rows) book))
@@ -110,15 +114,24 @@ words_with book state c aims = record {
   kind = c.kind;
   scheduler = c.scheduler;
   rebuilder = c.rebuilder;
+  workers = c.workers;
   list = c.list;
   targets = aims.targets;
   seed = aims.seed;
   count = aims.count;
 }
 
+-- several workers are for the suspending scheduler alone
+abbrev pub takes : Scheduler4 → ℕ → Bool
+takes Suspending n = true
+takes s n = nat_le n 1
+
+abbrev pub staffed : Asked → Result Asked WordsFault
+staffed w = if takes w.scheduler w.workers then Ok w else Err WorkersNeedSuspending
+
 abbrev pub chosen_of : List Row → Text → Text → Result Asked WordsFault
 chosen_of rows book state = or_words (choices_of rows book) >>= (λ c.
-    aims_of c (unwrap_or (all_of (codes "target") rows) []) >>= (λ aims. Ok (words_with book state c aims)))
+    aims_of c (unwrap_or (all_of (codes "target") rows) []) >>= (λ aims. staffed (words_with book state c aims)))
 
 abbrev pub meaning_of : List Row → Result Asked WordsFault
 meaning_of rows = or_words (first_of (codes "book") rows) >>= (λ book.

@@ -1,12 +1,12 @@
 ghost use Rattle.std.specs.Prelude.{◌≡◌, IfOk};
 ghost use Rattle.clap.specs.Words.{first_of, found_of, rows_of};
 ghost use Rattle.carte_words.specs.Named.{AllNamed};
-ghost use Rattle.carte_words.specs.Words.{words_of, meaning_of, chosen_of, or_words, Gives, IsCounted};
+ghost use Rattle.carte_words.specs.Words.{words_of, meaning_of, chosen_of, or_words, staffed, takes, Gives, IsCounted};
 
 use crate::choices::{choose, value_at};
 use crate::parse::parse;
 use crate::targets::{Aims, read_aims};
-use crate::{Word, Words, WordsFault};
+use crate::{Scheduler4, Word, Words, WordsFault};
 use clap::ArgMatches;
 use std::alloc::Global;
 
@@ -17,10 +17,12 @@ use std::alloc::Global;
 /// takes a seed and a count in their place: two numbers in digits, the seed of 64 bits, the count from 2 to 65,536. The
 /// options, each at most once, are
 /// `--scheduler topological`, `restarting` or `suspending` (the default), `--rebuilder dirty`, `verifying` (the default),
-/// `constructive` or `deep`, `--kind rules` or `sheet`, and `--list`. Without `--kind` a book is a sheet where its
-/// word ends with `.csv`, and else a rule file; a generated one is a rule file. Behind `--` every word is a target.
+/// `constructive` or `deep`, `--workers` with a number from 1 (the default) to 64, `--kind rules` or `sheet`, and `--list`.
+/// Without `--kind` a book is a sheet where its word ends with `.csv`, and else a rule file; a generated one is a rule
+/// file. Behind `--` every word is a target.
 ///
-/// The fault is the first of these: `Words`; `NoTarget`; `TargetsNotTaken`; `SeedAndCount`; `BadTarget`.
+/// The fault is the first of these: `Words`; `NoTarget`; `TargetsNotTaken`; `SeedAndCount`; `BadTarget`;
+/// `WorkersNeedSuspending`.
 pub fn read_words(alloc: Global, words: &[Word]) -> Result<Words, WordsFault>
     ensures words { Gives (words_of words.now) result }
     ensures names { IfOk result (λ w. AllNamed w.kind w.targets) }
@@ -54,18 +56,39 @@ fn read_chosen(
         seed,
         count,
     } = read_aims(alloc, matches, choices)?;
-    Ok(Words {
+    staffed(Words {
         command: choices.command,
         book,
         state,
         kind: choices.kind,
         scheduler: choices.scheduler,
         rebuilder: choices.rebuilder,
+        workers: choices.workers,
         list: choices.list,
         targets,
         seed,
         count,
     })
+}
+
+fn staffed(words: Words) -> Result<Words, WordsFault>
+    ensures { Gives (staffed words) result }
+{
+    if takes(words.scheduler, words.workers) {
+        Ok(words)
+    } else {
+        Err(WordsFault::WorkersNeedSuspending)
+    }
+}
+
+// Several workers are for the suspending scheduler alone.
+fn takes(scheduler: Scheduler4, workers: usize) -> bool
+    ensures { result ≡ takes scheduler workers }
+{
+    match scheduler {
+        Scheduler4::Suspending => true,
+        Scheduler4::Topological | Scheduler4::Restarting => workers <= 1,
+    }
 }
 
 fn word_at(alloc: Global, matches: &ArgMatches, id: &str) -> Result<Word, WordsFault>

@@ -2,7 +2,9 @@ ghost use Rattle.std.specs.Prelude.{◌≡◌, codes, option_and_then, option_ma
 ghost use Rattle.clap.specs.Words.{first_of, found_of, rows_of};
 ghost use Rattle.carte_words.specs.Words.{choices_of, is_set, kind_for, kind_of};
 ghost use Rattle.carte_words.specs.Tables.{command_named, scheduler_named, rebuilder_named};
+ghost use Rattle.carte_words.specs.Numbers.{workers_in};
 
+use crate::numbers::workers_in;
 use crate::{Command, Rebuilder4, Scheduler4, tables};
 use carte_value::Kind;
 use clap::ArgMatches;
@@ -14,6 +16,7 @@ pub(crate) struct Choices {
     pub(crate) kind: Kind,
     pub(crate) scheduler: Scheduler4,
     pub(crate) rebuilder: Rebuilder4,
+    pub(crate) workers: usize,
     pub(crate) list: bool,
 }
 
@@ -25,11 +28,13 @@ pub(crate) fn choose(matches: &ArgMatches, book: &str) -> Option<Choices>
     let kind = kind_of(value_at(matches, "kind"), book)?;
     let scheduler = scheduler_at(matches)?;
     let rebuilder = rebuilder_at(matches)?;
+    let workers = workers_at(matches)?;
     Some(Choices {
         command,
         kind: kind_for(command, kind),
         scheduler,
         rebuilder,
+        workers,
         list: is_set(value_at(matches, "list")),
     })
 }
@@ -58,6 +63,12 @@ fn rebuilder_at(matches: &ArgMatches) -> Option<Rebuilder4>
     ensures { result ≡ option_and_then rebuilder_named (first_of (codes "rebuilder") (rows_of (found_of matches.now))) }
 {
     tables::rebuilder_named(value_at(matches, "rebuilder")?)
+}
+
+fn workers_at(matches: &ArgMatches) -> Option<usize>
+    ensures { result ≡ option_and_then workers_in (first_of (codes "workers") (rows_of (found_of matches.now))) }
+{
+    workers_in(value_at(matches, "workers")?)
 }
 
 fn kind_of(said: Option<&str>, book: &str) -> Option<Kind>

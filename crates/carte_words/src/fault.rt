@@ -19,6 +19,8 @@ pub enum WordsFault {
     SeedAndCount,
     /// The first target that is no name of the book's kind.
     BadTarget(Word),
+    /// There are several workers, and the scheduler isn't the suspending one.
+    WorkersNeedSuspending,
     /// There was no memory for them. It may come in place of any answer.
     NoMemory,
 }

@@ -64,6 +64,7 @@ fn with_options<'a>(
 {
     let command = with(command, choice(alloc, "scheduler", "suspending"))?;
     let command = with(command, choice(alloc, "rebuilder", "verifying"))?;
+    let command = with(command, choice(alloc, "workers", "1"))?;
     let command = with(command, option(alloc, "kind"))?;
     with(command, flag(alloc, "list"))
 }

@@ -51,6 +51,8 @@ pub struct Words {
     pub kind: Kind,
     pub scheduler: Scheduler4,
     pub rebuilder: Rebuilder4,
+    /// How many threads a build may use, from 1 to 64; above 1 with the suspending scheduler alone.
+    pub workers: usize,
     /// Whether the rules that were run are listed.
     pub list: bool,
     /// The keys that are to be built, or explained, in their order.
