@@ -8,6 +8,7 @@ use std::thread::Threads;
 /// What carries out the lines of a session, over a disk that is lent to each step.
 pub trait Machine<D> {
     ghost use Rattle.carte_session.specs.declared.end.StepEnd.{StepEnd as End};
+    ghost use Rattle.std.specs.Thread.{IsSync};
 
     /// A line of this number takes machine and disk from the first value to the last, and is answered so.
     ghost answers: { Self × D → ℕ → List ℕ → List ℕ → Self × D → Type 0 };
@@ -28,7 +29,8 @@ pub trait Machine<D> {
         number: usize,
         line: &[u8],
     ) -> Result<String, StepEnd>
-        requires { goes_on self.old }
+        requires on { goes_on self.old }
+        requires threads { IsSync T.row }
         ensures carried { MatchResult result
             (λ reply. answers (self.old, disk.old) number line.now (string_bytes reply) (self.new, disk.new))
             (λ end. ends (self.old, disk.old) number line.now end (self.new, disk.new)) }

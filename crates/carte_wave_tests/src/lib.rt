@@ -10,4 +10,6 @@ mod bodies;
 #[cfg(test)]
 mod gates;
 #[cfg(test)]
+mod program;
+#[cfg(test)]
 mod waves;
