@@ -8,9 +8,10 @@ _carte() {
   case $before in
     --scheduler) COMPREPLY=($(compgen -W "topological restarting suspending" -- "$word")) && return ;;
     --rebuilder) COMPREPLY=($(compgen -W "dirty verifying constructive deep" -- "$word")) && return ;;
+    --workers) COMPREPLY=($(compgen -W "1 2 4 8" -- "$word")) && return ;;
     --kind) COMPREPLY=($(compgen -W "rules sheet" -- "$word")) && return ;;
   esac
-  case $word in -*) COMPREPLY=($(compgen -W "--scheduler --rebuilder --kind --list" -- "$word")) && return ;; esac
+  case $word in -*) COMPREPLY=($(compgen -W "--scheduler --rebuilder --workers --kind --list" -- "$word")) && return ;; esac
   for ((at = 1; at < COMP_CWORD; at++)); do
     case ${COMP_WORDS[at]} in
       --list) ;;

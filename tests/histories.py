@@ -3,8 +3,8 @@
 
 A history is one state file and some runs over it, with random edits of the book between them: inputs changed, put
 back and deleted, rules changed, added and deleted, other targets, now and then a `clean`. OPTIONS is any of the words
-`rebuilders` and `schedulers`: each run then chooses one at random and names it by its option, with `--list` now and
-then; without them the runs have no option, and are those of the suspending scheduler and of verifying traces. With the
+`rebuilders` and `schedulers`: each run then chooses one at random and names it by its option, and with a suspending scheduler
+a number of workers, with `--list` now and then; without them the runs have no option, and are those of the suspending scheduler and of verifying traces. With the
 word `topological` each run names that scheduler. With `sheets` every second history is one of sheets. A run in which nothing changes must
 leave the state file as it was. At the end stands how many runs ended with each status.
 """
@@ -77,6 +77,8 @@ class History:
         if "schedulers" in choices:
             scheduler = self.random.choice(SCHEDULERS)
             words += ["--scheduler", scheduler]
+            workers = self.random.choice(("1", "2", "64"))
+            words += ["--workers", workers] if scheduler == "suspending" else []
         if words and self.random.random() < 0.3:
             listed = True
             words.append("--list")

@@ -129,13 +129,45 @@ def generated(runs):
     runs.wants((0, "keys 2, inputs 1\nk1 = 0\nran 0, given up 0, reused 1\n", ""), "generate", "none", "unheard", "1", "2")
 
 
+def by_workers(runs):
+    """By 2, 7 and 64 workers runs say what they say by one, and keep the same bytes; one worker keeps as many, in another order maybe."""
+    rules = [f"r{at}" for at in range(1_000)]
+    runs.put("wide.toml", "[inputs]\na = 10\n[rules]\n" + "".join(f'{name} = "a + {at}"\n' for at, name in enumerate(rules)))
+    runs.put("stuck.toml", '[inputs]\nx = 1\n[rules]\na = "b + c"\nb = "x + 1"\nc = "c"\nd = "a + e"\ne = "b + 5"\n')
+    runs.put("script", "build total sum\nset a 11\nbuild sum total\nexplain total\nclean\nbuild total nowhere\n")
+    wide = "".join(f"{name} = {at + 10}\n" for at, name in enumerate(rules))
+    made = "keys 20000, inputs 2000\nk19999 = 6\n"
+    session = "total = 60\nsum = 30\nran 2, given up 0, reused 0\nset a\nsum = 31\ntotal = 62\nran 2, given up 0, reused 0\ntotal reusable\ncleaned\n"
+    cases = [
+        ("build", "wide.toml", rules, (0, f"{wide}ran 1000, given up 0, reused 0\n", "")),
+        ("build", "stuck.toml", ["e", "d", "a"], (3, "", "carte: cycle: d -> a -> c -> c\n")),
+        ("session", "sums.toml", [], (0, f"{session}refused: missing: nowhere\n", "")),
+        ("generate", "none", ["1", "20000"], (0, f"{made}ran 10386, given up 0, reused 0\n", "")),
+    ]
+    for command, book, targets, wanted in cases:
+        kept = {}
+        for workers in (1, 2, 7, 64):
+            with open(runs.folder / "script", "rb") as script:
+                runs.wants(wanted, command, book, f"{book}.{workers}", *targets, "--workers", str(workers), stdin=script)
+            kept[workers] = (runs.folder / f"{book}.{workers}").read_bytes()
+        runs.same(f"states of {book}", [kept[7], kept[64], len(kept[2])], [kept[2], kept[2], len(kept[1])])
+    reused = (0, f"{wide}ran 0, given up 0, reused 1000\n", "")
+    for state in ("wide.toml.7", "wide.toml.1"):
+        before = (runs.folder / state).read_bytes()
+        for workers in ("1", "64"):
+            runs.wants(reused, "build", "wide.toml", state, *rules, "--workers", workers)
+        runs.same(f"what {state} keeps", (runs.folder / state).read_bytes(), before)
+
+
 def words(runs):
     """Words that are no command: no file is made."""
     runs.wants(NO_COMMAND)
     runs.wants(NO_COMMAND, "build", "sums.toml")
     runs.wants(NO_COMMAND, "build", b"sums\xff.toml", "unmade", "total")
     runs.wants(NO_COMMAND, "build", "sums.toml", "unmade", b"\xc3")
-    runs.wants(NO_COMMAND, "build", "sums.toml", "unmade", "total", "--workers=2")
+    runs.wants(NO_COMMAND, "build", "sums.toml", "unmade", "total", "--workers=65")
+    refused = (2, "", "carte: usage: workers need the suspending scheduler\n")
+    runs.wants(refused, "build", "sums.toml", "unmade", "total", "--workers=2", "--scheduler=topological")
     runs.wants((2, "", "carte: usage: no target\n"), "build", "sums.toml", "unmade")
     runs.wants((2, "", "carte: usage: no target\n"), "explain", "sums.toml", "unmade")
     for command in ("clean", "session"):
@@ -298,8 +330,8 @@ def main():
     said.add_argument("--seed", default="1")
     said = said.parse_args()
     parts = [
-        ("builds", builds), ("generated", generated), ("words", words), ("files", files), ("one file", one_file), ("streams", streams),
-        ("full disks", full_disks), ("kills", lambda runs: killed(runs, said.kills, said.seed)),
+        ("builds", builds), ("generated", generated), ("workers", by_workers), ("words", words), ("files", files), ("one file", one_file),
+        ("streams", streams), ("full disks", full_disks), ("kills", lambda runs: killed(runs, said.kills, said.seed)),
         ("histories", lambda runs: random_histories(runs, said.histories, said.seed)),
     ]
     failed = 0

@@ -100,7 +100,8 @@ class Lines:
 
 def options(chance):
     scheduler, rebuilder, listed = chance.choice(SCHEDULERS), chance.choice(REBUILDERS), chance.random() < 0.3
-    return (scheduler, rebuilder, listed), ["--scheduler", scheduler, "--rebuilder", rebuilder] + ["--list"] * listed
+    workers = ["--workers", chance.choice(("1", "2", "64"))] if scheduler == "suspending" else []
+    return (scheduler, rebuilder, listed), ["--scheduler", scheduler, "--rebuilder", rebuilder, *workers] + ["--list"] * listed
 
 
 def explained(runs, history, kept, chosen, words, targets):

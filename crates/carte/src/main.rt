@@ -22,16 +22,19 @@ ghost use Rattle.carte.specs.Ends.{Ends, OverFiles, OverBook, OverBoth};
 use carte_io::{Absent, Disk, FileDisk, ReadSource, Source, WriteSink};
 use carte_top::{Status, Word, carte, out_of_memory};
 use carte_value::{NoMemory, Seeded};
+use carte_wave::NoGate;
 use files::Files;
 use std::env;
 use std::fs::File;
 use std::hash::{BuildHasher, RandomState};
 use std::io::ErrorKind;
+use std::marker::Sync;
 use std::process::ExitCode;
+use std::thread::Threads;
 
 fn main(rt: HostRuntime) -> ExitCode {
     let status = match words(&rt) {
-        Ok(words) => run(&rt, words.as_slice()),
+        Ok(words) => run(&rt, &rt, words.as_slice()),
         Err(NoMemory) => give_up(&rt),
     };
     exit_code(&status)
@@ -65,11 +68,12 @@ fn give_up(rt: &HostRuntime) -> Status
     out_of_memory(&mut WriteSink::of(rt.stderr()))
 }
 
-fn run(rt: &HostRuntime, words: &[Word]) -> Status
+// Threads are the runtime's, too: only `main` may hand it on as what starts them.
+fn run<T: Threads + Sync>(rt: &HostRuntime, threads: &T, words: &[Word]) -> Status
     ensures { Ends words.now result }
 {
     match files::open(rt, words) {
-        Ok(files) => over_files(rt, words, files),
+        Ok(files) => over_files(rt, threads, words, files),
         Err(NoMemory) => give_up(rt),
     }
 }
@@ -83,17 +87,23 @@ fn seed(rt: &HostRuntime) -> u64 {
     }
 }
 
-fn over_files(rt: &HostRuntime, words: &[Word], files: Files) -> Status
+fn over_files<T: Threads + Sync>(
+    rt: &HostRuntime,
+    threads: &T,
+    words: &[Word],
+    files: Files,
+) -> Status
     ensures { OverFiles words.now result }
 {
     match files.book {
-        Some(file) => over_book(rt, words, &mut ReadSource::of(file), files.state),
-        None => over_book(rt, words, &mut Absent::of(), files.state),
+        Some(file) => over_book(rt, threads, words, &mut ReadSource::of(file), files.state),
+        None => over_book(rt, threads, words, &mut Absent::of(), files.state),
     }
 }
 
-fn over_book<B: Source>(
+fn over_book<B: Source, T: Threads + Sync>(
     rt: &HostRuntime,
+    threads: &T,
     words: &[Word],
     book: &mut B,
     state: Option<File>,
@@ -101,13 +111,14 @@ fn over_book<B: Source>(
     ensures { OverBook words.now (over_source B.tells B.state book.old book.new) result }
 {
     match state {
-        Some(file) => over_both(rt, words, book, &mut FileDisk::of(file)),
-        None => over_both(rt, words, book, &mut Absent::of()),
+        Some(file) => over_both(rt, threads, words, book, &mut FileDisk::of(file)),
+        None => over_both(rt, threads, words, book, &mut Absent::of()),
     }
 }
 
-fn over_both<B: Source, D: Disk>(
+fn over_both<B: Source, D: Disk, T: Threads + Sync>(
     rt: &HostRuntime,
+    threads: &T,
     words: &[Word],
     book: &mut B,
     state: &mut D,
@@ -118,6 +129,7 @@ fn over_both<B: Source, D: Disk>(
     let mut err = WriteSink::of(rt.stderr());
     let mut script = ReadSource::of(rt.stdin());
     carte(
+        threads,
         rt.alloc(),
         words,
         book,
@@ -126,5 +138,6 @@ fn over_both<B: Source, D: Disk>(
         &mut out,
         &mut err,
         Seeded::of(seed(rt)),
+        &NoGate,
     )
 }

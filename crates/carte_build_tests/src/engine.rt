@@ -12,36 +12,48 @@ use carte_io::MemDisk;
 use carte_rebuild::Rebuilder;
 use carte_value::{Names, Seeded};
 use carte_verify::Verify;
+use carte_wave::NoGate;
 use std::alloc::Global;
+use std::marker::Sync;
 use std::test::Fail;
+use std::thread::Threads;
 
 /// The chain of docs/REBUILDERS.md.
 const CHAIN: &str = "b: a / 2; c: b + 1";
 
 /// A build over the disk, from loading on.
-fn built_of<R: Rebuilder>(
+fn built_of<R: Rebuilder, T: Threads + Sync>(
+    rt: &T,
     alloc: Global,
     disk: &mut MemDisk,
     book: &Book,
     rebuilder: &R,
     scheduler: Scheduler,
+    workers: usize,
     targets: &Names,
 ) -> Result<Built, Fail> {
     let mut engine = Engine::load(alloc, disk, 65536, Seeded::of(7))?;
-    Ok(engine.build(alloc, disk, book, rebuilder, scheduler, targets)?)
+    let built = engine.build(
+        rt, alloc, disk, book, rebuilder, scheduler, workers, targets, &NoGate,
+    )?;
+    Ok(built)
 }
 
 /// A build of c. The book and the targets stand in this function alone: whatever lives is dropped at each question mark.
-fn built<R: Rebuilder>(
+fn built<R: Rebuilder, T: Threads + Sync>(
+    rt: &T,
     alloc: Global,
     disk: &mut MemDisk,
     rebuilder: &R,
     scheduler: Scheduler,
+    workers: usize,
     a: i64,
 ) -> Result<Built, Fail> {
     let book = book_of(alloc, "a", a, CHAIN)?;
     let targets = names_of(alloc, "c")?;
-    built_of(alloc, disk, &book, rebuilder, scheduler, &targets)
+    built_of(
+        rt, alloc, disk, &book, rebuilder, scheduler, workers, &targets,
+    )
 }
 
 /// The target's value, how many rules ran, how many starts were given up, and how many rules were reused.
@@ -88,42 +100,53 @@ fn clean(alloc: Global, disk: &mut MemDisk) -> Result<(), Fail> {
 }
 
 /// A preview, and one build for each value of a. What was kept is cleaned where the value is 0.
-fn in_a_row<R: Rebuilder>(
+fn in_a_row<R: Rebuilder, T: Threads + Sync>(
+    rt: &T,
     alloc: Global,
     rebuilder: &R,
     scheduler: Scheduler,
+    workers: usize,
 ) -> Result<String, Fail> {
     let mut disk = MemDisk::of(alloc, &[], &[])?;
     let count = foreseen(alloc, &mut disk, rebuilder)?;
     let mut text = format!(in alloc; "{count} foreseen; ")?;
     for a in [2, 3, 4, 2, 0, 2] {
-        text.push_str(step(alloc, &mut disk, rebuilder, scheduler, a)?.as_str())?;
+        let said = step(rt, alloc, &mut disk, rebuilder, scheduler, workers, a)?;
+        text.push_str(said.as_str())?;
     }
     Ok(text)
 }
 
-fn step<R: Rebuilder>(
+fn step<R: Rebuilder, T: Threads + Sync>(
+    rt: &T,
     alloc: Global,
     disk: &mut MemDisk,
     rebuilder: &R,
     scheduler: Scheduler,
+    workers: usize,
     a: i64,
 ) -> Result<String, Fail> {
     if a == 0 {
         clean(alloc, disk)?;
         return Ok(String::from_str(alloc, "cleaned; ")?);
     }
-    let built = built(alloc, disk, rebuilder, scheduler, a)?;
+    let built = built(rt, alloc, disk, rebuilder, scheduler, workers, a)?;
     printed(alloc, &built)
 }
 
 /// By one of the four.
-fn by(alloc: Global, at: usize, scheduler: Scheduler) -> Result<String, Fail> {
+fn by<T: Threads + Sync>(
+    rt: &T,
+    alloc: Global,
+    at: usize,
+    scheduler: Scheduler,
+    workers: usize,
+) -> Result<String, Fail> {
     match at {
-        0 => in_a_row(alloc, &Verify, scheduler),
-        1 => in_a_row(alloc, &Construct, scheduler),
-        2 => in_a_row(alloc, &Deep, scheduler),
-        _ => in_a_row(alloc, &Dirty, scheduler),
+        0 => in_a_row(rt, alloc, &Verify, scheduler, workers),
+        1 => in_a_row(rt, alloc, &Construct, scheduler, workers),
+        2 => in_a_row(rt, alloc, &Deep, scheduler, workers),
+        _ => in_a_row(rt, alloc, &Dirty, scheduler, workers),
     }
 }
 
@@ -154,7 +177,7 @@ const RESTARTING: [&str; 4] = [
 #[test]
 fn each_rebuilder_builds_in_order(rt: HostRuntime) -> Result<(), Fail> {
     for (at, want) in TOPOLOGICAL.iter().enumerate() {
-        let text = by(rt.alloc(), at, Scheduler::Topological)?;
+        let text = by(&rt, rt.alloc(), at, Scheduler::Topological, 1)?;
         assert_eq!(rt; text.as_str(), *want, "{at}");
     }
     Ok(())
@@ -163,7 +186,16 @@ fn each_rebuilder_builds_in_order(rt: HostRuntime) -> Result<(), Fail> {
 #[test]
 fn each_rebuilder_builds_what_is_asked_for(rt: HostRuntime) -> Result<(), Fail> {
     for (at, want) in SUSPENDING.iter().enumerate() {
-        let text = by(rt.alloc(), at, Scheduler::Suspending)?;
+        let text = by(&rt, rt.alloc(), at, Scheduler::Suspending, 1)?;
+        assert_eq!(rt; text.as_str(), *want, "{at}");
+    }
+    Ok(())
+}
+
+#[test]
+fn several_workers_build_as_one(rt: HostRuntime) -> Result<(), Fail> {
+    for (at, want) in SUSPENDING.iter().enumerate() {
+        let text = by(&rt, rt.alloc(), at, Scheduler::Suspending, 7)?;
         assert_eq!(rt; text.as_str(), *want, "{at}");
     }
     Ok(())

@@ -3,7 +3,9 @@
 use carte_io::{MemSink, MemSource, NoMemory};
 use carte_session::{Machine, SessionEnd, StepEnd, run_session};
 use std::alloc::Global;
+use std::marker::Sync;
 use std::test::Fail;
+use std::thread::Threads;
 
 // Answers each line with its number and its text, and ends at a line that says so.
 #[derive(Drop)]
@@ -16,8 +18,9 @@ impl Machine<()> for Echo {
 
     ghost goes_on = { λ _. Unit {0} };
 
-    fn step(
+    fn step<T: Threads + Sync>(
         &mut self,
+        _rt: &T,
         alloc: Global,
         _disk: &mut (),
         number: usize,
@@ -58,7 +61,15 @@ fn lines_are_answered(rt: HostRuntime) -> Result<(), Fail> {
     ] {
         let mut source = MemSource::of(rt.alloc(), script, &[])?;
         let mut sink = MemSink::new(rt.alloc(), 3, &[])?;
-        let result = run_session(rt.alloc(), &mut source, &mut Echo, &mut (), &mut sink, 5);
+        let result = run_session(
+            &rt,
+            rt.alloc(),
+            &mut source,
+            &mut Echo,
+            &mut (),
+            &mut sink,
+            5,
+        );
         assert_eq!(rt; result.err(), end);
         assert_eq!(rt; sink.bytes(), want);
         assert_eq!(rt; sink.handed(), want.len());

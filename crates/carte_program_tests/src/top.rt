@@ -7,18 +7,20 @@ use crate::top::runs::{said, shown, shown_over};
 use carte_io::{MemDisk, MemSink};
 use carte_top::out_of_memory;
 use std::alloc::Global;
+use std::marker::Sync;
 use std::str;
 use std::test::Fail;
+use std::thread::Threads;
 
 pub(crate) const SUMS: &str =
     "[inputs]\na = 10\nb = 20\n[rules]\nsum = \"a + b\"\ntotal = \"sum + sum\"\n";
 
 /// Two builds of one book over one state, and a word where the second made a writing call.
-fn twice(alloc: Global, words: &str) -> Result<String, Fail> {
+fn twice<T: Threads + Sync>(rt: &T, alloc: Global, words: &str) -> Result<String, Fail> {
     let mut state = MemDisk::of(alloc, &[], &[])?;
-    let mut text = shown(alloc, words, SUMS, &mut state)?;
+    let mut text = shown(rt, alloc, words, SUMS, &mut state)?;
     let passed = state.passed();
-    text.push_str(shown(alloc, words, SUMS, &mut state)?.as_str())?;
+    text.push_str(shown(rt, alloc, words, SUMS, &mut state)?.as_str())?;
     if state.passed() != passed {
         text.push_str("written")?;
     }
@@ -33,7 +35,7 @@ const FIRST: &str =
 
 // A rule beneath a held one is passed over where held keys aren't looked into: by marks and by deep traces, where rules
 // wait.
-const BUILDS: [(&str, &str); 8] = [
+const BUILDS: [(&str, &str); 9] = [
     (
         "build b s total --scheduler topological --rebuilder dirty",
         ALL,
@@ -54,12 +56,13 @@ const BUILDS: [(&str, &str); 8] = [
     ("build b s total", ALL),
     ("build b s total --rebuilder constructive", ALL),
     ("build b s total --rebuilder deep", FIRST),
+    ("build b s total --workers 64", ALL),
 ];
 
 #[test]
 fn a_second_build_runs_nothing(rt: HostRuntime) -> Result<(), Fail> {
     for (words, want) in BUILDS {
-        let text = twice(rt.alloc(), words)?;
+        let text = twice(&rt, rt.alloc(), words)?;
         assert_eq!(rt; text.as_str(), want, "{words}");
     }
     Ok(())
@@ -147,7 +150,7 @@ const RUNS: [(&str, &str, &[u8], &str); 15] = [
 #[test]
 fn runs_show_what_they_did(rt: HostRuntime) -> Result<(), Fail> {
     for (words, book, state, want) in RUNS {
-        let text = shown_over(rt.alloc(), words, book, state)?;
+        let text = shown_over(&rt, rt.alloc(), words, book, state)?;
         assert_eq!(rt; text.as_str(), want, "{words} of {book}");
     }
     Ok(())
@@ -157,10 +160,10 @@ const SCRIPT: &str =
     "set a 11\nbuild total\nset sum 3\nbuild gone\n\nexplain total a\nclean\nlist\nbuild sum";
 
 /// A session, and behind it an explanation by the next run.
-fn session(alloc: Global) -> Result<String, Fail> {
+fn session<T: Threads + Sync>(rt: &T, alloc: Global) -> Result<String, Fail> {
     let mut state = MemDisk::of(alloc, &[], &[])?;
-    let mut text = said(alloc, "session b s --list", SUMS, SCRIPT, &mut state)?;
-    text.push_str(shown(alloc, "explain b s total sum", SUMS, &mut state)?.as_str())?;
+    let mut text = said(rt, alloc, "session b s --list", SUMS, SCRIPT, &mut state)?;
+    text.push_str(shown(rt, alloc, "explain b s total sum", SUMS, &mut state)?.as_str())?;
     Ok(text)
 }
 
@@ -171,7 +174,7 @@ const REPLIES: &str =
 /// run finds.
 #[test]
 fn a_session_answers_its_lines(rt: HostRuntime) -> Result<(), Fail> {
-    let text = session(rt.alloc())?;
+    let text = session(&rt, rt.alloc())?;
     assert_eq!(rt; text.as_str(), REPLIES);
     Ok(())
 }

@@ -22,17 +22,22 @@ use carte_explain::RebuilderKind;
 use carte_rebuild::{PlanFault, Work};
 use carte_value::{Digest, Names, NoMemory};
 use carte_verify::Verify;
+use carte_wave::Gate;
 use carte_words::{Rebuilder4, Scheduler4};
 use std::alloc::Global;
+use std::marker::Sync;
+use std::thread::Threads;
 
 /// The plan of a build by what the words choose, for whoever has the digest of the book's rules.
-pub(crate) fn plan_under(
+pub(crate) fn plan_under<G: Gate, T: Threads + Sync>(
+    rt: &T,
     alloc: Global,
     choices: Choices,
     engine: &mut Engine,
     book: &Book,
     rules: &Digest,
     targets: &Names,
+    gate: &G,
 ) -> Result<Plan, NoMemory>
     requires { rules.now ≡ rules_digest_of (book_view book.now) }
     ensures kept { engine.new ≡ engine.old }
@@ -40,14 +45,23 @@ pub(crate) fn plan_under(
     ensures plans { Under (kept_in engine.old) (book_view book.now)
         (IfOk result (IsPlan (scheduler_of choices.scheduler) (how_of choices.rebuilder) (kept_in engine.old) (book_view book.now) targets.now)) }
 {
-    let scheduler = scheduler_of(choices.scheduler);
+    let by = scheduler_of(choices.scheduler);
+    let workers = choices.workers;
     match choices.rebuilder {
-        Rebuilder4::Dirty => engine.plan_under(alloc, book, rules, &Dirty, scheduler, targets),
-        Rebuilder4::Verifying => engine.plan_under(alloc, book, rules, &Verify, scheduler, targets),
-        Rebuilder4::Constructive => {
-            engine.plan_under(alloc, book, rules, &Construct, scheduler, targets)
+        Rebuilder4::Dirty => {
+            engine.plan_under(rt, alloc, book, rules, &Dirty, by, workers, targets, gate)
         }
-        Rebuilder4::Deep => engine.plan_under(alloc, book, rules, &Deep, scheduler, targets),
+        Rebuilder4::Verifying => {
+            engine.plan_under(rt, alloc, book, rules, &Verify, by, workers, targets, gate)
+        }
+        Rebuilder4::Constructive => {
+            engine.plan_under(
+                rt, alloc, book, rules, &Construct, by, workers, targets, gate,
+            )
+        }
+        Rebuilder4::Deep => {
+            engine.plan_under(rt, alloc, book, rules, &Deep, by, workers, targets, gate)
+        }
     }
 }
 

@@ -19,8 +19,11 @@ use carte_record::Batch;
 use carte_report::{cleaned_line, stray_line};
 use carte_session::{Machine, StepEnd};
 use carte_value::{Digest, Names};
+use carte_wave::{Gate, NoGate};
 use carte_words::{Line, read_line};
 use std::alloc::Global;
+use std::marker::Sync;
+use std::thread::Threads;
 
 /// A book and what is kept, in memory, and how builds are made of them: what carries out the lines of a session. Edits stay
 /// in memory.
@@ -44,15 +47,16 @@ impl<D: Disk> Machine<D> for Shell {
 
     ghost goes_on = { λ shell. shell.engine.journal.broken ≡ false };
 
-    fn step(
+    fn step<T: Threads + Sync>(
         &mut self,
+        rt: &T,
         alloc: Global,
         disk: &mut D,
         number: usize,
         line: &[u8],
     ) -> Result<String, StepEnd> {
         match read_line(alloc, self.book.kind(), line)? {
-            Some(line) => match self.obey(alloc, disk, line) {
+            Some(line) => match self.obey(rt, alloc, disk, line, &NoGate) {
                 Ok(reply) => Ok(reply.text),
                 Err(end) => Err(end),
             },
@@ -83,12 +87,15 @@ impl Shell {
 
     /// Carries out a request over the disk that the engine was loaded from: the reply, or why there is none. Edits stay in memory.
     /// The reply is made before what it tells of is committed, so want of memory leaves all as it was. Where the disk failed the
-    /// engine is broken, and no further request may be made.
-    pub fn obey<D: Disk>(
+    /// engine is broken, and no further request may be made. Of several workers each has a thread of `rt`, and passes `gate`
+    /// before its part of a wave.
+    pub fn obey<D: Disk, G: Gate, T: Threads + Sync>(
         &mut self,
+        rt: &T,
         alloc: Global,
         disk: &mut D,
         line: Line,
+        gate: &G,
     ) -> Result<Reply, StepEnd>
         requires whole { self.old.engine.journal.broken ≡ false }
         requires named { NamesInput (book_view self.old.book).kind line }
@@ -99,7 +106,7 @@ impl Shell {
     {
         match line {
             Line::Set(name, value) => set_input(alloc, &mut self.book, &name, value),
-            Line::Build(targets) => self.build(alloc, disk, &targets),
+            Line::Build(targets) => self.build(rt, alloc, disk, &targets, gate),
             Line::Explain(targets) => {
                 let rules = known(alloc, &mut self.rules, &self.book)?;
                 let rebuilder = self.choices.rebuilder;
@@ -111,11 +118,13 @@ impl Shell {
         }
     }
 
-    fn build<D: Disk>(
+    fn build<D: Disk, G: Gate, T: Threads + Sync>(
         &mut self,
+        rt: &T,
         alloc: Global,
         disk: &mut D,
         targets: &Names,
+        gate: &G,
     ) -> Result<Reply, StepEnd>
         requires whole { self.old.engine.journal.broken ≡ false }
         ensures carried { MatchResult result
@@ -125,12 +134,14 @@ impl Shell {
     {
         let rules = known(alloc, &mut self.rules, &self.book)?;
         let Plan { batch, answer } = plan_under(
+            rt,
             alloc,
             self.choices,
             &mut self.engine,
             &self.book,
             &rules,
             targets,
+            gate,
         )?;
         let reply = build_reply(alloc, self.choices.list, targets, answer)?;
         match self.commit(alloc, disk, batch) {

@@ -12,7 +12,7 @@ pub use Rattle.carte_shell.specs.Chosen.{scheduler_of, how_of}
 
 -- for all builds of a run
 abbrev pub choices_of : Asked → Choices
-choices_of w = record { scheduler = w.scheduler; rebuilder = w.rebuilder; list = w.list }
+choices_of w = record { scheduler = w.scheduler; rebuilder = w.rebuilder; workers = w.workers; list = w.list }
 
 -- the book that bytes are, or why they are none, by the kind of book
 abbrev pub BookOfKind : Kind → List ℕ → Result Book BookFault → Type 0

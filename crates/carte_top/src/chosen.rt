@@ -11,6 +11,7 @@ pub(crate) fn choices_of(asked: &Words) -> Choices
     Choices {
         scheduler: asked.scheduler,
         rebuilder: asked.rebuilder,
+        workers: asked.workers,
         list: asked.list,
     }
 }

@@ -15,8 +15,11 @@ use carte_io::{Disk, Sink};
 use carte_report::{Status, keys_line};
 use carte_shell::Choices;
 use carte_value::{Names, NoMemory, Seeded};
+use carte_wave::Gate;
 use carte_words::{Line, Words};
 use std::alloc::Global;
+use std::marker::Sync;
+use std::thread::Threads;
 
 /// A generated book, the target of its build, and the line that stands in front of the reply.
 #[derive(Drop)]
@@ -27,12 +30,14 @@ struct Prepared {
 }
 
 /// Builds the last key of the generated book of the words' seed and count. No book is read.
-pub(crate) fn generate<D: Disk, O: Sink>(
+pub(crate) fn generate<D: Disk, O: Sink, G: Gate, T: Threads + Sync>(
+    rt: &T,
     alloc: Global,
     asked: &Words,
     state: &mut D,
     out: &mut O,
     hasher: Seeded,
+    gate: &G,
 ) -> Status
     requires least { 2 ≤ asked.now.count }
     requires most { asked.now.count ≤ 65536 }
@@ -42,17 +47,19 @@ pub(crate) fn generate<D: Disk, O: Sink>(
         result }
 {
     match prepare(alloc, asked.seed, asked.count, hasher) {
-        Ok(prepared) => build(alloc, choices_of(asked), prepared, state, out),
+        Ok(prepared) => build(rt, alloc, choices_of(asked), prepared, state, out, gate),
         Err(NoMemory) => Status::NoMemory,
     }
 }
 
-fn build<D: Disk, O: Sink>(
+fn build<D: Disk, O: Sink, G: Gate, T: Threads + Sync>(
+    rt: &T,
     alloc: Global,
     choices: Choices,
     prepared: Prepared,
     state: &mut D,
     out: &mut O,
+    gate: &G,
 ) -> Status
     ensures { RequestsOver 268435456 choices (book_view prepared.book) (build_line prepared.targets) (string_bytes prepared.front)
         (over_disk D.tells D.story D.faults state.old state.new)
@@ -65,7 +72,17 @@ fn build<D: Disk, O: Sink>(
         front,
     } = prepared;
     let line = Line::Build(targets);
-    one(alloc, choices, book, line, front.as_str(), state, out)
+    one(
+        rt,
+        alloc,
+        choices,
+        book,
+        line,
+        front.as_str(),
+        state,
+        out,
+        gate,
+    )
 }
 
 fn prepare(alloc: Global, seed: u64, count: u64, hasher: Seeded) -> Result<Prepared, NoMemory>

@@ -18,18 +18,23 @@ use carte_report::Status;
 use carte_session::SessionEnd;
 use carte_shell::{Choices, Reply, Shell};
 use carte_value::Seeded;
+use carte_wave::Gate;
 use carte_words::{Line, Words};
 use std::alloc::Global;
+use std::marker::Sync;
 use std::mem::forget;
+use std::thread::Threads;
 
 /// Builds the targets of the words.
-pub(crate) fn build<B: Source, D: Disk, O: Sink>(
+pub(crate) fn build<B: Source, D: Disk, O: Sink, G: Gate, T: Threads + Sync>(
+    rt: &T,
     alloc: Global,
     asked: Words,
     source: &mut B,
     state: &mut D,
     out: &mut O,
     hasher: Seeded,
+    gate: &G,
 ) -> Status
     ensures { Builds 268435456 asked
         (over_source B.tells B.state source.old source.new)
@@ -41,20 +46,22 @@ pub(crate) fn build<B: Source, D: Disk, O: Sink>(
     match load_book(alloc, asked.kind, source, hasher) {
         Ok(book) => {
             let line = Line::Build(asked.targets);
-            one(alloc, choices, book, line, "", state, out)
+            one(rt, alloc, choices, book, line, "", state, out, gate)
         }
         Err(status) => status,
     }
 }
 
 /// A line for each target of the words, of a build that lets rules wait for what they need. Nothing is written to the state.
-pub(crate) fn explain<B: Source, D: Disk, O: Sink>(
+pub(crate) fn explain<B: Source, D: Disk, O: Sink, G: Gate, T: Threads + Sync>(
+    rt: &T,
     alloc: Global,
     asked: Words,
     source: &mut B,
     state: &mut D,
     out: &mut O,
     hasher: Seeded,
+    gate: &G,
 ) -> Status
     ensures { Tells 268435456 asked
         (over_source B.tells B.state source.old source.new)
@@ -66,19 +73,21 @@ pub(crate) fn explain<B: Source, D: Disk, O: Sink>(
     match load_book(alloc, asked.kind, source, hasher) {
         Ok(book) => {
             let line = Line::Explain(asked.targets);
-            one(alloc, choices, book, line, "", state, out)
+            one(rt, alloc, choices, book, line, "", state, out, gate)
         }
         Err(status) => status,
     }
 }
 
 /// Clears the state, and says so. No book is read: an empty one stands in its place.
-pub(crate) fn clean<D: Disk, O: Sink>(
+pub(crate) fn clean<D: Disk, O: Sink, G: Gate, T: Threads + Sync>(
+    rt: &T,
     alloc: Global,
     asked: Words,
     state: &mut D,
     out: &mut O,
     hasher: Seeded,
+    gate: &G,
 ) -> Status
     ensures { Cleans 268435456
         (over_disk D.tells D.story D.faults state.old state.new)
@@ -86,12 +95,23 @@ pub(crate) fn clean<D: Disk, O: Sink>(
         result }
 {
     let book = Book::new(alloc, asked.kind, hasher);
-    one(alloc, choices_of(&asked), book, Line::Clean, "", state, out)
+    one(
+        rt,
+        alloc,
+        choices_of(&asked),
+        book,
+        Line::Clean,
+        "",
+        state,
+        out,
+        gate,
+    )
 }
 
 /// Opens a shell over the book and the state, and has it carry out the request. A text that is printed stands behind what is
 /// in front.
-pub(crate) fn one<D: Disk, O: Sink>(
+pub(crate) fn one<D: Disk, O: Sink, G: Gate, T: Threads + Sync>(
+    rt: &T,
     alloc: Global,
     choices: Choices,
     book: Book,
@@ -99,6 +119,7 @@ pub(crate) fn one<D: Disk, O: Sink>(
     front: &str,
     state: &mut D,
     out: &mut O,
+    gate: &G,
 ) -> Status
     requires { NamesInput (book_view book).kind line }
     ensures { RequestsOver 268435456 choices (book_view book) line front.now
@@ -108,7 +129,7 @@ pub(crate) fn one<D: Disk, O: Sink>(
 {
     match open(alloc, choices, book, state) {
         Ok(mut shell) => {
-            let status = request(alloc, &mut shell, line, front, state, out);
+            let status = request(rt, alloc, &mut shell, line, front, state, out, gate);
             // The process ends behind this: giving back what is kept, name by name, would only take time.
             forget(shell);
             status
@@ -117,13 +138,15 @@ pub(crate) fn one<D: Disk, O: Sink>(
     }
 }
 
-fn request<D: Disk, O: Sink>(
+fn request<D: Disk, O: Sink, G: Gate, T: Threads + Sync>(
+    rt: &T,
     alloc: Global,
     shell: &mut Shell,
     line: Line,
     front: &str,
     state: &mut D,
     out: &mut O,
+    gate: &G,
 ) -> Status
     requires whole { shell.old.engine.journal.broken ≡ false }
     requires named { NamesInput (book_view shell.old.book).kind line }
@@ -131,7 +154,7 @@ fn request<D: Disk, O: Sink>(
         (over_sink O.tells O.state out.old out.new)
         result }
 {
-    match shell.obey(alloc, state, line) {
+    match shell.obey(rt, alloc, state, line, gate) {
         Ok(reply) => show(front, reply, out),
         Err(end) => ended(SessionEnd::Machine(end)),
     }

@@ -17,11 +17,14 @@ use carte_shell::Shell;
 use carte_value::Seeded;
 use carte_words::Words;
 use std::alloc::Global;
+use std::marker::Sync;
+use std::thread::Threads;
 
 const MOST_SCRIPT: usize = 67108864;
 
 /// Carries out the lines of the script over the book and the state of the words. Edits of the book stay in memory.
-pub(crate) fn session<B: Source, S: Source, D: Disk, O: Sink>(
+pub(crate) fn session<B: Source, S: Source, D: Disk, O: Sink, T: Threads + Sync>(
+    rt: &T,
     alloc: Global,
     asked: &Words,
     source: &mut B,
@@ -38,12 +41,13 @@ pub(crate) fn session<B: Source, S: Source, D: Disk, O: Sink>(
         result }
 {
     match load_book(alloc, asked.kind, source, hasher) {
-        Ok(book) => session_over(alloc, asked, book, script, state, out),
+        Ok(book) => session_over(rt, alloc, asked, book, script, state, out),
         Err(status) => status,
     }
 }
 
-fn session_over<S: Source, D: Disk, O: Sink>(
+fn session_over<S: Source, D: Disk, O: Sink, T: Threads + Sync>(
+    rt: &T,
     alloc: Global,
     asked: &Words,
     book: Book,
@@ -58,12 +62,13 @@ fn session_over<S: Source, D: Disk, O: Sink>(
         result }
 {
     match open(alloc, choices_of(asked), book, state) {
-        Ok(mut shell) => session_with(alloc, &mut shell, script, state, out),
+        Ok(mut shell) => session_with(rt, alloc, &mut shell, script, state, out),
         Err(status) => status,
     }
 }
 
-fn session_with<S: Source, D: Disk, O: Sink>(
+fn session_with<S: Source, D: Disk, O: Sink, T: Threads + Sync>(
+    rt: &T,
     alloc: Global,
     shell: &mut Shell,
     script: &mut S,
@@ -76,7 +81,7 @@ fn session_with<S: Source, D: Disk, O: Sink>(
         (over_sink O.tells O.state out.old out.new)
         result }
 {
-    match run_session(alloc, script, shell, state, out, MOST_SCRIPT) {
+    match run_session(rt, alloc, script, shell, state, out, MOST_SCRIPT) {
         Ok(()) => Status::Done,
         Err(end) => ended(end),
     }

@@ -11,8 +11,11 @@ use crate::session::session;
 use carte_io::{Disk, Sink, Source};
 use carte_report::Status;
 use carte_value::Seeded;
+use carte_wave::Gate;
 use carte_words::{Command, Word, Words, WordsFault, read_words};
 use std::alloc::Global;
+use std::marker::Sync;
+use std::thread::Threads;
 
 /// All that the program does: reads the command in the words; builds the targets over the book and what the state's disk
 /// keeps, or tells why they would run, or carries out the lines of the script, or clears the state, or builds the last key
@@ -22,8 +25,10 @@ use std::alloc::Global;
 /// is limited to 268,435,456 bytes. No call of the disk is made before the words and the book were read. The script is read
 /// by a session alone, behind the book and the state, up to 67,108,864 bytes.
 ///
-/// The maps of names are made with `hasher`, on which nothing that is answered depends.
-pub fn carte<B: Source, S: Source, D: Disk, O: Sink, E: Sink>(
+/// The maps of names are made with `hasher`, on which nothing that is answered depends. Nor does anything depend on `rt`, of
+/// which a build by several workers has its threads, and on `gate`, which each passes before its part of a wave.
+pub fn carte<B: Source, S: Source, D: Disk, O: Sink, E: Sink, G: Gate, T: Threads + Sync>(
+    rt: &T,
     alloc: Global,
     words: &[Word],
     book: &mut B,
@@ -32,6 +37,7 @@ pub fn carte<B: Source, S: Source, D: Disk, O: Sink, E: Sink>(
     out: &mut O,
     err: &mut E,
     hasher: Seeded,
+    gate: &G,
 ) -> Status
     ensures { IsOutcome 268435456
         (record {
@@ -44,11 +50,12 @@ pub fn carte<B: Source, S: Source, D: Disk, O: Sink, E: Sink>(
         })
         result }
 {
-    let status = run(alloc, words, book, script, state, out, hasher);
+    let status = run(rt, alloc, words, book, script, state, out, hasher, gate);
     report(alloc, err, status)
 }
 
-fn run<B: Source, S: Source, D: Disk, O: Sink>(
+fn run<B: Source, S: Source, D: Disk, O: Sink, G: Gate, T: Threads + Sync>(
+    rt: &T,
     alloc: Global,
     words: &[Word],
     book: &mut B,
@@ -56,6 +63,7 @@ fn run<B: Source, S: Source, D: Disk, O: Sink>(
     state: &mut D,
     out: &mut O,
     hasher: Seeded,
+    gate: &G,
 ) -> Status
     ensures { IsRun 268435456 words.now
         (over_source B.tells B.state book.old book.new)
@@ -65,7 +73,7 @@ fn run<B: Source, S: Source, D: Disk, O: Sink>(
         result }
 {
     match read_words(alloc, words) {
-        Ok(asked) => command(alloc, asked, book, script, state, out, hasher),
+        Ok(asked) => command(rt, alloc, asked, book, script, state, out, hasher, gate),
         Err(fault) => usage(fault),
     }
 }
@@ -79,7 +87,8 @@ fn usage(fault: WordsFault) -> Status
     }
 }
 
-fn command<B: Source, S: Source, D: Disk, O: Sink>(
+fn command<B: Source, S: Source, D: Disk, O: Sink, G: Gate, T: Threads + Sync>(
+    rt: &T,
     alloc: Global,
     asked: Words,
     book: &mut B,
@@ -87,6 +96,7 @@ fn command<B: Source, S: Source, D: Disk, O: Sink>(
     state: &mut D,
     out: &mut O,
     hasher: Seeded,
+    gate: &G,
 ) -> Status
     requires { IsCounted asked }
     ensures { Runs 268435456 asked
@@ -97,10 +107,10 @@ fn command<B: Source, S: Source, D: Disk, O: Sink>(
         result }
 {
     match asked.command {
-        Command::Build => build(alloc, asked, book, state, out, hasher),
-        Command::Session => session(alloc, &asked, book, script, state, out, hasher),
-        Command::Explain => explain(alloc, asked, book, state, out, hasher),
-        Command::Clean => clean(alloc, asked, state, out, hasher),
-        Command::Generate => generate(alloc, &asked, state, out, hasher),
+        Command::Build => build(rt, alloc, asked, book, state, out, hasher, gate),
+        Command::Session => session(rt, alloc, &asked, book, script, state, out, hasher),
+        Command::Explain => explain(rt, alloc, asked, book, state, out, hasher, gate),
+        Command::Clean => clean(rt, alloc, asked, state, out, hasher, gate),
+        Command::Generate => generate(rt, alloc, &asked, state, out, hasher, gate),
     }
 }

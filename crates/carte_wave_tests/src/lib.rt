@@ -8,4 +8,6 @@
 #[cfg(test)]
 mod gates;
 #[cfg(test)]
+mod program;
+#[cfg(test)]
 mod waves;

@@ -4,11 +4,14 @@ use crate::top::SUMS;
 use crate::top::runs::code_of;
 use carte_io::{MemDisk, MemSink, MemSource};
 use std::alloc::Global;
+use std::marker::Sync;
 use std::str;
 use std::test::Fail;
+use std::thread::Threads;
 
 /// What a run shows whose book, state, reply or error line fails at such a call.
-fn failing(
+fn failing<T: Threads + Sync>(
+    rt: &T,
     alloc: Global,
     words: &str,
     read: u64,
@@ -22,6 +25,7 @@ fn failing(
     let mut out = MemSink::new(alloc, 8, &[write])?;
     let mut err = MemSink::new(alloc, 8, &[line])?;
     let code = code_of(
+        rt,
         alloc,
         words,
         &mut book,
@@ -72,7 +76,7 @@ const CASES: [(&str, u64, u64, u64, u64, &str); 13] = [
 #[test]
 fn each_call_may_fail(rt: HostRuntime) -> Result<(), Fail> {
     for (words, read, disk, write, line, want) in CASES {
-        let text = failing(rt.alloc(), words, read, disk, write, line)?;
+        let text = failing(&rt, rt.alloc(), words, read, disk, write, line)?;
         assert_eq!(rt; text.as_str(), want, "{words}");
     }
     Ok(())

@@ -5,25 +5,25 @@ use Rattle.carte_rebuild.proofs.Crossing.{tries_send, tries_sync}
 use Rattle.carte_build_tests.proofs.engine.by.Goals as goal
 
 pub in_a_row-requires-send-R-Job : goal.in_a_row-requires-send-R-Job
-in_a_row-requires-send-R-Job c κs = search (sendable, tries_send, deep_send)
+in_a_row-requires-send-R-Job g c κs = search (sendable, tries_send, deep_send)
 
 pub in_a_row-requires-sync-R-Job : goal.in_a_row-requires-sync-R-Job
-in_a_row-requires-sync-R-Job c κs = search (sendable, tries_sync, deep_sync)
+in_a_row-requires-sync-R-Job g c κs = search (sendable, tries_sync, deep_sync)
 
 pub in_a_row-requires-in-1-send-R-Job : goal.in_a_row-requires-in-1-send-R-Job
-in_a_row-requires-in-1-send-R-Job c κs = search (sendable, tries_send, deep_send)
+in_a_row-requires-in-1-send-R-Job g c κs = search (sendable, tries_send, deep_send)
 
 pub in_a_row-requires-in-1-sync-R-Job : goal.in_a_row-requires-in-1-sync-R-Job
-in_a_row-requires-in-1-sync-R-Job c κs = search (sendable, tries_sync, deep_sync)
+in_a_row-requires-in-1-sync-R-Job g c κs = search (sendable, tries_sync, deep_sync)
 
 pub in_a_row-requires-in-2-send-R-Job : goal.in_a_row-requires-in-2-send-R-Job
-in_a_row-requires-in-2-send-R-Job c κs = search (sendable, tries_send, deep_send)
+in_a_row-requires-in-2-send-R-Job g c κs = search (sendable, tries_send, deep_send)
 
 pub in_a_row-requires-in-2-sync-R-Job : goal.in_a_row-requires-in-2-sync-R-Job
-in_a_row-requires-in-2-sync-R-Job c κs = search (sendable, tries_sync, deep_sync)
+in_a_row-requires-in-2-sync-R-Job g c κs = search (sendable, tries_sync, deep_sync)
 
 pub in_a_row-requires-in_default-send-R-Job : goal.in_a_row-requires-in_default-send-R-Job
-in_a_row-requires-in_default-send-R-Job c κs = search (sendable, tries_send, deep_send)
+in_a_row-requires-in_default-send-R-Job g c κs = search (sendable, tries_send, deep_send)
 
 pub in_a_row-requires-in_default-sync-R-Job : goal.in_a_row-requires-in_default-sync-R-Job
-in_a_row-requires-in_default-sync-R-Job c κs = search (sendable, tries_sync, deep_sync)
+in_a_row-requires-in_default-sync-R-Job g c κs = search (sendable, tries_sync, deep_sync)

@@ -5,25 +5,25 @@ use Rattle.carte_deep.proofs.Crossing.{deep_send, deep_sync}
 use Rattle.carte_shell.proofs.chosen.plan_under.Goals as goal
 
 pub plan_under-requires-send-R-Job : goal.plan_under-requires-send-R-Job
-plan_under-requires-send-R-Job c κs = search (sendable, tries_send)
+plan_under-requires-send-R-Job g c κs = search (sendable, tries_send)
 
 pub plan_under-requires-sync-R-Job : goal.plan_under-requires-sync-R-Job
-plan_under-requires-sync-R-Job c κs = search (sendable, tries_sync)
+plan_under-requires-sync-R-Job g c κs = search (sendable, tries_sync)
 
 pub plan_under-requires-in-Verifying-send-R-Job : goal.plan_under-requires-in-Verifying-send-R-Job
-plan_under-requires-in-Verifying-send-R-Job c κs = search (sendable, tries_send)
+plan_under-requires-in-Verifying-send-R-Job g c κs = search (sendable, tries_send)
 
 pub plan_under-requires-in-Verifying-sync-R-Job : goal.plan_under-requires-in-Verifying-sync-R-Job
-plan_under-requires-in-Verifying-sync-R-Job c κs = search (sendable, tries_sync)
+plan_under-requires-in-Verifying-sync-R-Job g c κs = search (sendable, tries_sync)
 
 pub plan_under-requires-in-Constructive-send-R-Job : goal.plan_under-requires-in-Constructive-send-R-Job
-plan_under-requires-in-Constructive-send-R-Job c κs = search (sendable, tries_send)
+plan_under-requires-in-Constructive-send-R-Job g c κs = search (sendable, tries_send)
 
 pub plan_under-requires-in-Constructive-sync-R-Job : goal.plan_under-requires-in-Constructive-sync-R-Job
-plan_under-requires-in-Constructive-sync-R-Job c κs = search (sendable, tries_sync)
+plan_under-requires-in-Constructive-sync-R-Job g c κs = search (sendable, tries_sync)
 
 pub plan_under-requires-in-Deep-send-R-Job : goal.plan_under-requires-in-Deep-send-R-Job
-plan_under-requires-in-Deep-send-R-Job c κs = search (sendable, deep_send)
+plan_under-requires-in-Deep-send-R-Job g c κs = search (sendable, deep_send)
 
 pub plan_under-requires-in-Deep-sync-R-Job : goal.plan_under-requires-in-Deep-sync-R-Job
-plan_under-requires-in-Deep-sync-R-Job c κs = search (sendable, deep_sync)
+plan_under-requires-in-Deep-sync-R-Job g c κs = search (sendable, deep_sync)

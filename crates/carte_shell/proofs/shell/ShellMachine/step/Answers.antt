@@ -29,6 +29,6 @@ returns-in-Err-clause-carried g c =
     (at_err c.obey.result c.in-Err.end _ _ c.in-Err.is c.obey.ensures.carried)
 
 pub obey-requires-clause-named : goal.obey-requires-clause-named
-obey-requires-clause-named g c =
+obey-requires-clause-named g c κs within =
     names_input _ c.in-Some.line (subst (λ kind. LineNamed kind c.in-Some.line) c.kind.ensures
     (subst (λ o. IfSome o (λ l. LineNamed c.kind.result l)) c.in-Some.is (c.in_ok-line.ensures {u = tt}).names))
