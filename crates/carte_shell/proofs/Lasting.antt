@@ -60,9 +60,9 @@ module _ (tells : Type 0) where
 
   not_answered : (m m' : Scene) (n : ℕ) (bytes : List ℕ) (end : StepEnd) → Ends tells m n bytes end m' → ¬ (Rose m.faults m'.faults)
       → ((l : Line) (B : Batch) (base : Stand) → Means m.book.kind bytes l → Brings m l B → IsBase m.stand B base → HasRoom base B) → IsDoneOrShort (Err (Machine end))
-  not_answered m m' n bytes end (inl none) no fits = subst (λ (e : StepEnd). IsDoneOrShort (Err (Machine e))) (sym none.0) tt
-  not_answered m m' n bytes end (inr (l, means, inl none)) no fits = subst (λ (e : StepEnd). IsDoneOrShort (Err (Machine e))) (sym none.0) tt
-  not_answered m m' n bytes end (inr (l, means, inr (B, brings, stops))) no fits = stopped m m' B end stops no (λ base is. fits l B base means brings is)
+  not_answered m m' n bytes end (inl none) unfailed fits = subst (λ (e : StepEnd). IsDoneOrShort (Err (Machine e))) (sym none.0) tt
+  not_answered m m' n bytes end (inr (l, means, inl none)) unfailed fits = subst (λ (e : StepEnd). IsDoneOrShort (Err (Machine e))) (sym none.0) tt
+  not_answered m m' n bytes end (inr (l, means, inr (B, brings, stops))) unfailed fits = stopped m m' B end stops unfailed (λ base is. fits l B base means brings is)
 
 -- the next line of what was read, where the end is told
 told_next : (read line : List ℕ) (lines : List (List ℕ)) (most : ℕ) (Told AtEnd : Type 0) → Told → IsNext read lines line most (Told → AtEnd) → IsNext read lines line most AtEnd

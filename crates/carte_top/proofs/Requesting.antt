@@ -123,12 +123,12 @@ module _ (limit : ℕ) (x : Choices) (b : Book) (d : OverDisk) (m m' : Scene) (o
   settled_here : d.tells → IsSettled d.old.now → IsSettled m.story.now
   settled_here told settled = subst (λ (u : Story). IsSettled u.now) (sym (opens.story told)) settled
 
-  found_as : IsFoundAs limit d (kept_in m.stand)
+  abbrev found_as : IsFoundAs limit d (kept_in m.stand)
   found_as = record { stand = m.stand; loaded = opens.loaded; limit_is = opens.limit_is; keeps = refl }
 
   module _ (B : Batch) where
     -- how the state stood when the batch was put
-    readied : (result : Result (Unit {0}) ApplyFault) → Follows (disk_between d.tells m m') m.stand m'.stand B result → IsReadied limit d (kept_in m.stand) B
+    abbrev readied : (result : Result (Unit {0}) ApplyFault) → Follows (disk_between d.tells m m') m.stand m'.stand B result → IsReadied limit d (kept_in m.stand) B
     readied result f = record {
       found = found_as;
       base = f.base;
@@ -157,7 +157,7 @@ module _ (limit : ℕ) (x : Choices) (b : Book) (d : OverDisk) (m m' : Scene) (o
         (λ told on. subst (λ (u : Story). IsKeptOn m'.stand u) last (f.applies.comes.rest told on))
         (λ told. subst (λ (u : Story). u.now.passed ≡ f.between.now.passed + calls_for f.base.journal B) last (f.applies.comes.calls told))
         (stands (Ok tt) f)
-    put_behind (inr (fault, is, no)) = cc
+    put_behind (inr (fault, is, unready)) = cc
 
     put : Puts d.tells m m' B → IsPut limit d (kept_in m.stand) B
     put puts = put_behind puts.commits

@@ -26,7 +26,7 @@ returns-in-Ok g c =
 
 pub returns-in-Err : goal.returns-in-Err
 returns-in-Err g c = record {
-  did = ((refl, refl, refl), λ told. refl);
+  did = ((refl, refl, refl), inl (λ told. refl));
   visits = inl (record { same = refl; story = refl; faults = refl });
   disk = refl;
   sink = refl;
