@@ -289,16 +289,24 @@ def traced(runs, words):
     return done.returncode, calls
 
 
+def torn(old, piece, pick, chance):
+    """What may stand in a range that was written and not synced."""
+    if pick in ("front", "back"):
+        middle = len(piece) // 2
+        return piece[:middle] + old[middle:] if pick == "front" else old[:middle] + piece[middle:]
+    return {"before": old, "any": chance.randbytes(len(piece))}.get(pick) or bytes([pick]) * len(piece)
+
+
 def images(before, calls):
-    """What a crash at each call may leave: written ranges as before, as written, or with one byte everywhere, and cut at any end."""
-    now, synced, ranges = before, before, []
+    """What a crash at each call may leave: written ranges as before, as written, half of each, with one byte everywhere or any, and cut."""
+    now, synced, ranges, chance = before, before, [], random.Random(1)
     for call in [*calls, None]:
-        for pick in (None, 0, 1, 255):
-            image = bytearray(now)
+        for pick in ("before", "front", "back", 0, 1, 255, "any", "any", "any") if ranges else ():
+            image = now
             for at, piece in ranges:
-                old = synced[at : at + len(piece)]
-                image[at : at + len(piece)] = old if pick is None else bytes([pick]) * len(piece)
-            yield bytes(image)
+                old = synced[at : at + len(piece)].ljust(len(piece), b"\0")
+                image = states.put(image, at, torn(old, piece, pick, chance))
+            yield image
         yield now
         if ranges:
             yield now[: max(len(synced), (len(now) + len(synced)) // 2)]
