@@ -21,42 +21,45 @@ use Rattle.carte_compact.specs.Live.{chain_for, entry_at, found_at, keys_of, lin
 
 -- ---- sums over names
 
-sum_of : (List ℕ → ℕ) → List (List ℕ) → ℕ
+abbrev sum_of : (List ℕ → ℕ) → List (List ℕ) → ℕ
 sum_of w [] = 0
 sum_of w (n ∷ ns) = w n + sum_of w ns
 
-without : List ℕ → List (List ℕ) → List (List ℕ)
+abbrev without : List ℕ → List (List ℕ) → List (List ℕ)
 without k [] = []
 without k (n ∷ ns) = if name_eq k n then ns else n ∷ without k ns
 
 sum_without : (w : List ℕ → ℕ) (k : List ℕ) (ns : List (List ℕ)) → Among ns k → sum_of w ns ≡ w k + sum_of w (without k ns)
 sum_without w k [] nowhere = absurd nowhere
-sum_without w k (n ∷ ns) there = on (name_eq k n) refl there
+sum_without w k (n ∷ ns) there = on (name_eq k n) refl (λ later. sum_without w k ns later) there
   where
-    on : (b : Bool) → name_eq k n ≡ b → (k ≡ n) ⊎ Among ns k → w n + sum_of w ns ≡ w k + sum_of w (if b then ns else n ∷ without k ns)
-    on true same any = ap (λ j. w j + sum_of w ns) (sym (name_eq_is k n same))
-    on false apart (inl is) = absurd (let clash : true ≡ false = sym (name_eq_self k) ∙ ap (name_eq k) is ∙ apart in cc)
-    on false apart (inr later) = omega (arith, sum_without w k ns later)
+    on : (b : Bool) → name_eq k n ≡ b → (Among ns k → sum_of w ns ≡ w k + sum_of w (without k ns)) → (k ≡ n) ⊎ Among ns k → w n + sum_of w ns ≡ w k + sum_of w (if b then ns else n ∷ without k ns)
+    on true same rest any = ap (λ j. w j + sum_of w ns) (sym (name_eq_is k n same))
+    on false apart rest (inl is) = absurd (let clash : true ≡ false = sym (name_eq_self k) ∙ ap (name_eq k) is ∙ apart in cc)
+    on false apart rest (inr later) = omega (arith, rest later)
 
 among_without : (k q : List ℕ) (ns : List (List ℕ)) → name_eq k q ≡ false → Among ns q → Among (without k ns) q
 among_without k q [] apart nowhere = nowhere
-among_without k q (n ∷ ns) apart there = on (name_eq k n) refl there
+among_without k q (n ∷ ns) apart there = on (name_eq k n) refl (λ later. among_without k q ns apart later) there
   where
-    on : (b : Bool) → name_eq k n ≡ b → (q ≡ n) ⊎ Among ns q → Among (if b then ns else n ∷ without k ns) q
-    on true same (inl is) = absurd (let clash : true ≡ false = sym same ∙ ap (name_eq k) (sym is) ∙ apart in cc)
-    on true same (inr later) = later
-    on false other (inl is) = inl is
-    on false other (inr later) = inr (among_without k q ns apart later)
+    on : (b : Bool) → name_eq k n ≡ b → (Among ns q → Among (without k ns) q) → (q ≡ n) ⊎ Among ns q → Among (if b then ns else n ∷ without k ns) q
+    on true same rest (inl is) = absurd (let clash : true ≡ false = sym same ∙ ap (name_eq k) (sym is) ∙ apart in cc)
+    on true same rest (inr later) = later
+    on false other rest (inl is) = inl is
+    on false other rest (inr later) = inr (rest later)
 
 each_apart : (k q : List ℕ) (ks : List (List ℕ)) → AllByRecursion (λ j. name_eq k j ≡ false) ks → Among ks q → name_eq k q ≡ false
 each_apart k q [] all nowhere = absurd nowhere
 each_apart k q (j ∷ js) all (inl is) = ap (name_eq k) is ∙ all.0
 each_apart k q (j ∷ js) all (inr later) = each_apart k q js all.1 later
 
+zero_least : (n : ℕ) → 0 ≤ n
+zero_least n = omega arith
+
 -- distinct names that all stand in a list come to no more than the list
 fewer : (w : List ℕ → ℕ) (ks ns : List (List ℕ)) → IsDistinct name_eq ks → ((q : List ℕ) → Among ks q → Among ns q) → sum_of w ks ≤ sum_of w ns
 unfolding IsDistinct
-fewer w [] ns distinct into = omega arith
+fewer w [] ns distinct into = zero_least (sum_of w ns)
 fewer w (k ∷ ks) ns distinct into =
     let rest = fewer w ks (without k ns) distinct.1 (λ q there. among_without k q ns (each_apart k q ks distinct.0 there) (into q (inr there))) in
     omega (arith, rest, sum_without w k ns (into k (inl refl)))
@@ -73,10 +76,13 @@ unfolding IsDistinct
 each_found key [] distinct = tt
 each_found key (x ∷ xs) distinct = (rw (name_eq_self (key x)) refl, passed_by key x xs xs (each_found key xs distinct.1) distinct.0)
 
+nothing_before : (n : ℕ) → n ≡ 0 + n
+nothing_before n = omega arith
+
 -- ---- what is found takes as much as the items
 
 module _ {A : Type 0} (key : A → List ℕ) (spelled : A → List ℕ) (f : List ℕ → Option A) where
-  long : List ℕ → ℕ
+  abbrev long : List ℕ → ℕ
   long n = length (flat_map spelled (put (f n) []))
 
   found_sum : (ns : List (List ℕ)) → length (flat_map spelled (found_at f ns)) ≡ sum_of long ns
@@ -84,7 +90,7 @@ module _ {A : Type 0} (key : A → List ℕ) (spelled : A → List ℕ) (f : Lis
   found_sum (n ∷ ns) = on (f n) ∙ ap (λ m. long n + m) (found_sum ns)
     where
       on : (o : Option A) → length (flat_map spelled (put o (found_at f ns))) ≡ length (flat_map spelled (put o [])) + length (flat_map spelled (found_at f ns))
-      on None = refl
+      on None = nothing_before (length (flat_map spelled (found_at f ns)))
       on (Some x) = omega (arith, length-append (spelled x) (flat_map spelled (found_at f ns)), length-append (spelled x) [])
 
   items_sum : (xs : List A) → AllByRecursion (λ x. length (spelled x) ≡ long (key x)) xs → length (flat_map spelled xs) ≡ sum_of long (map key xs)
