@@ -7,10 +7,10 @@ use Rattle.carte_top.proofs.Requesting.{opened_on}
 use Rattle.carte_top.proofs.one.one.Goals as goal
 
 pub request-status-requires-clause-whole : goal.request-status-requires-clause-whole
-request-status-requires-clause-whole g c = c.in-Ok.ensures.whole
+request-status-requires-clause-whole g c κs within = c.in-Ok.ensures.whole
 
 pub request-status-requires-clause-named : goal.request-status-requires-clause-named
-request-status-requires-clause-named g c = subst (λ (b : Book). NamesInput b.kind c.args.line) (sym c.in-Ok.ensures.book) c.requires
+request-status-requires-clause-named g c κs within = subst (λ (b : Book). NamesInput b.kind c.args.line) (sym c.in-Ok.ensures.book) c.requires
 
 pub returns-in-Ok : goal.returns-in-Ok
 returns-in-Ok g c = inr (

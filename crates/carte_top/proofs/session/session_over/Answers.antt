@@ -11,7 +11,7 @@ use Rattle.carte_top.proofs.Sounds.{stays_unbegun}
 use Rattle.carte_top.proofs.session.session_over.Goals as goal
 
 pub session_with-requires : goal.session_with-requires
-session_with-requires g c = record { whole = c.in-Ok.ensures.whole }
+session_with-requires g c = (c.type_bounds.sync-T, c.in-Ok.ensures.whole)
 
 pub returns-in-Ok : goal.returns-in-Ok
 returns-in-Ok g c =

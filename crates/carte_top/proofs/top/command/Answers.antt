@@ -33,10 +33,10 @@ returns-in-Clean g c =
     (record { bytes = []; has = omega arith; first = λ told. refl }) c.clean.ensures
 
 pub generate-requires-clause-least : goal.generate-requires-clause-least
-generate-requires-clause-least g c = (c.requires c.in-Generate.is).0
+generate-requires-clause-least g c κs within = (c.requires c.in-Generate.is).0
 
 pub generate-requires-clause-most : goal.generate-requires-clause-most
-generate-requires-clause-most g c = (c.requires c.in-Generate.is).1
+generate-requires-clause-most g c κs within = (c.requires c.in-Generate.is).1
 
 pub returns-in-Generate : goal.returns-in-Generate
 returns-in-Generate g c =

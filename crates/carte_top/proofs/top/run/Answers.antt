@@ -19,4 +19,4 @@ returns-in-Err g c =
     (refl, refl) (refl, refl) (record { same = refl; story = refl; faults = refl }) (refl, refl, refl) (record { bytes = []; has = omega arith; first = λ told. refl }))
 
 pub command-requires : goal.command-requires
-command-requires g c = c.in-Ok.ensures.count
+command-requires g c = (c.type_bounds.sync-G, (c.type_bounds.sync-T, c.in-Ok.ensures.count))
