@@ -204,7 +204,7 @@ fn several_workers_build_as_one(rt: HostRuntime) -> Result<(), Fail> {
 #[test]
 fn each_rebuilder_begins_anew(rt: HostRuntime) -> Result<(), Fail> {
     for (at, want) in RESTARTING.iter().enumerate() {
-        let text = by(rt.alloc(), at, Scheduler::Restarting)?;
+        let text = by(&rt, rt.alloc(), at, Scheduler::Restarting, 1)?;
         assert_eq!(rt; text.as_str(), *want, "{at}");
     }
     Ok(())
