@@ -59,13 +59,15 @@ def kept_of(data):
 
 
 def follows(runs, what, before, after):
-    """A build or a clearing has left just the bytes that it had to; whether it rewrote the file, and the length of the live bytes."""
+    """A build or a clearing has left just the bytes that it had to; whether it rewrote the file."""
     if after == before:
         runs.same(what, True, True)
         return False
-    wanted, is_due = states.predicted(before, states.read(after).bodies[-1][1])
-    runs.same(what, after == wanted, True)
-    return is_due
+    bodies = [body for _, body in states.read(after).bodies]
+    found = (states.predicted_all(before, bodies[-count:]) for count in range(1, len(bodies) + 1))
+    is_turned = next((turned for data, turned in found if data == after), None)
+    runs.same(what, is_turned is None, False)
+    return bool(is_turned)
 
 
 # By hand

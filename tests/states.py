@@ -2,7 +2,8 @@
 
 Written from docs/STATE.md and docs/STATE-BATCHES.md alone; it shares no code with the program. `read` gives where the bodies of a
 file stand, or raises BadState with an offset; `fold` what they keep; `live` the batches that say the same. `committed` and `rewritten`
-give the bytes of the file behind a commit of a body and behind a rewriting, and `predicted` those behind both, where a rewriting is due.
+give the bytes of the file behind a commit of a body and behind a rewriting, `predicted` those behind both, where a rewriting is due, and
+`predicted_all` those behind all commits of a build.
 """
 from dataclasses import dataclass, field
 
@@ -200,15 +201,24 @@ def committed(data, body):
     return put(put(data, gate + 1, len(body).to_bytes(4, "big") + body + b"\0"), gate, b"\1")
 
 
-def is_due(layout, body, limit=LIMIT):
-    """Whether the file is rewritten before a commit of the body."""
+def is_due(layout, body, limit=LIMIT, first=True):
+    """Whether the file is rewritten before a commit of the body; for its size alone it is so before the first one of a build."""
     long = len(region(live(fold(layout))))
     is_possible = layout.bodies and place_of(layout, long) + long <= limit
     is_over, is_large = layout.gate + 6 + len(body) > limit, layout.size > WIDE and layout.size > 2 * long
-    return bool(is_possible and (is_over or is_large))
+    return bool(is_possible and (is_over or first and is_large))
 
 
-def predicted(before, body, limit=LIMIT):
+def predicted(before, body, limit=LIMIT, first=True):
     """The file behind a commit of the body, and whether it is rewritten first."""
-    due = is_due(read(before), body, limit)
+    due = is_due(read(before), body, limit, first)
     return committed(rewritten(before) if due else before, body), due
+
+
+def predicted_all(before, bodies, limit=LIMIT):
+    """The file behind commits of these one after another, and whether it was rewritten before one of them."""
+    turned = False
+    for at, body in enumerate(bodies):
+        before, due = predicted(before, body, limit, at == 0)
+        turned |= due
+    return before, turned
