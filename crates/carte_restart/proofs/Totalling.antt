@@ -1,11 +1,10 @@
 -- Lists of names that are counted name by name.
-use Rattle.std.proofs.Common.{◌≡◌, ◌⊎◌, ℕ, ◌+◌, ◌≤◌, Bool, true, false, cond, if◌then◌else◌, List, [], ◌∷◌, length, refl, sym, ◌∙◌, ap, subst, arith, inl, inr}
+use Rattle.std.proofs.Common.{◌≡◌, ℕ, ◌+◌, ◌≤◌, true, false, if◌then◌else◌, List, [], ◌∷◌, length, refl, sym, subst, arith, inl, inr}
 use Rattle.std.specs.Cmp.Lexicographic.{nat_list_eq_equiv}
 use Rattle.carte_name.specs.Names.{name_eq}
-use Rattle.carte_effect.specs.Ledger.{Ledger}
 use Rattle.carte_value.specs.Truths.{Among, NoneTwice}
 use Rattle.carte_value.proofs.Members.{name_apart}
-use Rattle.carte_rebuild.specs.Ends.{GivenUpAtMost, times}
+use Rattle.carte_rebuild.specs.Ends.{times}
 use Rattle.carte_restart.specs.Totals.{AreFewInAll, total}
 
 -- one where it is this name
@@ -14,7 +13,7 @@ one_at x k = if name_eq k x then 1 else 0
 
 total_none : (ks : List (List ℕ)) → total (λ k. 0) ks ≡ 0
 total_none [] = refl
-total_none (k ∷ ks) = total_none ks
+total_none (k ∷ ks) = omega (arith, total_none ks)
 
 total_both : (f g : List ℕ → ℕ) (ks : List (List ℕ)) → total (λ k. f k + g k) ks ≡ total f ks + total g ks
 total_both f g [] = refl
@@ -39,6 +38,7 @@ one_of_others x (k ∷ ks) none =
 
 -- a name stands once in a list in which none stands twice
 one_among : (x : List ℕ) (ks : List (List ℕ)) → NoneTwice ks → Among ks x → total (one_at x) ks ≡ 1
+one_among x [] once among = absurd among
 one_among x (k ∷ ks) once (inl same) =
     let here : one_at x k ≡ 1 = subst (λ j. one_at x j ≡ 1) same (one_here x) in
     let others = one_of_others x ks (λ among. once.0 (subst (Among ks) same among)) in

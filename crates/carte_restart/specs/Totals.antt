@@ -1,5 +1,5 @@
 -- What is counted of each of some names, all together.
-use Rattle.std.specs.Prelude.{ℕ, ◌≡◌, ◌≤◌, ◌+◌, List, [], ◌∷◌}
+use Rattle.std.specs.Prelude.{ℕ, ◌≤◌, ◌+◌, List, [], ◌∷◌}
 use Rattle.carte_effect.specs.Ledger.{Ledger, given_up}
 use Rattle.carte_value.specs.Truths.{Among, NoneTwice}
 use Rattle.carte_rebuild.specs.Ends.{GivenUpAtMost}
