@@ -79,16 +79,26 @@ fn can_turn(state: &State) -> bool
     !state.is_broken() && bank.frames > 0 && bank.generation < u64::MAX
 }
 
+// A batch of 34 bytes.
+fn marks(alloc: Global) -> Result<Batch, Fail> {
+    let mut marks = Batch::new(alloc, Seeded::of(7));
+    marks.stale = b1(alloc)?;
+    Ok(marks)
+}
+
+fn is_due_now(alloc: Global, state: &State) -> Result<bool, Fail> {
+    let batch = marks(alloc)?;
+    Ok(is_due(alloc, state, &batch, true)?)
+}
+
 /// How many bytes the file needs for a rewriting, by what is live and with 429 bytes, and whether that is due before a
 /// first batch of 34 bytes.
 fn wanted(alloc: Global, disk: &mut MemDisk, limit: u64) -> Result<(u64, u64, bool), Fail>
     requires { limit < 2 ^ 32 }
 {
     let state = loaded(alloc, disk, limit)?;
-    let mut marks = Batch::new(alloc, Seeded::of(7));
-    marks.stale = b1(alloc)?;
+    let is_due = is_due_now(alloc, &state)?;
     let needs = rewriting_needs(alloc, &state)?;
-    let is_due = is_due(alloc, &state, &marks, true)?;
     Ok((needs, state.needed_with(429), is_due))
 }
 
