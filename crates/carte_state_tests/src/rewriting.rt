@@ -97,8 +97,12 @@ fn wanted(alloc: Global, disk: &mut MemDisk, limit: u64) -> Result<(u64, u64, bo
     requires { limit < 2 ^ 32 }
 {
     let state = loaded(alloc, disk, limit)?;
-    let is_due = is_due_now(alloc, &state)?;
-    let needs = rewriting_needs(alloc, &state)?;
+    wanted_of(alloc, &state)
+}
+
+fn wanted_of(alloc: Global, state: &State) -> Result<(u64, u64, bool), Fail> {
+    let is_due = is_due_now(alloc, state)?;
+    let needs = rewriting_needs(alloc, state)?;
     Ok((needs, state.needed_with(429), is_due))
 }
 
@@ -112,12 +116,20 @@ fn rewritten(
     requires { limit < 2 ^ 32 }
 {
     let mut state = loaded(alloc, disk, limit)?;
-    if !can_turn(&state) {
+    turned(alloc, &mut state, disk)
+}
+
+fn turned(
+    alloc: Global,
+    state: &mut State,
+    disk: &mut MemDisk,
+) -> Result<(Option<(u64, u64)>, (u64, u64, u64, u64)), Fail> {
+    if !can_turn(state) {
         return Err(Fail::from("it has a frame"));
     }
-    match rewrite(alloc, &mut state, disk) {
-        Ok(()) => Ok((None, place(&state))),
-        Err(ApplyFault::Full { needed, limit }) => Ok((Some((needed, limit)), place(&state))),
+    match rewrite(alloc, state, disk) {
+        Ok(()) => Ok((None, place(state))),
+        Err(ApplyFault::Full { needed, limit }) => Ok((Some((needed, limit)), place(state))),
         Err(_) => Err(Fail::from("nothing else fails")),
     }
 }
@@ -129,9 +141,17 @@ fn again(
     body: &[u8],
 ) -> Result<((u64, u64, u64, u64), bool), Fail> {
     let state = loaded(alloc, disk, 1343)?;
+    again_of(alloc, &state, body)
+}
+
+fn again_of(
+    alloc: Global,
+    state: &State,
+    body: &[u8],
+) -> Result<((u64, u64, u64, u64), bool), Fail> {
     let bodies = live_bodies(alloc, state.kept())?;
     let first = bodies.get(0).ok_or("a body")?;
-    Ok((place(&state), bodies.len() == 1 && first.bytes() == body))
+    Ok((place(state), bodies.len() == 1 && first.bytes() == body))
 }
 
 // The limit, what is wanted of a file, what its rewriting gives, and its bytes and the calls that passed then. The closed
