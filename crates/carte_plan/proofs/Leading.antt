@@ -1,5 +1,5 @@
 -- From the batch of a build to what it leads to.
-use Rattle.std.proofs.Common.{◌≡◌, ℕ, Bool, true, false, cond, List, [], ◌∷◌, ◌++◌, refl, ap, sym, ◌∙◌, subst, inl, inr}
+use Rattle.std.proofs.Common.{◌≡◌, ℕ, Bool, true, false, arith, cond, take, List, [], ◌∷◌, ◌++◌, refl, ap, sym, ◌∙◌, subst, inl, inr}
 use Rattle.std.specs.Prelude.{if◌then◌else◌, ◌==◌, length, not, ◌&&◌}
 use Rattle.carte_value.specs.declared.digest.Digest.{Digest}
 use Rattle.carte_record.specs.Empty.{is_empty}
@@ -14,6 +14,7 @@ use Rattle.carte_record.specs.declared.way.Way.TheVariants.{Verifying, Construct
 use Rattle.carte_record.specs.Folds.{batch_traces, with_marks}
 use Rattle.carte_record.specs.Kept.{SomeKept, nothing_kept, traces_in}
 use Rattle.carte_table.proofs.Found.{or_none}
+use Rattle.carte_table.proofs.Fronts.{take_whole}
 use Rattle.carte_sound.specs.Begun.{AreMarks, begin, has_rules_of}
 use Rattle.carte_sound.specs.Carries.{Carries}
 use Rattle.carte_sound.specs.Held.{How}
@@ -31,12 +32,12 @@ use Rattle.carte_plan.proofs.Lists.{both, empty_is, keys_same, no_items}
 pub opened_is : (B : Batch) (s t : Start) (ms ns : List (List ℕ)) → is_empty B ≡ true → s ≡ t → ms ≡ ns → record B { start = s; stale = ms } ≡ opening t ns
 opened_is B s t ms ns empty starts stales = ap (λ (C : Batch). record C { start = s; stale = ms }) (empty_is B empty) ∙ (ap (λ u. opening u ms) starts ∙ ap (opening t) stales)
 
-open_none : (s : Start) (ms : List (List ℕ)) (w : Way) → batch_traces w (opening s ms) ≡ []
+pub open_none : (s : Start) (ms : List (List ℕ)) (w : Way) → batch_traces w (opening s ms) ≡ []
 open_none s ms Verifying = refl
 open_none s ms Constructive = refl
 open_none s ms Deep = refl
 
-opening_carries : (b : Book) (M : SomeKept) (s : Start) (ms : List (List ℕ)) → Carries b M M (opening s ms)
+pub opening_carries : (b : Book) (M : SomeKept) (s : Start) (ms : List (List ℕ)) → Carries b M M (opening s ms)
 opening_carries b M s ms = record {
   values = λ d. sym (or_none (M.stored d));
   values_lacked = λ d v is. cc;
@@ -70,18 +71,21 @@ pub no_finishes : (fs : List Finished) → finishes_of fs ≡ [] → fs ≡ []
 no_finishes [] is = refl
 no_finishes (f ∷ fs) is = cc
 
+-- where nothing is finished under other rules, nothing is done
+pub nothing_done : (h : How) (done : SomeKept → List ℕ → Type 0) (K : SomeKept) (b : Book) (ms : List (List ℕ)) (fs : List Finished) → has_rules_of K b ≡ false → fs ≡ [] → IsBuilt h K b ms (done (begin K b ms)) fs → (k : List ℕ) → ¬ (done nothing_kept k)
+nothing_done h done K b ms fs other none built k is_done =
+    let begun : begin K b ms ≡ nothing_kept = ap (λ t. cond t (with_marks K ms) nothing_kept) other in
+    let among = built.order.each k (subst (λ L. done L k) (sym begun) is_done) in
+    subst (λ gs. Among (keys_of (finishes_of gs)) k) none among
+
+pub given_by : (h : How) (done : SomeKept → List ℕ → Type 0) (K : SomeKept) (b : Book) (ms : List (List ℕ)) (fs : List Finished) → IsBuilt h K b ms (done (begin K b ms)) fs → AreGiven h (begin K b ms) b fs
+given_by h done K b ms fs built = record { now = built.now; right = built.right; once = subst NoneTwice (keys_same fs) built.order.once }
+
 -- and what that leads to
 pub leads_by : (h : How) (done : SomeKept → List ℕ → Type 0) (K : SomeKept) (b : Book) (ms : List (List ℕ)) (fs : List Finished) (B : Batch) → AreMarks K b ms → Plans h K b ms fs B → IsBuilt h K b ms (done (begin K b ms)) fs → LeadsTo h done chain_stays K b B
-leads_by h done K b ms fs B marked (inl (other, none, empty)) built = inr (record {
-  other = other;
-  none = λ k is_done.
-      let begun : begin K b ms ≡ nothing_kept = ap (λ t. cond t (with_marks K ms) nothing_kept) other in
-      let among = built.order.each k (subst (λ L. done L k) (sym begun) is_done) in
-      subst (λ gs. Among (keys_of (finishes_of gs)) k) none among;
-  empty = empty;
-})
+leads_by h done K b ms fs B marked (inl (other, none, empty)) built = inr (record { other = other; none = nothing_done h done K b ms fs other none built; empty = empty })
 leads_by h done K b ms fs B marked (inr (something, plan)) built =
-    let given : AreGiven h (begin K b ms) b fs = record { now = built.now; right = built.right; once = subst NoneTwice (keys_same fs) built.order.once } in
+    let given = given_by h done K b ms fs built in
     inl (brings_by h done K b B ms marked (finishes_of fs) built.order (λ other none. something other (no_finishes fs none)) plan.start plan.stale (plan.traces given) plan.unmarked (plan.carries given))
 
 off : (t : Bool) → not t ≡ true → t ≡ false
@@ -89,25 +93,30 @@ off true h = cc
 off false h = refl
 
 -- under other rules, where nothing was finished
-pub nothing_planned : (h : How) (K M : SomeKept) (b : Book) (x : Begun) (fs : List Finished) (B : Batch) → BeginsWith K b x M → (not x.same && (length fs == 0)) ≡ true → is_empty B ≡ true → Plans h K b x.marks fs B
-nothing_planned h K M b x fs B begins test empty =
-    let tests = both (not x.same) (length fs == 0) test in
-    inl (sym begins.same ∙ off x.same tests.0, no_items fs tests.1, empty_is B empty)
+pub tests_nothing : (K M : SomeKept) (b : Book) (x : Begun) (fs : List Finished) → BeginsWith K b x M → (not x.same && (length fs == 0)) ≡ true → (has_rules_of K b ≡ false) × (fs ≡ [])
+tests_nothing K M b x fs begins test = let tests = both (not x.same) (length fs == 0) test in (sym begins.same ∙ off x.same tests.0, no_items fs tests.1)
 
--- and else
+pub nothing_planned : (h : How) (K M : SomeKept) (b : Book) (x : Begun) (fs : List Finished) (B : Batch) → BeginsWith K b x M → (not x.same && (length fs == 0)) ≡ true → is_empty B ≡ true → Plans h K b x.marks fs B
+nothing_planned h K M b x fs B begins test empty = let tests = tests_nothing K M b x fs begins test in inl (tests.0, tests.1, empty_is B empty)
+
+-- and else something is, or the rules are the same
+pub something_finished : (h : How) (K M : SomeKept) (b : Book) (x : Begun) (fs : List Finished) → BeginsWith K b x M → (not x.same && (length fs == 0)) ≡ false → has_rules_of K b ≡ false → ¬ (fs ≡ [])
+something_finished h K M b x fs begins test other none =
+    let empty : (length fs == 0) ≡ true = ap (λ (gs : List Finished). length gs == 0) none in
+    let tests : (not x.same && (length fs == 0)) ≡ true = ap (λ t. not t && (length fs == 0)) (begins.same ∙ other) ∙ empty in
+    let e : true ≡ false = sym tests ∙ test in
+    cc
+
 pub all_planned : (h : How) (K M : SomeKept) (b : Book) (rules : Digest) (x : Begun) (fs : List Finished) (old B : Batch) → BeginsWith K b x M → rules ≡ rules_digest_of b → (not x.same && (length fs == 0)) ≡ false
     → old ≡ opening (if x.same then GoOn else Anew rules) (marks_left (finishes_of fs) x.marks) → NotesAll h M b fs old B → Plans h K b x.marks fs B
-all_planned h K M b rules x fs old B begins digest test is notes = inr (something, plan)
+all_planned h K M b rules x fs old B begins digest test is notes = inr (something_finished h K M b x fs begins test, plan)
   where
-    something : has_rules_of K b ≡ false → ¬ (fs ≡ [])
-    something other none =
-        let empty : (length fs == 0) ≡ true = ap (λ (gs : List Finished). length gs == 0) none in
-        let tests : (not x.same && (length fs == 0)) ≡ true = ap (λ t. not t && (length fs == 0)) (begins.same ∙ other) ∙ empty in
-        let e : true ≡ false = sym tests ∙ test in
-        cc
-
     plan : IsPlanOf h K b x.marks fs B
     plan = planned h K M b x.marks (marks_left (finishes_of fs) x.marks) x.same (if x.same then GoOn else Anew rules) fs old B begins.same begins.base (ap (λ d. if x.same then GoOn else Anew d) digest) refl is notes
+
+-- the marks that all keys leave
+pub opening_all : (s : Start) (ms : List (List ℕ)) (fs : List Finished) (n : ℕ) (B : Batch) → n ≡ length fs → B ≡ opening s (marks_left (finishes_of (take n fs)) ms) → B ≡ opening s (marks_left (finishes_of fs) ms)
+opening_all s ms fs n B all is = is ∙ ap (λ gs. opening s (marks_left (finishes_of gs) ms)) (ap (λ m. take m fs) all ∙ take_whole (length fs) fs (omega arith))
 
 pub nothing_unmarked : (B : Batch) → is_empty B ≡ true → AreUnmarked B.entries
 nothing_unmarked B empty = subst (λ (C : Batch). AreUnmarked C.entries) (sym (empty_is B empty)) (λ e nowhere. absurd nowhere)

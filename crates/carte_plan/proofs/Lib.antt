@@ -7,3 +7,7 @@ pub mod Orders
 pub mod OneSize
 pub mod Lengths
 pub mod Chained
+pub mod Pieces
+pub mod Along
+pub mod PartsCut
+pub mod PartsLead

@@ -1,14 +1,10 @@
-use Rattle.std.proofs.Common.{ℕ, List, Result, Ok, Err}
-use Rattle.std.specs.Prelude.{IfOk}
+use Rattle.std.proofs.Common.{ℕ, List}
 use Rattle.carte_book.specs.Book.{book_view}
 use Rattle.carte_record.specs.Kept.{SomeKept}
 use Rattle.carte_sound.specs.Treated.{IsDoneInOrder, IsDoneSuspending}
 use Rattle.carte_plan.proofs.Leading.{leads_by}
+use Rattle.carte_plan.proofs.Pieces.{if_ok}
 use Rattle.carte_plan.proofs.planning.plan.Goals as goal
-
-if_ok : {A E : Type 0} {P Q : A → Type 0} (r : Result A E) → ((x : A) → P x → Q x) → IfOk r P → IfOk r Q
-if_ok (Ok x) f p = f x p
-if_ok (Err e) f p = p
 
 pub returns-clause-in_order : goal.returns-clause-in_order
 returns-clause-in_order g c K targets begins built =
