@@ -46,10 +46,6 @@ IsBadNow limit d at = d.tells × IsBadState limit d.old.now.reads at
 abbrev pub IsPlanned : Asked → Book → SomeKept → List Batch → Type 0
 IsPlanned w b K Bs = (a : Answer) × IsPlan (scheduler_of w.scheduler) (how_of w.rebuilder) K b w.targets (record { batches = Bs; answer = a })
 
--- that of a clearing alone
-abbrev pub AreClearing : SomeKept → List Batch → Type 0
-AreClearing K Bs = (B : Batch) × IsClearing K B × (Bs ≡ B ∷ [])
-
 -- there is room for all such batches
 abbrev pub AllFit : ℕ → OverDisk → (List Batch → Type 0) → Type 0
 AllFit limit d May = (Bs : List Batch) → May Bs → FitsIn limit d.old.now.reads Bs

@@ -176,6 +176,10 @@ pub record IsClearing (K : SomeKept) (B : Batch) : Type 0 where
   pub leaves : apply B K ≡ nothing_kept
   pub least : ((K ≡ nothing_kept) × (B ≡ empty_batch)) ⊎ (¬ (K ≡ nothing_kept) × (B ≡ record empty_batch { start = Cleared }))
 
+-- the batch of a clearing, alone
+abbrev pub AreClearing : SomeKept → List Batch → Type 0
+AreClearing K Bs = (B : Batch) × IsClearing K B × (Bs ≡ B ∷ [])
+
 -- nothing is kept any more, and that was said
 pub record Clears (limit : ℕ) (d : OverDisk) (k : OverSink) (Takes : OverSink → List ℕ → Type 0) (K : SomeKept) : Type 0 where
   pub batch : Batch

@@ -114,6 +114,13 @@ CommitsRefused limit w d b = Found limit d (λ K. (reason : Reason) × Commits l
 abbrev pub KeepsRefused : ℕ → OverSource → OverDisk → Asked → Type 0
 KeepsRefused limit s d w = ((w.command ≡ command.Build) × Holds w.kind s (CommitsRefused limit w d)) ⊎ ((w.command ≡ command.Generate) × Makes w (CommitsRefused limit (for_last w) d))
 
+-- there was no memory for a batch of a build, or for that of a clearing
+abbrev pub StopsShort : Command → ℕ → Asked → OverSource → OverDisk → Type 0
+StopsShort command.Build limit w s d = Holds w.kind s (λ b. Found limit d (Halts limit w d ApplyFault.NoMemory b))
+StopsShort command.Generate limit w s d = Makes w (λ b. Found limit d (Halts limit (for_last w) d ApplyFault.NoMemory b))
+StopsShort command.Clean limit w s d = Found limit d (ClearsNot limit d ApplyFault.NoMemory)
+StopsShort _ limit w s d = ⊥
+
 -- a session came to an end behind which memory is wanted for the error line
 abbrev pub IsShort : SessionEnd → Type 0
 IsShort session.TooLong = Unit {0}
@@ -128,7 +135,7 @@ EndsShort limit s c d k w = (w.command ≡ command.Session) × ((end : SessionEn
 -- First the words are read: what holds but for the error line. Behind a commit memory is wanted for that line alone, and for lines of a session.
 abbrev pub Ran : ℕ → List (List ℕ) → OverSource → OverSource → OverDisk → OverSink → Status → Type 0
 Ran limit words s c d k (Usage fault) = (words_of words ≡ Err fault) × IsUnread s × IsUnvisited d × IsUntouched k
-Ran limit words s c d k NoMemory = (IsUntouched k × (IsLeftSo limit d ⊎ Asks words (KeepsRefused limit s d))) ⊎ Asks words (EndsShort limit s c d k)
+Ran limit words s c d k NoMemory = (IsUntouched k × (IsSpared d ⊎ Asks words (λ w. StopsShort w.command limit w s d) ⊎ Asks words (KeepsRefused limit s d))) ⊎ Asks words (EndsShort limit s c d k)
 Ran limit words s c d k status = Asks words (λ w. Does w.command limit w s c d k status)
 
 -- and the error line
