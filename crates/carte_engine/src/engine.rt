@@ -1,11 +1,10 @@
 ghost use Rattle.std.specs.Prelude.{◌≡◌, ◌<◌, ◌^◌, ℕ, List, false, IfOk, Err};
-ghost use Rattle.carte_codec.specs.Each.{EachFits};
 ghost use Rattle.carte_state.specs.Around.{over_disk};
 ghost use Rattle.carte_io.specs.Causes.{HasCauseOf};
 ghost use Rattle.carte_book.specs.Book.{Book as SomeBook, book_view};
 ghost use Rattle.carte_book.specs.Digest.{rules_digest_of};
-ghost use Rattle.carte_record.specs.Bodies.{IsUnmarked};
 ghost use Rattle.carte_state.specs.Folding.{IsBadState};
+ghost use Rattle.carte_state.specs.Runs.{AreUnmarked};
 ghost use Rattle.carte_state.specs.States.{IsLoaded, kept_in};
 ghost use Rattle.carte_engine.specs.Answers.{IsPlan, Under};
 
@@ -72,7 +71,7 @@ impl Engine {
         self.state.is_broken()
     }
 
-    /// Works out a build of the targets: what it answers, and the batch that it brings to the state. Nothing is changed,
+    /// Works out a build of the targets: what it answers, and the batches that it brings to the state. Nothing is changed,
     /// and no call of a disk is made. What is known of it holds where what is kept is sound, for whatever history.
     ///
     /// Where rules wait for what they need, several workers drive side by side those that can go on, and `gate` is passed
@@ -89,9 +88,9 @@ impl Engine {
         gate: &G,
     ) -> Result<Plan, NoMemory>
         ensures kept { self.new ≡ self.old }
-        ensures unmarked { IfOk result (λ p. EachFits IsUnmarked p.batch.entries) }
+        ensures unmarked { IfOk result (λ p. AreUnmarked p.batches.items) }
         ensures plans { Under (kept_in self.old) (book_view book.now)
-            (IfOk result (IsPlan scheduler (R.how rebuilder.now) (kept_in self.old) (book_view book.now) targets.now)) }
+            (IfOk result (λ p. IsPlan scheduler (R.how rebuilder.now) (kept_in self.old) (book_view book.now) targets.now p.batches.items p.answer)) }
     {
         let rules = book.rules_digest(alloc)?;
         self.plan_under(
@@ -114,9 +113,9 @@ impl Engine {
     ) -> Result<Plan, NoMemory>
         requires { rules.now ≡ rules_digest_of (book_view book.now) }
         ensures kept { self.new ≡ self.old }
-        ensures unmarked { IfOk result (λ p. EachFits IsUnmarked p.batch.entries) }
+        ensures unmarked { IfOk result (λ p. AreUnmarked p.batches.items) }
         ensures plans { Under (kept_in self.old) (book_view book.now)
-            (IfOk result (IsPlan scheduler (R.how rebuilder.now) (kept_in self.old) (book_view book.now) targets.now)) }
+            (IfOk result (λ p. IsPlan scheduler (R.how rebuilder.now) (kept_in self.old) (book_view book.now) targets.now p.batches.items p.answer)) }
     {
         let begun = begin(alloc, self.state.kept(), book, rules)?;
         if !begun.same {
