@@ -55,10 +55,10 @@ module _ (d : OverDisk) (old new : Stand) (B : Batch) where
       renewed_seen (Full needed limit) c = (c.0, still_seen c.1)
       renewed_seen NoMemory s = still_seen s
 
-  pub commits_seen : (first : Bool) (result : Result (Unit {0}) ApplyFault) → Commits first d old new B result → Commits first (seen d) old new B result
-  commits_seen first result (inl f) = inl (record { base = f.base; between = f.between; ready = f.ready; applies = f.applies })
-  commits_seen first result (inr (fault, is, inl b)) = inr (fault, is, inl (record { due = b.due; is = b.is; rewrites = rewrites_seen DiskFault b.rewrites }))
-  commits_seen first result (inr (fault, is, inr l)) = inr (fault, is, inr (record { is = l.is; still = still_seen l.still }))
+pub commits_seen : (first : Bool) (d : OverDisk) (old new : Stand) (B : Batch) (result : Result (Unit {0}) ApplyFault) → Commits first d old new B result → Commits first (seen d) old new B result
+commits_seen first d old new B result (inl f) = inl (record { base = f.base; between = f.between; ready = f.ready; applies = f.applies })
+commits_seen first d old new B result (inr (fault, is, inl b)) = inr (fault, is, inl (record { due = b.due; is = b.is; rewrites = rewrites_seen d old new B DiskFault b.rewrites }))
+commits_seen first d old new B result (inr (fault, is, inr l)) = inr (fault, is, inr (record { is = l.is; still = still_seen d old new B l.still }))
 
 -- a rewriting that passed, up to the moment behind it
 renews_until : (d : OverDisk) (old base : Stand) → Rewrites d old base (Ok tt) → Rewrites (until d d.new) old base (Ok tt)
