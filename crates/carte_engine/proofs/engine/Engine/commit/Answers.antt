@@ -4,7 +4,8 @@ use Rattle.std.proofs.lemmas.Iterator.Consumers.{YieldsList-so_far, YieldsList-t
 use Rattle.std.proofs.lemmas.Result.{err_from_is_err_and}
 use Rattle.carte_state.specs.Around.{over_disk}
 use Rattle.carte_state.proofs.Runs.{cut_behind, unmarked_in}
-use Rattle.carte_engine.specs.Committing.{Commits, CommitsAll}
+use Rattle.carte_engine.specs.Committing.{Commits, CommitsAll, is_first}
+use Rattle.carte_engine.proofs.Committing.{has_put}
 use Rattle.carte_engine.proofs.Looping.{one_put, one_stopped, then_later}
 use Rattle.carte_engine.proofs.engine.Engine.commit.Goals as goal
 
@@ -22,10 +23,40 @@ commit_one-requires-clause-unmarked g c =
     (cut_behind Bs done c.in-Some.batch (YieldsList-so_far road done c.loop-batch.batch-iterator c.loop-batch.yielded_by) turn) c.requires.unmarked
 
 pub loop-batch-preserved : goal.loop-batch-preserved
-loop-batch-preserved g c = ?
+loop-batch-preserved g c =
+    let done = c.loop-batch.yielded in
+    let B = c.in-Some.batch in
+    let seen = over_disk g.D.Disk.tells g.D.Disk.story g.D.Disk.faults c.loop-batch.disk c.commit_one.new.disk in
+    let commits : Commits (is_first done) seen c.loop-batch.self c.commit_one.new.self B (Ok tt) =
+    subst (λ t. Commits t seen c.loop-batch.self c.commit_one.new.self B (Ok tt)) c.loop-batch.invariant.first
+    (subst (Commits c.loop-batch.first seen c.loop-batch.self c.commit_one.new.self B) c.in_ok-commit_one.was c.commit_one.ensures) in
+    record {
+      whole = (has_put (is_first done) seen c.loop-batch.self c.commit_one.new.self B commits).whole;
+      first = then_later done B;
+      so_far = one_put g.D.Disk.tells (g.D.Disk.story c.args.disk.now) (g.D.Disk.story c.loop-batch.disk) (g.D.Disk.story c.commit_one.new.disk)
+          (g.D.Disk.faults c.args.disk.now) (g.D.Disk.faults c.loop-batch.disk) (g.D.Disk.faults c.commit_one.new.disk) _
+          c.args.self.now done c.loop-batch.self B c.commit_one.new.self c.loop-batch.invariant.so_far commits;
+    }
 
 pub returns-in_err-commit_one : goal.returns-in_err-commit_one
-returns-in_err-commit_one g c = ?
+returns-in_err-commit_one g c =
+    let gives = c.into_iter-batch-iterator.ensures.into_iter_gives in
+    let Bs = c.args.batches.items in
+    let done = c.loop-batch.yielded in
+    let B = c.in-Some.batch in
+    let fault = c.in_err-commit_one.field-0.0 in
+    let road = YieldsList-from_vec {s = c.into_iter-batch-iterator.result} Bs gives.0 (gives.1 ∙ c.args.batches.ok.0) in
+    let turn = YieldsList-turn road done c.loop-batch.batch-iterator c.loop-batch.yielded_by c.next.result c.next.new.self B c.in-Some.is c.next.ensures.steps in
+    let all = cut_behind Bs done B (YieldsList-so_far road done c.loop-batch.batch-iterator c.loop-batch.yielded_by) turn in
+    let p = err_from_is_err_and c.from_residual.result c.from_residual.ensures.1 in
+    let seen = over_disk g.D.Disk.tells g.D.Disk.story g.D.Disk.faults c.loop-batch.disk c.commit_one.new.disk in
+    let commits : Commits (is_first done) seen c.loop-batch.self c.commit_one.new.self B (Err fault) =
+    subst (λ t. Commits t seen c.loop-batch.self c.commit_one.new.self B (Err fault)) c.loop-batch.invariant.first
+    (subst (Commits c.loop-batch.first seen c.loop-batch.self c.commit_one.new.self B) c.in_err-commit_one.was c.commit_one.ensures) in
+    subst (CommitsAll (over_disk g.D.Disk.tells g.D.Disk.story g.D.Disk.faults c.args.disk.now c.commit_one.new.disk) c.args.self.now c.commit_one.new.self Bs) (sym (p.1 ∙ ap Err p.2))
+    (one_stopped g.D.Disk.tells (g.D.Disk.story c.args.disk.now) (g.D.Disk.story c.loop-batch.disk) (g.D.Disk.story c.commit_one.new.disk)
+    (g.D.Disk.faults c.args.disk.now) (g.D.Disk.faults c.loop-batch.disk) (g.D.Disk.faults c.commit_one.new.disk) _
+    c.args.self.now done c.loop-batch.self B c.commit_one.new.self c.loop-batch.invariant.so_far _ Bs (drop (length done + 1) Bs) fault all commits)
 
 pub returns : goal.returns
-returns g c = ?
+returns g c = let h = c.loop-batch in ?
