@@ -57,6 +57,28 @@ impl Engine {
         Ok(Engine { state })
     }
 
+    /// The same by at most so many threads, as `State::load_by` does.
+    pub fn load_by<D: Disk, G: Gate, T: Threads + Sync>(
+        rt: &T,
+        alloc: Global,
+        disk: &mut D,
+        limit: u64,
+        hasher: Seeded,
+        workers: usize,
+        gate: &G,
+    ) -> Result<Engine, LoadFault>
+        requires { limit < 2 ^ 32 }
+        ensures read { D.tells → IfOk result (λ s. IsLoaded s (D.story disk.old).now.reads) }
+        ensures starts { IfOk result (λ s. (s.journal.limit ≡ limit) × (s.journal.broken ≡ false)) }
+        ensures bad { D.tells → (offset : ℕ) → result ≡ Err (LoadFault.BadState offset)
+            → IsBadState limit (D.story disk.old).now.reads offset }
+        ensures cause { HasCauseOf LoadFault.DiskFault (D.faults disk.old) (D.faults disk.new) result }
+        ensures same { D.tells → D.story disk.new ≡ D.story disk.old }
+    {
+        let state = State::load_by(rt, alloc, disk, limit, hasher, workers, gate)?;
+        Ok(Engine { state })
+    }
+
     /// What is kept.
     pub fn kept(&self) -> &Kept
         ensures { result.now ≡ self.now.kept }

@@ -1,20 +1,18 @@
 -- A batch of a build, from finished keys.
-use Rattle.std.specs.Prelude.{ℕ, ◌≡◌, ◌⊎◌, false, List, [], ◌++◌, Some, if◌then◌else◌}
+use Rattle.std.specs.Prelude.{ℕ, ◌≡◌, ◌⊎◌, List, ◌++◌, Some}
 use Rattle.carte_value.specs.Truths.{NoneTwice}
 use Rattle.carte_book.specs.Book.{Book}
-use Rattle.carte_book.specs.Digest.{rules_digest_of}
 use Rattle.carte_record.specs.declared.batch.Batch.{Batch}
 use Rattle.carte_record.specs.declared.start.Start.{Start}
-use Rattle.carte_record.specs.declared.start.Start.TheVariants.{GoOn, Anew}
 use Rattle.carte_record.specs.declared.way.Way.{Way}
 use Rattle.carte_record.specs.Folds.{batch_traces}
 use Rattle.carte_record.specs.Kept.{SomeKept}
 use Rattle.carte_sound.specs.Base.{AllNow}
-use Rattle.carte_sound.specs.Begun.{begin, has_rules_of}
+use Rattle.carte_sound.specs.Begun.{begin}
 use Rattle.carte_sound.specs.Carries.{Carries}
 use Rattle.carte_sound.specs.Finished.{IsFinishing}
 use Rattle.carte_sound.specs.Held.{How}
-use Rattle.carte_sound.specs.LeadsTo.{empty_batch, marks_left, traces_made}
+use Rattle.carte_sound.specs.LeadsTo.{empty_batch, traces_made}
 use Rattle.carte_sound.specs.Left.{add_all}
 use Rattle.carte_note.specs.declared.finished.Finished.{Finished}
 use Rattle.carte_note.specs.Notes.{AreUnmarked}
