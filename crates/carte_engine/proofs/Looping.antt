@@ -51,6 +51,11 @@ module _ (tells : Type 0) (old between new : Story) (before mid now : ℕ) (same
       → StopsAt (record { tells = tells; old = old; new = new; failed_before = before; failed = now; same = other }) state Bs after fault
   one_stopped other Bs rest fault all commits = record { front = done; batch = B; rest = rest; all = all; mid = at; between = between; puts = front; stops = next (Err fault) commits }
 
+-- at the end
+pub all_put : (d : OverDisk) (state : Stand) (Bs : List Batch) (at : Stand) → SoFar d.tells d.old d.new d.failed_before d.failed state Bs at → PutsAll true d state Bs at
+all_put d state [] at so = so
+all_put d state (B ∷ Bs) at so = so
+
 -- one batch alone
 pub one_batch : (d : OverDisk) (old new : Stand) (B : Batch) (result : Result (Unit {0}) ApplyFault) → Commits true d old new B result → CommitsAll d old new (B ∷ []) result
 one_batch d old new B (Ok done) commits =

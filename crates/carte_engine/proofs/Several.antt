@@ -144,11 +144,16 @@ puts_leave first d old (B ∷ Bs) new (mid, between, commits, puts) told on =
     let K = kept_in old in
     leaves_then d.old between d.new (KeepsSome limit K (B ∷ Bs))
     (leaves_more d.old between (λ file. Keeps limit K file ⊎ Keeps limit (apply B K) file) (KeepsSome limit K (B ∷ Bs))
-    (λ file at. elim at [ | inl before ↦ ([], B ∷ Bs, refl, before) | inr after ↦ (B ∷ [], Bs, refl, after) ])
+    (λ file at. elim at [ inl before ↦ ([], B ∷ Bs, refl, before) | inr after ↦ (B ∷ [], Bs, refl, after) ])
     (commit_leaves first e old B told on mid (Ok tt) commits))
     (leaves_more between d.new (KeepsSome mid.journal.limit (kept_in mid) Bs) (KeepsSome limit K (B ∷ Bs))
-    (λ file at. (B ∷ at.0, at.1, ap (λ Cs. B ∷ Cs) at.2, subst (λ n. Keeps n (applied (apply B K) at.0) file) (commit_limit first e old mid B (Ok tt) commits)
-    (subst (λ L. Keeps mid.journal.limit (applied L at.0) file) put.kept at.3)))
+    (λ file at. (
+      B ∷ at.0,
+      at.1,
+      ap (λ Cs. B ∷ Cs) at.2,
+      subst (λ n. Keeps n (applied (apply B K) at.0) file) (commit_limit first e old mid B (Ok tt) commits)
+          (subst (λ L. Keeps mid.journal.limit (applied L at.0) file) put.kept at.3),
+    ))
     (puts_leave false (behind d between) mid Bs new puts told (put.rest told on)))
 
 stops_leave : (d : OverDisk) (old : Stand) (Bs : List Batch) (new : Stand) (fault : ApplyFault) → StopsAt d old Bs new fault → d.tells → IsKeptOn old d.old

@@ -68,7 +68,7 @@ none_through s old new same on = steps_none (Keeps s.journal.limit) (kept_in s) 
 -- ---- the steps of a rewriting and of a batch
 
 pub again_made : (s : Stand) → AreMade (step_again s)
-again_made s = (elim s.journal.bank as (λ bank. 0 < calls_to_turn bank) [ | None ↦ omega arith | Some roots ↦ turned roots.both ], tt)
+again_made s = (elim s.journal.bank as (λ bank. 0 < calls_to_turn bank) [ None ↦ omega arith | Some roots ↦ turned roots.both ], tt)
   where
     turned : (both : Bool) → 0 < cond both 7 5
     turned true = omega arith

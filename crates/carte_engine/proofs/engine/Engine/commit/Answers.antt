@@ -1,12 +1,12 @@
-use Rattle.std.proofs.Common.{Ok, Err, ◌∙◌, ◌+◌, ap, drop, length, refl, subst, sym}
+use Rattle.std.proofs.Common.{true, Ok, Err, ◌∙◌, ◌+◌, ap, drop, length, map-id, refl, subst, sym}
 use Rattle.std.proofs.lemmas.Iterator.Adapters.{YieldsList-from_vec}
-use Rattle.std.proofs.lemmas.Iterator.Consumers.{YieldsList-so_far, YieldsList-turn}
+use Rattle.std.proofs.lemmas.Iterator.Consumers.{YieldsList-end, YieldsList-so_far, YieldsList-turn}
 use Rattle.std.proofs.lemmas.Result.{err_from_is_err_and}
 use Rattle.carte_state.specs.Around.{over_disk}
 use Rattle.carte_state.proofs.Runs.{cut_behind, unmarked_in}
-use Rattle.carte_engine.specs.Committing.{Commits, CommitsAll, is_first}
+use Rattle.carte_engine.specs.Committing.{Commits, CommitsAll, PutsAll, is_first}
 use Rattle.carte_engine.proofs.Committing.{has_put}
-use Rattle.carte_engine.proofs.Looping.{one_put, one_stopped, then_later}
+use Rattle.carte_engine.proofs.Looping.{all_put, one_put, one_stopped, then_later}
 use Rattle.carte_engine.proofs.engine.Engine.commit.Goals as goal
 
 pub loop-batch-init : goal.loop-batch-init
@@ -59,4 +59,12 @@ returns-in_err-commit_one g c =
     c.args.self.now done c.loop-batch.self B c.commit_one.new.self c.loop-batch.invariant.so_far _ Bs (drop (length done + 1) Bs) fault all commits)
 
 pub returns : goal.returns
-returns g c = let h = c.loop-batch in ?
+returns g c =
+    let gives = c.into_iter-batch-iterator.ensures.into_iter_gives in
+    let Bs = c.args.batches.items in
+    let done = c.loop-batch.yielded in
+    let road = YieldsList-from_vec {s = c.into_iter-batch-iterator.result} Bs gives.0 (gives.1 ∙ c.args.batches.ok.0) in
+    let end = YieldsList-end road done c.loop-batch.batch-iterator c.loop-batch.yielded_by c.next.result c.next.new.self c.in-None.is c.next.ensures.steps in
+    let d = over_disk g.D.Disk.tells g.D.Disk.story g.D.Disk.faults c.args.disk.now c.loop-batch.disk in
+    subst (λ Cs. PutsAll true d c.args.self.now Cs c.loop-batch.self) (sym (map-id done) ∙ end.0)
+    (all_put d c.args.self.now done c.loop-batch.self c.loop-batch.invariant.so_far)
