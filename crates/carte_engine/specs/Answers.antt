@@ -10,24 +10,23 @@ use Rattle.carte_sound.specs.Base.{HasDistinctDigests}
 use Rattle.carte_sound.specs.Begun.{AreMarks, begin}
 use Rattle.carte_sound.specs.Chains.{IsRightChain}
 use Rattle.carte_sound.specs.Held.{How}
-use Rattle.carte_sound.specs.LeadsTo.{LeadsInOrder, LeadsRefused, LeadsRestarting, LeadsSuspending}
+use Rattle.carte_sound.specs.Parts.{PartsInOrder, PartsRefused, PartsRestarting, PartsSuspending}
 use Rattle.carte_sound.specs.Sound.{IsSound}
 use Rattle.carte_sound.specs.Treated.{IsRun, IsTreatedRestarting}
 use Rattle.carte_rebuild.specs.Ends.{GivesUp}
 use Rattle.carte_engine.specs.declared.answer.Answer.{Answer}
 use Rattle.carte_engine.specs.declared.answer.Answer.TheVariants as answer
 use Rattle.carte_engine.specs.declared.answer.Built.{Built}
-use Rattle.carte_engine.specs.declared.answer.Plan.{Plan}
 use Rattle.carte_engine.specs.declared.scheduler.Scheduler.{Scheduler}
 use Rattle.carte_engine.specs.declared.scheduler.Scheduler.TheVariants.{Topological, Restarting, Suspending}
 use Rattle.carte_engine.specs.Schedulers.{IsDoneBy, IsServed, IsRefusedFor}
 
--- the batches that a build with such an answer may commit
-abbrev pub Leads : Scheduler → How → SomeKept → Book → List (List ℕ) → Answer → Batch → Type 0
-Leads Topological h K b targets (answer.Built built) B = LeadsInOrder h K b targets B
-Leads Topological h K b targets (answer.Refused reason) B = LeadsRefused h K b B
-Leads Restarting h K b targets a B = LeadsRestarting h K b targets B
-Leads Suspending h K b targets a B = LeadsSuspending h K b targets B
+-- the batches that a build with such an answer may commit, one after another
+abbrev pub Leads : Scheduler → How → SomeKept → Book → List (List ℕ) → Answer → List Batch → Type 0
+Leads Topological h K b targets (answer.Built built) Bs = PartsInOrder h K b targets Bs
+Leads Topological h K b targets (answer.Refused reason) Bs = PartsRefused h K b Bs
+Leads Restarting h K b targets a Bs = PartsRestarting h K b targets Bs
+Leads Suspending h K b targets a Bs = PartsSuspending h K b targets Bs
 
 -- these are the names' values, in their order
 abbrev pub AreValues : Truth → List (List ℕ) → List Value → Type 0
@@ -75,10 +74,10 @@ abbrev pub IsAnswer : Scheduler → How → SomeKept → Book → List (List ℕ
 IsAnswer s h K b targets (answer.Built built) = IsSuccess s h K b targets built
 IsAnswer s h K b targets (answer.Refused reason) = IsRefusedFor s b targets reason
 
--- the answer is right, and the batch is one that it may commit
-pub record IsPlan (s : Scheduler) (h : How) (K : SomeKept) (b : Book) (targets : List (List ℕ)) (p : Plan) : Type 0 where
-  pub leads : Leads s h K b targets p.answer p.batch
-  pub right : IsAnswer s h K b targets p.answer
+-- the answer is right, and the batches are those that it may commit
+pub record IsPlan (s : Scheduler) (h : How) (K : SomeKept) (b : Book) (targets : List (List ℕ)) (Bs : List Batch) (a : Answer) : Type 0 where
+  pub leads : Leads s h K b targets a Bs
+  pub right : IsAnswer s h K b targets a
 
 -- whatever history what is kept is sound for
 abbrev pub Under : SomeKept → Book → Type 0 → Type 0

@@ -1,4 +1,4 @@
--- What a build comes to: a plan, and its commit.
+-- What a build comes to: a plan, and its commits.
 use Rattle.std.specs.Prelude.{ℕ, ◌≡◌, ◌⊎◌, List, Result, Ok, Err}
 use Rattle.carte_state.specs.Around.{OverDisk}
 use Rattle.carte_book.specs.Book.{Book}
@@ -14,7 +14,7 @@ use Rattle.carte_engine.specs.declared.fault.BuildFault.{BuildFault}
 use Rattle.carte_engine.specs.declared.fault.BuildFault.TheVariants as fault
 use Rattle.carte_engine.specs.declared.scheduler.Scheduler.{Scheduler}
 use Rattle.carte_engine.specs.Answers.{IsPlan, Under}
-use Rattle.carte_engine.specs.Committing.{Commits}
+use Rattle.carte_engine.specs.Committing.{CommitsAll}
 use Rattle.carte_engine.specs.Faults.{fault_of}
 
 -- an answer as a result
@@ -22,14 +22,14 @@ abbrev pub answered : Answer → Result Built BuildFault
 answered (answer.Built built) = Ok built
 answered (answer.Refused reason) = Err (fault.Refused reason)
 
--- where the batch of the plan was put, the plan's answer; else why it wasn't
+-- where the batches of the plan were put, the plan's answer; else why they weren't, or not all
 abbrev pub answered_behind : Answer → Result (Unit {0}) ApplyFault → Result Built BuildFault
 answered_behind a (Ok done) = answered a
 answered_behind a (Err why) = Err (fault_of why)
 
--- There is a plan that is right under whatever history what was kept is sound for, and its batch was put, or was not. Or there was no memory for a plan.
+-- There is a plan that is right under whatever history what was kept is sound for, and its batches were put, one after another, or not all of them. Or there was no memory for a plan.
 abbrev pub Builds : Scheduler → How → Book → List (List ℕ) → OverDisk → Stand → Stand → Result Built BuildFault → Type 0
 Builds s h b targets d old new result =
-    ((p : Plan) × (applied : Result (Unit {0}) ApplyFault) × Under (kept_in old) b (IsPlan s h (kept_in old) b targets p)
-    × Commits d old new p.batch applied × (result ≡ answered_behind p.answer applied))
+    ((p : Plan) × (applied : Result (Unit {0}) ApplyFault) × Under (kept_in old) b (IsPlan s h (kept_in old) b targets p.batches.items p.answer)
+    × CommitsAll d old new p.batches.items applied × (result ≡ answered_behind p.answer applied))
     ⊎ ((result ≡ Err fault.NoMemory) × IsStill d old new)

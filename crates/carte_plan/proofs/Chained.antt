@@ -1,29 +1,23 @@
--- From the batch of a build that leaves a chain to what it leads to.
+-- The chain that is put into a batch.
 use Rattle.std.proofs.Common.{◌≡◌, ℕ, Bool, true, false, cond, List, [], Some, refl, ap, sym, ◌∙◌, subst, inl, inr}
 use Rattle.std.specs.Bool.{Decides}
 use Rattle.std.specs.Cmp.Lexicographic.{bytes_decides, pointwise}
 use Rattle.std.proofs.lemmas.Slice.Eq.{slice_eq-Decides}
 use Rattle.carte_name.specs.Names.{name_eq}
-use Rattle.carte_value.specs.Truths.{Among, NoneTwice}
 use Rattle.carte_book.specs.Book.{Book}
 use Rattle.carte_record.specs.declared.batch.Batch.{Batch}
 use Rattle.carte_record.specs.declared.way.Way.{Way}
 use Rattle.carte_record.specs.declared.way.Way.TheVariants.{Verifying, Constructive, Deep}
 use Rattle.carte_record.specs.Folds.{batch_traces, with_marks}
 use Rattle.carte_record.specs.Kept.{SomeKept, nothing_kept, traces_in}
-use Rattle.carte_sound.specs.Begun.{AreMarks, begin}
+use Rattle.carte_sound.specs.Begun.{begin, has_rules_of}
 use Rattle.carte_sound.specs.Carries.{Carries}
-use Rattle.carte_sound.specs.Held.{How}
-use Rattle.carte_sound.specs.LeadsTo.{LeadsTo, chain_behind}
-use Rattle.carte_sound.specs.Left.{Finishes, keys_of, left}
-use Rattle.carte_sound.proofs.Applied.{difference_applied}
-use Rattle.carte_sound.proofs.Assembled.{carries_left}
+use Rattle.carte_sound.specs.LeadsTo.{chain_behind}
+use Rattle.carte_sound.specs.Left.{keys_of}
 use Rattle.carte_note.specs.declared.finished.Finished.{Finished}
 use Rattle.carte_note.specs.Notes.{AreUnmarked}
 use Rattle.carte_note.specs.Right.{finishes_of}
-use Rattle.carte_plan.specs.Planned.{AreGiven, IsBuilt, PlansChained, PutsChain}
-use Rattle.carte_plan.proofs.Leading.{no_finishes}
-use Rattle.carte_plan.proofs.Lists.{keys_same}
+use Rattle.carte_plan.specs.Planned.{PutsChain}
 
 -- the test of the two lists tells whether the chain is to be put
 module _ (old chain xs ys : List (List ℕ)) (B : Batch) where
@@ -46,22 +40,22 @@ pub puts_unmarked : (old chain : List (List ℕ)) (B C : Batch) → PutsChain ol
 puts_unmarked old chain B C (inl (same, is)) unmarked = subst (λ (D : Batch). AreUnmarked D.entries) (sym is) unmarked
 puts_unmarked old chain B C (inr (other, is)) unmarked = subst (λ (D : Batch). AreUnmarked D.entries) (sym is) unmarked
 
-puts_start : (old chain : List (List ℕ)) (B C : Batch) → PutsChain old chain B C → C.start ≡ B.start
+pub puts_start : (old chain : List (List ℕ)) (B C : Batch) → PutsChain old chain B C → C.start ≡ B.start
 puts_start old chain B C (inl (same, is)) = ap (λ (D : Batch). D.start) is
 puts_start old chain B C (inr (other, is)) = ap (λ (D : Batch). D.start) is
 
-puts_stale : (old chain : List (List ℕ)) (B C : Batch) → PutsChain old chain B C → C.stale ≡ B.stale
+pub puts_stale : (old chain : List (List ℕ)) (B C : Batch) → PutsChain old chain B C → C.stale ≡ B.stale
 puts_stale old chain B C (inl (same, is)) = ap (λ (D : Batch). D.stale) is
 puts_stale old chain B C (inr (other, is)) = ap (λ (D : Batch). D.stale) is
 
-puts_ways : (old chain : List (List ℕ)) (B C : Batch) → PutsChain old chain B C → (w : Way) → batch_traces w C ≡ batch_traces w B
+pub puts_ways : (old chain : List (List ℕ)) (B C : Batch) → PutsChain old chain B C → (w : Way) → batch_traces w C ≡ batch_traces w B
 puts_ways old chain B C (inl (same, is)) w = ap (batch_traces w) is
 puts_ways old chain B C (inr (other, is)) w = ap (batch_traces w) is ∙ puts_traces B chain w
 
 -- so it carries the chain besides
-puts_carries : (h : How) (b : Book) (M : SomeKept) (fs : Finishes) (chain : List (List ℕ)) (B C : Batch) → PutsChain M.chain chain B C → Carries b M (left h b M fs M.chain) B → Carries b M (left h b M fs chain) C
-puts_carries h b M fs chain B C (inl (same, is)) c = subst (λ D. Carries b M (left h b M fs chain) D) (sym is) (subst (λ ks. Carries b M (left h b M fs ks) B) same c)
-puts_carries h b M fs chain B C (inr (other, is)) c = subst (λ D. Carries b M (left h b M fs chain) D) (sym is) (record {
+pub puts_carries : (b : Book) (L N : SomeKept) (chain : List (List ℕ)) (B C : Batch) → PutsChain L.chain chain B C → Carries b L (record N { chain = L.chain }) B → Carries b L (record N { chain = chain }) C
+puts_carries b L N chain B C (inl (same, is)) c = subst (λ D. Carries b L (record N { chain = chain }) D) (sym is) (subst (λ ks. Carries b L (record N { chain = ks }) B) same c)
+puts_carries b L N chain B C (inr (other, is)) c = subst (λ D. Carries b L (record N { chain = chain }) D) (sym is) (record {
   values = c.values;
   values_lacked = c.values_lacked;
   values_once = c.values_once;
@@ -72,46 +66,19 @@ puts_carries h b M fs chain B C (inr (other, is)) c = subst (λ D. Carries b M (
   entries = c.entries;
   entries_differ = c.entries_differ;
   entries_once = c.entries_once;
-  traces = λ w q. c.traces w q ∙ ap (λ ts. traces_in q ts (M.traces w q)) (sym (puts_traces B chain w));
+  traces = λ w q. c.traces w q ∙ ap (λ ts. traces_in q ts (L.traces w q)) (sym (puts_traces B chain w));
   chain = refl;
   chain_differs = λ ks is_chain. (let same : chain ≡ ks = cc in λ was. other (was ∙ sym same));
 })
 
 -- nothing is put where nothing was kept or finished
-puts_none : (chain : List (List ℕ)) (B C : Batch) → chain ≡ [] → PutsChain [] chain B C → C ≡ B
+pub puts_none : (chain : List (List ℕ)) (B C : Batch) → chain ≡ [] → PutsChain [] chain B C → C ≡ B
 puts_none chain B C none (inl (same, is)) = is
 puts_none chain B C none (inr (other, is)) = absurd (other (sym none))
 
--- what a build leads to that leaves the finished keys before the old chain
-pub leads_chained : (h : How) (done : SomeKept → List ℕ → Type 0) (K : SomeKept) (b : Book) (ms : List (List ℕ)) (fs : List Finished) (chain : List (List ℕ)) (C : Batch) → AreMarks K b ms → PlansChained h K b ms fs chain C → IsBuilt h K b ms (done (begin K b ms)) fs → chain ≡ chain_behind (keys_of (finishes_of fs)) (begin K b ms).chain → LeadsTo h done chain_behind K b C
-leads_chained h done K b ms fs chain C marked (B, inl (other, none, empty), puts) built is =
-    let begun : begin K b ms ≡ nothing_kept = ap (λ t. cond t (with_marks K ms) nothing_kept) other in
-    let bare : (begin K b ms).chain ≡ [] = ap (λ (M : SomeKept). M.chain) begun in
-    let no_chain : chain ≡ [] = is ∙ (ap (λ old. chain_behind (keys_of (finishes_of fs)) old) bare ∙ ap (λ (gs : List Finished). chain_behind (keys_of (finishes_of gs)) []) none) in
-    inr (record {
-      other = other;
-      none = λ k is_done.
-          let among = built.order.each k (subst (λ L. done L k) (sym begun) is_done) in
-          subst (λ gs. Among (keys_of (finishes_of gs)) k) none among;
-      empty = puts_none chain B C no_chain (subst (λ old. PutsChain old chain B C) bare puts) ∙ empty;
-    })
-leads_chained h done K b ms fs chain C marked (B, inr (something, plan), puts) built is =
-    let M = begin K b ms in
-    let given : AreGiven h M b fs = record { now = built.now; right = built.right; once = subst NoneTwice (keys_same fs) built.order.once } in
-    let carries = puts_carries h b M (finishes_of fs) chain B C puts (carries_left h b M (finishes_of fs) B (plan.carries given)) in
-    let whole = subst (λ ks. Carries b M (left h b M (finishes_of fs) ks) C) is carries in
-    let start = puts_start M.chain chain B C puts ∙ plan.start in
-    let stale = puts_stale M.chain chain B C puts ∙ plan.stale in
-    inl (record {
-      marks = ms;
-      marked = marked;
-      finished = finishes_of fs;
-      order = built.order;
-      something = λ rules none. something rules (no_finishes fs none);
-      start = start;
-      stale = stale;
-      traces = λ w. puts_ways M.chain chain B C puts w ∙ plan.traces given w;
-      unmarked = puts_unmarked M.chain chain B C puts plan.unmarked;
-      carries = whole;
-      applied = difference_applied h b K ms (finishes_of fs) (chain_behind (keys_of (finishes_of fs)) M.chain) C start stale whole;
-    })
+-- no chain is kept under other rules, and none comes where nothing is finished
+pub none_chained : (K : SomeKept) (b : Book) (ms : List (List ℕ)) → has_rules_of K b ≡ false → (begin K b ms).chain ≡ []
+none_chained K b ms other = ap (λ (t : Bool). (cond t (with_marks K ms) nothing_kept).chain) other
+
+pub none_behind : (K : SomeKept) (b : Book) (ms : List (List ℕ)) (fs : List Finished) (chain : List (List ℕ)) → has_rules_of K b ≡ false → fs ≡ [] → chain ≡ chain_behind (keys_of (finishes_of fs)) (begin K b ms).chain → chain ≡ []
+none_behind K b ms fs chain other none is = is ∙ (ap (λ old. chain_behind (keys_of (finishes_of fs)) old) (none_chained K b ms other) ∙ ap (λ (gs : List Finished). chain_behind (keys_of (finishes_of gs)) []) none)

@@ -1,5 +1,5 @@
 -- What the lines of a session do, and what they are answered.
-use Rattle.std.specs.Prelude.{ℕ, ◌≡◌, ◌≢◌, ◌⊎◌, IsTrue, List, [], Result, Ok, Err}
+use Rattle.std.specs.Prelude.{ℕ, ◌≡◌, ◌≢◌, ◌⊎◌, IsTrue, List, [], ◌∷◌, Result, Ok, Err}
 use Rattle.carte_name.specs.Kinds.{is_name_of}
 use Rattle.carte_name.specs.declared.kind.Kind.{Kind}
 use Rattle.carte_value.specs.declared.value.Value.{Value}
@@ -27,10 +27,10 @@ use Rattle.carte_shell.specs.Scenes.{Scene}
 
 -- ---- builds
 
--- a build of the targets answers so, rightly, and commits the batch: whatever history what is kept is sound for
-abbrev pub Plans : Scene → List (List ℕ) → Answer → Batch → Type 0
-Plans m targets a B =
-    Under (kept_in m.stand) m.book (IsPlan (scheduler_of m.choices.scheduler) (how_of m.choices.rebuilder) (kept_in m.stand) m.book targets (record { batch = B; answer = a }))
+-- a build of the targets answers so, rightly, and commits the batches: whatever history what is kept is sound for
+abbrev pub Plans : Scene → List (List ℕ) → Answer → List Batch → Type 0
+Plans m targets a Bs =
+    Under (kept_in m.stand) m.book (IsPlan (scheduler_of m.choices.scheduler) (how_of m.choices.rebuilder) (kept_in m.stand) m.book targets (record { batches = Bs; answer = a }))
 
 -- ---- inputs
 
@@ -56,9 +56,9 @@ NamesInput kind l = Unit {0}
 abbrev pub Obeys : Type 0 → Scene → Line → Said → Scene → Type 0
 Obeys tells m line.Nothing reply m' = (reply ≡ plain []) × (m' ≡ m)
 Obeys tells m (line.Set k v) reply m' = SetsInput m.book m'.book k v reply × (m' ≡ record m { book = m'.book })
-Obeys tells m (line.Build targets) reply m' = (a : Answer) × (B : Batch) × Plans m targets a B × (reply ≡ build_reply m.choices.list targets a) × Puts tells m m' B
+Obeys tells m (line.Build targets) reply m' = (a : Answer) × (Bs : List Batch) × Plans m targets a Bs × (reply ≡ build_reply m.choices.list targets a) × Puts tells m m' Bs
 Obeys tells m (line.Explain targets) reply m' = Explained (how_of m.choices.rebuilder) (kept_in m.stand) m.book targets reply × (m' ≡ m)
-Obeys tells m line.Clean reply m' = (reply ≡ plain cleaned_line) × Puts tells m m' (clearing m.stand) × (kept_in m'.stand ≡ nothing_kept)
+Obeys tells m line.Clean reply m' = (reply ≡ plain cleaned_line) × Puts tells m m' (clearing m.stand ∷ []) × (kept_in m'.stand ≡ nothing_kept)
 
 -- line number n: where it means nothing that there is, that is told; else it is obeyed
 abbrev pub Answers : Type 0 → Scene → ℕ → List ℕ → List ℕ → Scene → Type 0
@@ -68,15 +68,15 @@ Answers tells m n bytes text m' =
 
 -- ---- lines that aren't answered
 
--- the batch that a line may commit
-abbrev pub Brings : Scene → Line → Batch → Type 0
-Brings m (line.Build targets) B = (a : Answer) × Plans m targets a B
-Brings m line.Clean B = B ≡ clearing m.stand
-Brings m l B = ⊥
+-- the batches that a line may commit, one after another
+abbrev pub Brings : Scene → Line → List Batch → Type 0
+Brings m (line.Build targets) Bs = (a : Answer) × Plans m targets a Bs
+Brings m line.Clean Bs = Bs ≡ clearing m.stand ∷ []
+Brings m l Bs = ⊥
 
--- Want of memory comes before any commit, and leaves all as before the line; or the line's batch isn't put, for this reason.
+-- Want of memory comes before any commit, and leaves all as before the line; or one of the line's batches isn't put, for this reason, and those in front of it were.
 abbrev pub Breaks : Type 0 → Scene → Line → StepEnd → Scene → Type 0
-Breaks tells m l end m' = ((end ≡ NoMemory) × (m' ≡ m)) ⊎ ((B : Batch) × Brings m l B × Stops tells m m' B end)
+Breaks tells m l end m' = ((end ≡ NoMemory) × (m' ≡ m)) ⊎ ((Bs : List Batch) × Brings m l Bs × Stops tells m m' Bs end)
 
 abbrev pub Ends : Type 0 → Scene → ℕ → List ℕ → StepEnd → Scene → Type 0
 Ends tells m n bytes end m' = ((end ≡ NoMemory) × (m' ≡ m)) ⊎ ((l : Line) × Means m.book.kind bytes l × Breaks tells m l end m')

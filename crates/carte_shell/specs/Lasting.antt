@@ -1,5 +1,5 @@
 -- Sessions that nothing hinders.
-use Rattle.std.specs.Prelude.{ℕ, ◌≡◌, ◌≤◌, List, ◌∷◌, ◌++◌, length, Result, Ok, Err}
+use Rattle.std.specs.Prelude.{ℕ, ◌≡◌, ◌≤◌, true, List, ◌∷◌, ◌++◌, length, Result, Ok, Err}
 use Rattle.carte_io.specs.Causes.{Rose}
 use Rattle.carte_io.specs.Streams.{SinkState, SourceState}
 use Rattle.carte_record.specs.declared.batch.Batch.{Batch}
@@ -8,17 +8,16 @@ use Rattle.carte_session.specs.Session.{Goes, IsSession}
 use Rattle.carte_session.specs.declared.end.SessionEnd.{SessionEnd}
 use Rattle.carte_session.specs.declared.end.SessionEnd.TheVariants.{Machine, NoMemory}
 use Rattle.carte_session.specs.declared.end.StepEnd.TheVariants.{NoMemory as LineNoMemory}
-use Rattle.carte_engine.specs.Committing.{IsBase}
-use Rattle.carte_state.specs.States.{HasRoom, Stand}
+use Rattle.carte_engine.specs.Committing.{FitAll}
 use Rattle.carte_words.specs.Lines.{Means}
 use Rattle.carte_words.specs.declared.line.Line.{Line}
 use Rattle.carte_shell.specs.Answers.{Answers, Brings, Ends}
 use Rattle.carte_shell.specs.Scenes.{Scene}
 
--- wherever the lines before lead, there is room for each batch that the next line may bring, in the file as it stands when it is put
+-- wherever the lines before lead, there is room for all batches that the next line may bring, each in the file as it stands when it is put
 abbrev pub AllFit : Type 0 → Scene → List (List ℕ) → Type 0
-AllFit tells m script = (lines later : List (List ℕ)) (bytes said : List ℕ) (mid : Scene) (l : Line) (B : Batch) (base : Stand)
-    → script ≡ lines ++ bytes ∷ later → Goes (Answers tells) 1 m lines said mid → Means mid.book.kind bytes l → Brings mid l B → IsBase mid.stand B base → HasRoom base B
+AllFit tells m script = (lines later : List (List ℕ)) (bytes said : List ℕ) (mid : Scene) (l : Line) (Bs : List Batch)
+    → script ≡ lines ++ bytes ∷ later → Goes (Answers tells) 1 m lines said mid → Means mid.book.kind bytes l → Brings mid l Bs → FitAll true mid.stand Bs
 
 -- no call of the script's source, of the sink and of the disk failed
 pub record NoneFailed (script left : SourceState) (k k' : SinkState) (m m' : Scene) : Type 0 where

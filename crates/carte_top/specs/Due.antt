@@ -42,17 +42,17 @@ IsBadNow limit d at = d.tells × IsBadState limit d.old.now.reads at
 
 -- ---- room
 
--- the batch is that of a right plan
-abbrev pub IsPlanned : Asked → Book → SomeKept → Batch → Type 0
-IsPlanned w b K B = (a : Answer) × IsPlan (scheduler_of w.scheduler) (how_of w.rebuilder) K b w.targets (record { batch = B; answer = a })
+-- the batches are those of a right plan
+abbrev pub IsPlanned : Asked → Book → SomeKept → List Batch → Type 0
+IsPlanned w b K Bs = (a : Answer) × IsPlan (scheduler_of w.scheduler) (how_of w.rebuilder) K b w.targets (record { batches = Bs; answer = a })
 
--- there is room for each such batch
-abbrev pub AllFit : ℕ → OverDisk → (Batch → Type 0) → Type 0
-AllFit limit d May = (B : Batch) → May B → FitsIn limit d.old.now.reads B
+-- there is room for all such batches
+abbrev pub AllFit : ℕ → OverDisk → (List Batch → Type 0) → Type 0
+AllFit limit d May = (Bs : List Batch) → May Bs → FitsIn limit d.old.now.reads Bs
 
--- none is empty, and with each the file needs just so many bytes, which are more than the limit
-abbrev pub AllOver : ℕ → OverDisk → ℕ → ℕ → (Batch → Type 0) → Type 0
-AllOver limit d needed most May = (most ≡ limit) × (limit < needed) × ((B : Batch) → May B → (is_empty B ≡ false) × IsNeeded limit d.old.now.reads B needed)
+-- among all such batches there is one with which the file needs just so many bytes, which are more than the limit
+abbrev pub AllOver : ℕ → OverDisk → ℕ → ℕ → (List Batch → Type 0) → Type 0
+AllOver limit d needed most May = (most ≡ limit) × (limit < needed) × ((Bs : List Batch) → May Bs → IsNeeded limit d.old.now.reads Bs needed)
 
 -- ---- the status
 
@@ -72,9 +72,9 @@ abbrev pub IsGenerateDue : ℕ → Asked → OverDisk → Status → Type 0
 IsGenerateDue limit w d due = IsDueOver (Makes w) limit (for_last w) d due
 
 abbrev pub IsCleanDue : ℕ → OverDisk → Status → Type 0
-IsCleanDue limit d Done = IsKept limit d (λ K. AllFit limit d (IsClearing K))
+IsCleanDue limit d Done = IsKept limit d (λ K. AllFit limit d (AreClearing K))
 IsCleanDue limit d (BadState at) = IsBadNow limit d at
-IsCleanDue limit d (StateFull needed most) = IsKept limit d (λ K. AllOver limit d needed most (IsClearing K))
+IsCleanDue limit d (StateFull needed most) = IsKept limit d (λ K. AllOver limit d needed most (AreClearing K))
 IsCleanDue limit d _ = ⊥
 
 abbrev pub IsExplainDue : ℕ → Asked → OverSource → OverDisk → Status → Type 0

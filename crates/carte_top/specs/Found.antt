@@ -74,17 +74,13 @@ pub record EndsWith (limit : ℕ) (K : SomeKept) (m : Moment) : Type 0 where
   pub settled : IsSettled m
   pub keeps : Keeps limit K m.reads
 
--- how the state in a file stands when a batch is put into it: as the file has it, or rewritten, where that is due
-abbrev pub IsBaseOf : ℕ → List ℕ → Batch → Stand → Type 0
-IsBaseOf limit file B base = (s : Stand) × IsLoaded s file × (s.journal.limit ≡ limit) × IsBase s B base
+-- with these batches one after another there is one for which the file would need so many bytes, which are more than the limit
+abbrev pub IsNeeded : ℕ → List ℕ → List Batch → ℕ → Type 0
+IsNeeded limit file Bs needed = (s : Stand) → IsLoaded s file → s.journal.limit ≡ limit → Overfill needed true s Bs
 
--- the file needs so many bytes with the batch
-abbrev pub IsNeeded : ℕ → List ℕ → Batch → ℕ → Type 0
-IsNeeded limit file B needed = (base : Stand) → IsBaseOf limit file B base → needed ≡ needs_for base B
-
--- there is room for the batch; an empty one takes none
-abbrev pub FitsIn : ℕ → List ℕ → Batch → Type 0
-FitsIn limit file B = (base : Stand) → IsBaseOf limit file B base → HasRoom base B
+-- there is room for each of the batches, in the file as it stands when it is put; an empty one takes none
+abbrev pub FitsIn : ℕ → List ℕ → List Batch → Type 0
+FitsIn limit file Bs = (s : Stand) → IsLoaded s file → s.journal.limit ≡ limit → FitAll true s Bs
 
 -- the frames of a file have grown by just that of the batch, and by none for an empty one
 abbrev pub GrowsBy : ℕ → Batch → List ℕ → List ℕ → Type 0
@@ -100,67 +96,44 @@ pub record IsFoundAs (limit : ℕ) (d : OverDisk) (K : SomeKept) : Type 0 where
   pub limit_is : stand.journal.limit ≡ limit
   pub keeps : kept_in stand ≡ K
 
--- how it stood when the batch was put, and the disk's story up to there: nothing had been done, or the file had been rewritten, where that is due
-pub record IsReadied (limit : ℕ) (d : OverDisk) (K : SomeKept) (B : Batch) : Type 0 where
+-- of each batch that was put, the frames have grown by just its own, from the file on as it stood then
+abbrev pub GrowsAlong : (limit : ℕ) (first : Bool) (d : OverDisk) (old : Stand) (Bs : List Batch) (new : Stand) → PutsAll first d old Bs new → Type 0
+GrowsAlong limit first d old [] new none = Unit {0}
+GrowsAlong limit first d old (B ∷ Bs) new (mid, between, inl f, puts) = GrowsBy limit B f.between.now.reads between.now.reads × GrowsAlong limit false (behind d between) mid Bs new puts
+GrowsAlong limit first d old (B ∷ Bs) new (mid, between, inr unready, puts) = ⊥
+
+-- The batches were put into what was kept, one after another, each once and nothing besides. Under a crash at any later moment the file keeps them all. Each makes no
+-- writing call where it is empty, else 4, and 6 where the file is new; a rewriting before it makes 4, 5 or 7. At each moment an image is at the station behind those
+-- batches of which all calls have passed, or at a later one.
+pub record ArePut (limit : ℕ) (d : OverDisk) (K : SomeKept) (Bs : List Batch) : Type 0 where
   pub found : IsFoundAs limit d K
-  pub base : Stand
-  pub between : Story
-  pub ready : Readies (until d between) found.stand B base
+  pub last : Stand
+  pub puts : PutsAll true d found.stand Bs last
+  pub ends : d.tells → IsSettled d.old.now → EndsWith limit (applied K Bs) d.new.now
+  pub grows : d.tells → IsSettled d.old.now → GrowsAlong limit true d found.stand Bs last puts
+  pub calls : d.tells → d.new.now.passed ≡ d.old.now.passed + calls_in (steps_put true d found.stand Bs last puts)
+  pub stands : d.tells → IsSettled d.old.now → StepsThrough (Keeps limit) (kept_in found.stand) (steps_put true d found.stand Bs last puts) d.old d.new
 
--- the steps of what was done up to there, and of the batch: each moment's images are at the station behind those of which all calls have passed, or at a later one
-abbrev pub StandsFrom : (limit : ℕ) (d : OverDisk) (K : SomeKept) (B : Batch) → IsReadied limit d K B → Type 0
-StandsFrom limit d K B from =
-    StepsThrough (Keeps limit) (kept_in from.found.stand)
-    (steps_ready (until d from.between) from.found.stand from.base B from.ready ++ step_for from.base.journal (kept_in from.found.stand) B) d.old d.new
-
--- The batch was put into what was kept, once and nothing besides. Under a crash at any later moment the file keeps it. It makes no writing call where it is
--- empty, else 4, and 6 where the file is new; a rewriting before it makes 4, 5 or 7.
-pub record IsPut (limit : ℕ) (d : OverDisk) (K : SomeKept) (B : Batch) : Type 0 where
-  pub from : IsReadied limit d K B
-  pub room : HasRoom from.base B
-  pub ends : d.tells → IsSettled d.old.now → EndsWith limit (apply B K) d.new.now
-  pub grows : d.tells → IsSettled d.old.now → GrowsBy limit B from.between.now.reads d.new.now.reads
-  pub calls : d.tells → d.new.now.passed ≡ from.between.now.passed + calls_for from.base.journal B
-  pub stands : d.tells → IsSettled d.old.now → StandsFrom limit d K B from
-
--- the file would need so many bytes with the batch, which are more than the limit; nothing was written but what made it ready
-pub record IsOver (limit : ℕ) (d : OverDisk) (K : SomeKept) (B : Batch) (needed most : ℕ) : Type 0 where
-  pub from : IsReadied limit d K B
-  pub needed_is : needed ≡ needs_for from.base B
-  pub most_is : most ≡ limit
-  pub over : limit < needed
-  pub story : d.tells → d.new ≡ from.between
-
--- its commit was begun, and not all of its calls passed
-pub record IsCutOff (limit : ℕ) (d : OverDisk) (K : SomeKept) (B : Batch) : Type 0 where
-  pub from : IsReadied limit d K B
-  pub few : d.tells → (from.between.now.passed ≤ d.new.now.passed) × (d.new.now.passed < from.between.now.passed + calls_for from.base.journal B)
-  pub stands : d.tells → IsSettled d.old.now → StandsFrom limit d K B from
-
--- or not all of those of the rewriting that was due before it
-pub record IsCutBefore (limit : ℕ) (d : OverDisk) (K : SomeKept) (B : Batch) : Type 0 where
+-- Those in front were put, and the next one was not, for this reason: with it the file would need so many bytes, which are more than the limit; or the disk failed while
+-- it was put, or while the file was rewritten before it; or there was no memory for it.
+pub record IsStopped (limit : ℕ) (d : OverDisk) (K : SomeKept) (Bs : List Batch) (fault : ApplyFault) : Type 0 where
   pub found : IsFoundAs limit d K
-  pub due : IsDue found.stand B
-  pub few : d.tells → (d.old.now.passed ≤ d.new.now.passed) × (d.new.now.passed < d.old.now.passed + calls_to_turn found.stand.journal.bank)
-
-abbrev pub IsCut : ℕ → OverDisk → SomeKept → Batch → Type 0
-IsCut limit d K B = IsCutOff limit d K B ⊎ IsCutBefore limit d K B
-
--- nothing was written but what made the file ready for some batch, which wasn't put
-abbrev pub IsReadiedAlone : ℕ → OverDisk → SomeKept → Type 0
-IsReadiedAlone limit d K = (B : Batch) × (r : IsReadied limit d K B) × (d.tells → d.new ≡ r.between)
+  pub last : Stand
+  pub stops : StopsAt d found.stand Bs last fault
+  pub calls : d.tells → HasPassed d stops.between (steps_stopped d found.stand Bs last fault stops) fault
+  pub stands : d.tells → IsSettled d.old.now → StepsThrough (Keeps limit) (kept_in found.stand) (steps_stopped d found.stand Bs last fault stops) d.old d.new
 
 -- ---- the build
 
--- a build of the words' targets answers so, rightly, and may commit the batch
-abbrev pub Answers : Asked → Book → SomeKept → Answer → Batch → Type 0
-Answers w b K a B = Under K b (IsPlan (scheduler_of w.scheduler) (how_of w.rebuilder) K b w.targets (record { batch = B; answer = a }))
+-- a build of the words' targets answers so, rightly, and may commit the batches
+abbrev pub Answers : Asked → Book → SomeKept → Answer → List Batch → Type 0
+Answers w b K a Bs = Under K b (IsPlan (scheduler_of w.scheduler) (how_of w.rebuilder) K b w.targets (record { batches = Bs; answer = a }))
 
--- it answered so, and committed its batch
+-- it answered so, and committed its batches
 pub record Commits (limit : ℕ) (w : Asked) (d : OverDisk) (b : Book) (K : SomeKept) (a : Answer) : Type 0 where
-  pub batch : Batch
-  pub answers : Answers w b K a batch
-  pub put : IsPut limit d K batch
+  pub batches : List Batch
+  pub answers : Answers w b K a batches
+  pub put : ArePut limit d K batches
 
 -- the text of its reply
 abbrev pub reply_to : Asked → Built → List ℕ
@@ -170,7 +143,7 @@ reply_to w built = reply w.targets built.values w.list built.ran built.given_up 
 pub record Replies (limit : ℕ) (w : Asked) (d : OverDisk) (k : OverSink) (Takes : OverSink → List ℕ → Type 0) (b : Book) (K : SomeKept) : Type 0 where
   pub built : Built
   pub commits : Commits limit w d b K (answer.Built built)
-  pub keeps : Under K b (KeepsBy (scheduler_of w.scheduler) (how_of w.rebuilder) K (apply commits.batch K) b w.targets)
+  pub keeps : Under K b (KeepsBy (scheduler_of w.scheduler) (how_of w.rebuilder) K (applied K commits.batches) b w.targets)
   pub takes : k.tells → Takes k (reply_to w built)
 
 -- a generated book is built for its last key, and its reply stands behind a line that tells of its keys
@@ -183,20 +156,18 @@ front_of w = keys_line w.count (inputs_of w.count)
 abbrev pub behind : List ℕ → (OverSink → List ℕ → Type 0) → OverSink → List ℕ → Type 0
 behind front Takes k text = Takes k (front ++ text)
 
--- a batch that a build may commit isn't empty, and is too much
-pub record Overfills (limit : ℕ) (w : Asked) (d : OverDisk) (needed most : ℕ) (b : Book) (K : SomeKept) : Type 0 where
+-- one of the batches that a build may commit was not put, for this reason, and those in front of it were
+pub record Halts (limit : ℕ) (w : Asked) (d : OverDisk) (fault : ApplyFault) (b : Book) (K : SomeKept) : Type 0 where
   pub answer : Answer
-  pub batch : Batch
-  pub answers : Answers w b K answer batch
-  pub filled : is_empty batch ≡ false
-  pub over : IsOver limit d K batch needed most
+  pub batches : List Batch
+  pub answers : Answers w b K answer batches
+  pub stopped : IsStopped limit d K batches fault
 
--- the commit of a batch that a build may commit was cut off
-pub record Halts (limit : ℕ) (w : Asked) (d : OverDisk) (b : Book) (K : SomeKept) : Type 0 where
-  pub answer : Answer
-  pub batch : Batch
-  pub answers : Answers w b K answer batch
-  pub cut : IsCut limit d K batch
+-- it is too much
+pub record Overfills (limit : ℕ) (w : Asked) (d : OverDisk) (needed most : ℕ) (b : Book) (K : SomeKept) : Type 0 where
+  pub halts : Halts limit w d (Full needed most) b K
+  pub most_is : most ≡ limit
+  pub over : limit < needed
 
 -- ---- the clearing
 
@@ -205,25 +176,28 @@ pub record IsClearing (K : SomeKept) (B : Batch) : Type 0 where
   pub leaves : apply B K ≡ nothing_kept
   pub least : ((K ≡ nothing_kept) × (B ≡ empty_batch)) ⊎ (¬ (K ≡ nothing_kept) × (B ≡ record empty_batch { start = Cleared }))
 
+-- the batch of a clearing, alone
+abbrev pub AreClearing : SomeKept → List Batch → Type 0
+AreClearing K Bs = (B : Batch) × IsClearing K B × (Bs ≡ B ∷ [])
+
 -- nothing is kept any more, and that was said
 pub record Clears (limit : ℕ) (d : OverDisk) (k : OverSink) (Takes : OverSink → List ℕ → Type 0) (K : SomeKept) : Type 0 where
   pub batch : Batch
   pub clearing : IsClearing K batch
-  pub put : IsPut limit d K batch
+  pub put : ArePut limit d K (batch ∷ [])
   pub takes : k.tells → Takes k (codes "cleaned" ++ 10 ∷ [])
 
--- something is kept, and the clearing's batch is too much
-pub record ClearsNot (limit : ℕ) (d : OverDisk) (needed most : ℕ) (K : SomeKept) : Type 0 where
+-- its batch was not put, for this reason
+pub record ClearsNot (limit : ℕ) (d : OverDisk) (fault : ApplyFault) (K : SomeKept) : Type 0 where
   pub batch : Batch
   pub clearing : IsClearing K batch
-  pub filled : is_empty batch ≡ false
-  pub over : IsOver limit d K batch needed most
+  pub stopped : IsStopped limit d K (batch ∷ []) fault
 
--- its commit was cut off
-pub record ClearsInPart (limit : ℕ) (d : OverDisk) (K : SomeKept) : Type 0 where
-  pub batch : Batch
-  pub clearing : IsClearing K batch
-  pub cut : IsCut limit d K batch
+-- something is kept, and the batch is too much
+pub record ClearsTooMuch (limit : ℕ) (d : OverDisk) (needed most : ℕ) (K : SomeKept) : Type 0 where
+  pub clears_not : ClearsNot limit d (Full needed most) K
+  pub most_is : most ≡ limit
+  pub over : limit < needed
 
 -- ---- the explanation
 

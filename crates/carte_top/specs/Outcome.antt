@@ -32,19 +32,15 @@ IsBad limit d offset = d.tells → IsBadState limit d.old.now.reads offset × (d
 abbrev pub IsSpared : OverDisk → Type 0
 IsSpared d = d.tells → d.new ≡ d.old
 
--- or the file was rewritten for a commit, and keeps what it did
-abbrev pub IsLeftSo : ℕ → OverDisk → Type 0
-IsLeftSo limit d = IsSpared d ⊎ Found limit d (IsReadiedAlone limit d)
-
 -- what a build has done over a book that is had so, whose reply stands behind what is in front
 abbrev pub BuiltOver : ((Book → Type 0) → Type 0) → ℕ → Asked → List ℕ → OverDisk → OverSink → Status → Type 0
 BuiltOver Has limit w front d k Done = Has (λ b. Found limit d (Replies limit w d k (behind front TakesAll) b))
 BuiltOver Has limit w front d k (BuildRefused reason) = Has (λ b. Found limit d (λ K. Commits limit w d b K (answer.Refused reason))) × IsUntouched k
 BuiltOver Has limit w front d k WriteFault = Has (λ b. Found limit d (Replies limit w d k (behind front TakesFront) b))
-BuiltOver Has limit w front d k DiskFault = ((Has (λ b. Unit {0}) × IsSpared d) ⊎ Has (λ b. Found limit d (Halts limit w d b))) × IsUntouched k
+BuiltOver Has limit w front d k DiskFault = ((Has (λ b. Unit {0}) × IsSpared d) ⊎ Has (λ b. Found limit d (Halts limit w d ApplyFault.DiskFault b))) × IsUntouched k
 BuiltOver Has limit w front d k (BadState offset) = Has (λ b. Unit {0}) × IsBad limit d offset × IsUntouched k
 BuiltOver Has limit w front d k (StateFull needed most) = Has (λ b. Found limit d (Overfills limit w d needed most b)) × IsUntouched k
-BuiltOver Has limit w front d k NoMemory = IsUntouched k × IsLeftSo limit d
+BuiltOver Has limit w front d k NoMemory = IsUntouched k × (IsSpared d ⊎ Has (λ b. Found limit d (Halts limit w d ApplyFault.NoMemory b)))
 BuiltOver Has limit w front d k _ = ⊥
 
 -- what a build has done: over the book that was read, or there is none
@@ -61,10 +57,10 @@ Generated limit w d k status = BuiltOver (Makes w) limit (for_last w) (front_of 
 abbrev pub Cleaned : ℕ → OverDisk → OverSink → Status → Type 0
 Cleaned limit d k Done = Found limit d (Clears limit d k TakesAll)
 Cleaned limit d k WriteFault = Found limit d (Clears limit d k TakesFront)
-Cleaned limit d k DiskFault = (IsSpared d ⊎ Found limit d (ClearsInPart limit d)) × IsUntouched k
+Cleaned limit d k DiskFault = (IsSpared d ⊎ Found limit d (ClearsNot limit d ApplyFault.DiskFault)) × IsUntouched k
 Cleaned limit d k (BadState offset) = IsBad limit d offset × IsUntouched k
-Cleaned limit d k (StateFull needed most) = Found limit d (ClearsNot limit d needed most) × IsUntouched k
-Cleaned limit d k NoMemory = IsUntouched k × IsLeftSo limit d
+Cleaned limit d k (StateFull needed most) = Found limit d (ClearsTooMuch limit d needed most) × IsUntouched k
+Cleaned limit d k NoMemory = IsUntouched k × (IsSpared d ⊎ Found limit d (ClearsNot limit d ApplyFault.NoMemory))
 Cleaned limit d k _ = ⊥
 
 -- there is no book, or no state, to look at
@@ -118,6 +114,13 @@ CommitsRefused limit w d b = Found limit d (λ K. (reason : Reason) × Commits l
 abbrev pub KeepsRefused : ℕ → OverSource → OverDisk → Asked → Type 0
 KeepsRefused limit s d w = ((w.command ≡ command.Build) × Holds w.kind s (CommitsRefused limit w d)) ⊎ ((w.command ≡ command.Generate) × Makes w (CommitsRefused limit (for_last w) d))
 
+-- there was no memory for a batch of a build, or for that of a clearing
+abbrev pub StopsShort : Command → ℕ → Asked → OverSource → OverDisk → Type 0
+StopsShort command.Build limit w s d = Holds w.kind s (λ b. Found limit d (Halts limit w d ApplyFault.NoMemory b))
+StopsShort command.Generate limit w s d = Makes w (λ b. Found limit d (Halts limit (for_last w) d ApplyFault.NoMemory b))
+StopsShort command.Clean limit w s d = Found limit d (ClearsNot limit d ApplyFault.NoMemory)
+StopsShort _ limit w s d = ⊥
+
 -- a session came to an end behind which memory is wanted for the error line
 abbrev pub IsShort : SessionEnd → Type 0
 IsShort session.TooLong = Unit {0}
@@ -132,7 +135,7 @@ EndsShort limit s c d k w = (w.command ≡ command.Session) × ((end : SessionEn
 -- First the words are read: what holds but for the error line. Behind a commit memory is wanted for that line alone, and for lines of a session.
 abbrev pub Ran : ℕ → List (List ℕ) → OverSource → OverSource → OverDisk → OverSink → Status → Type 0
 Ran limit words s c d k (Usage fault) = (words_of words ≡ Err fault) × IsUnread s × IsUnvisited d × IsUntouched k
-Ran limit words s c d k NoMemory = (IsUntouched k × (IsLeftSo limit d ⊎ Asks words (KeepsRefused limit s d))) ⊎ Asks words (EndsShort limit s c d k)
+Ran limit words s c d k NoMemory = (IsUntouched k × (IsSpared d ⊎ Asks words (λ w. StopsShort w.command limit w s d) ⊎ Asks words (KeepsRefused limit s d))) ⊎ Asks words (EndsShort limit s c d k)
 Ran limit words s c d k status = Asks words (λ w. Does w.command limit w s c d k status)
 
 -- and the error line

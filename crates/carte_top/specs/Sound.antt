@@ -20,17 +20,17 @@ use Rattle.carte_top.specs.Found.{Holds, HasBook, Makes, IsClearing, for_last}
 use Rattle.carte_top.specs.Outcome.{Asks, IsSpared}
 pub use Rattle.carte_shell.specs.Sound.{KeepsSound}
 
--- a file keeps what was kept before a run, or what such a batch makes of that
-abbrev pub IsStation : ℕ → (SomeKept → Batch → Type 0) → SomeKept → List ℕ → Type 0
-IsStation limit May K file = Keeps limit K file ⊎ ((B : Batch) × May K B × Keeps limit (apply B K) file)
+-- a file keeps what was kept before a run, or what such batches make of that, of which the first ones were put
+abbrev pub IsStation : ℕ → (SomeKept → List Batch → Type 0) → SomeKept → List ℕ → Type 0
+IsStation limit May K file = Keeps limit K file ⊎ ((some rest : List Batch) × May K (some ++ rest) × Keeps limit (applied K some) file)
 
 -- at each moment an image of the file does
-abbrev pub StaysAt : ℕ → (SomeKept → Batch → Type 0) → OverDisk → Type 0
+abbrev pub StaysAt : ℕ → (SomeKept → List Batch → Type 0) → OverDisk → Type 0
 StaysAt limit May d = d.tells → IsSettled d.old.now → (K : SomeKept) → Keeps limit K d.old.now.reads → LeavesOnly d.old d.new (IsStation limit May K)
 
--- the batch is one that a build with a right answer may commit
-abbrev pub MayBuild : Asked → Book → SomeKept → Batch → Type 0
-MayBuild w b K B = Under K b ((a : Answer) × IsPlan (scheduler_of w.scheduler) (how_of w.rebuilder) K b w.targets (record { batch = B; answer = a }))
+-- the batches are those that a build with a right answer may commit
+abbrev pub MayBuild : Asked → Book → SomeKept → List Batch → Type 0
+MayBuild w b K Bs = Under K b ((a : Answer) × IsPlan (scheduler_of w.scheduler) (how_of w.rebuilder) K b w.targets (record { batches = Bs; answer = a }))
 
 -- ---- soundness
 
@@ -54,7 +54,7 @@ abbrev pub KeepsOn : Command → ℕ → Asked → OverSource → OverSource →
 KeepsOn command.Build limit w s c d = Holds w.kind s (λ b. StaysAt limit (MayBuild w b) d)
 KeepsOn command.Session limit w s c d = SessionStays limit w s c d
 KeepsOn command.Explain limit w s c d = HasBook w.kind s × IsSpared d
-KeepsOn command.Clean limit w s c d = StaysAt limit IsClearing d
+KeepsOn command.Clean limit w s c d = StaysAt limit AreClearing d
 KeepsOn command.Generate limit w s c d = Makes w (λ b. StaysAt limit (MayBuild (for_last w) b) d)
 
 -- The disk was called for a build, an explanation or a session whose book was read, for a build of a generated book, or for a clearing; and then a crash leaves what is said above. What it

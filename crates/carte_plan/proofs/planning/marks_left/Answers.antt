@@ -13,7 +13,7 @@ loop-mark-preserved c =
     let at = c.loop-mark.mark-index in
     let below : at < length marks = search rules in
     let more = take_more marks at c.mark-item.result below ∙ ap (λ x. take at marks ++ x ∷ []) (sym c.mark-item.is) in
-    let fs = c.args.finished.now in
+    let fs = take c.args.count c.args.finished.now in
     (c.in_ok-add_left.ensures {u = tt})
     ∙ (left_more fs (take at marks) c.loop-mark.left c.mark-item.result (is_none (finished_of fs c.mark-item.result)) refl c.loop-mark.invariant
     ∙ ap (marks_left (finishes_of fs)) (sym more))

@@ -4,4 +4,4 @@ use Rattle.carte_note.specs.Right.{finishes_of}
 use Rattle.carte_plan.proofs.planning.marks_left.Given as goal
 
 abbrev pub invariant-loop-mark : goal.invariant-loop-mark
-invariant-loop-mark l = l.left ≡ marks_left (finishes_of l.finished) (take l.mark-index l.mark-items)
+invariant-loop-mark l = l.left ≡ marks_left (finishes_of (take l.count l.finished)) (take l.mark-index l.mark-items)
