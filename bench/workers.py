@@ -3,6 +3,7 @@
 
 A sheet of 2,000 rules, each of which sums 20,000 cells (200 cells, a hundred times), is built with every rule as a target, so that
 one wave has them all: by the clock four workers may take half as long as one, reading the book and keeping what was made in that.
+Sheets of fewer rules, of which each sums fewer cells, show from where on workers pay.
 On the generated book of 65,536 keys each wave is one rule, and no thread is worth its while: the instructions of four workers,
 counted by callgrind, may be 1.3 times those of one. Of each the time of processors is told too, and of the sheet also two workers
 and seven. Replies are the same for every number of workers, and the state's bytes for every number above one. It ends with 1 where
@@ -56,6 +57,26 @@ def wide(program, folder, rules):
     return clock[4] <= HALF * clock[1]
 
 
+def shallow(width, cells):
+    """Rules that sum so many cells each, beside rows of ten numbers."""
+    rows = [",".join([str(10 * at + column) for column in range(10)] if at < 20 else [""] * 10) for at in range(width)]
+    sums = "+".join(["SUM(A1:J20)"] * (cells // 200) or [f"SUM(A1:A{cells})"])
+    return "".join(f"{row},={sums}+{at}\n" for at, row in enumerate(rows))
+
+
+def pays(program, folder):
+    """From which cost of a rule, and which number of rules beside one another, two and four workers pay."""
+    book, state = f"{folder}/book.csv", f"{folder}/state"
+    for width in (100, 500, 2_000):
+        for cells in (20, 200, 2_000):
+            pathlib.Path(book).write_text(shallow(width, cells))
+            words = [program, "build", book, state, *(f"K{at + 1}" for at in range(width)), "--workers"]
+            clock = {workers: min(timed([*words, str(workers)], state)[1] for _ in range(2 * TURNS)) for workers in (1, 2, 4)}
+            print(f"{width} rules of {cells} cells: {1000 * clock[1]:.1f} ms by one worker, by two {clock[2] / clock[1]:.2f} of that, "
+                  f"by four {clock[4] / clock[1]:.2f}", flush=True)
+    return True
+
+
 def narrow(program, folder, keys):
     counts, said = {}, {}
     for workers in (1, 4):
@@ -72,7 +93,7 @@ def narrow(program, folder, keys):
 def main(program, rules=2_000):
     program = os.path.abspath(program)
     with tempfile.TemporaryDirectory() as folder:
-        kept = [wide(program, folder, int(rules)), narrow(program, folder, 65_536)]
+        kept = [wide(program, folder, int(rules)), pays(program, folder), narrow(program, folder, 65_536)]
     return 0 if all(kept) else 1
 
 
