@@ -1,0 +1,5 @@
+pub mod Trims
+mod Ranks
+mod Steps
+mod Once
+mod Cutting
