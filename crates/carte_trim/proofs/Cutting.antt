@@ -27,7 +27,7 @@ use Rattle.carte_record.proofs.Looked.{digest_eq_is, digest_eq_self, find_passes
 use Rattle.carte_record.proofs.Marks.{none_marked}
 use Rattle.carte_sound.specs.Lists.{EachOnce}
 use Rattle.carte_state.specs.Runs.{applied}
-use Rattle.carte_compact.specs.Latest.{last_ones}
+use Rattle.carte_record.specs.Latest.{last_ones}
 use Rattle.carte_compact.specs.Live.{IsAllOf, IsLive, IsSomeLive, and_marks, entry_at, found_at, keys_of, marks_of, put, stale_at, start_for}
 use Rattle.carte_compact.proofs.Found.{each_found, unlisted}
 use Rattle.carte_compact.proofs.Living.{is_kept, kept_again}

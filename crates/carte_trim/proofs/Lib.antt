@@ -3,3 +3,6 @@ mod Ranks
 mod Steps
 mod Once
 mod Cutting
+mod Files
+mod Running
+mod Due

@@ -11,7 +11,7 @@ use Rattle.carte_record.specs.Kept.{newest, traces_in}
 use Rattle.carte_record.specs.Lookups.{is_trace_of, trace_eq}
 use Rattle.carte_record.proofs.Looked.{trace_eq_is, trace_eq_self}
 use Rattle.carte_sound.specs.Lists.{EachOnce}
-use Rattle.carte_compact.specs.Latest.{last_ones}
+use Rattle.carte_record.specs.Latest.{last_ones}
 use Rattle.carte_trim.specs.Lists.{count_of, newest_of}
 
 -- ---- lists in which each trace stands once

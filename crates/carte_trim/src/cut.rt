@@ -10,9 +10,9 @@ use std::alloc::Global;
 
 /// How many traces there were, and how many are left.
 #[derive(Clone, Copy)]
-pub struct Counts {
-    pub before: u64,
-    pub after: u64,
+pub(crate) struct Counts {
+    pub(crate) before: u64,
+    pub(crate) after: u64,
 }
 
 /// Cuts the first of the batches, which has all traces and values. The second one has marks alone.

@@ -2,7 +2,7 @@ use Rattle.std.proofs.Common.{◌≡◌, ◌+◌, ◌<◌, Bool, List, length, t
 use Rattle.std.specs.Prelude.{◌||◌}
 use Rattle.carte_table.specs.Lookups.{digest_eq}
 use Rattle.carte_value.specs.declared.digest.Digest.{Digest}
-use Rattle.carte_compact.proofs.Links.{item_more}
+use Rattle.carte_record.proofs.Links.{item_more}
 use Rattle.carte_trim.specs.Lists.{in_entries}
 use Rattle.carte_trim.proofs.Steps.{any_end, or_assoc, those_same}
 use Rattle.carte_trim.proofs.named.for_entries.Goals as goal

@@ -12,13 +12,13 @@ use std::alloc::Global;
 
 /// What is left of what is kept, with how many traces there were and are.
 #[derive(Drop)]
-pub struct Remains {
-    pub kept: Kept,
-    pub counts: Counts,
+pub(crate) struct Remains {
+    pub(crate) kept: Kept,
+    pub(crate) counts: Counts,
 }
 
 /// The newest `count` traces of each key and each way, and what else they and the entries need.
-pub fn trimmed(alloc: Global, kept: &Kept, count: u64) -> Result<Remains, NoMemory>
+pub(crate) fn trimmed(alloc: Global, kept: &Kept, count: u64) -> Result<Remains, NoMemory>
     ensures kept { IfOk result (λ t. IsTrimmed (kept_view kept.now) count (kept_view t.kept)) }
     ensures before { IfOk result (λ t. IsNumberOf (kept_view kept.now) t.counts.before) }
     ensures after { IfOk result (λ t. IsNumberOf (kept_view t.kept) t.counts.after) }

@@ -2,7 +2,7 @@ use Rattle.std.proofs.Common.{sym, subst}
 use Rattle.carte_record.specs.Kept.{kept_view}
 use Rattle.carte_trim.specs.Trimmed.{IsNumberOf, IsTrimmed}
 use Rattle.carte_trim.proofs.Cutting.{comes}
-use Rattle.carte_trim.proofs.trimming.trimmed.Goals as goal
+use Rattle.carte_trim.proofs.trimmed.trimmed.Goals as goal
 
 pub returns-clause-kept : goal.returns-clause-kept
 returns-clause-kept c =
