@@ -3,7 +3,7 @@ ghost use Rattle.std.specs.Prelude.{◌≡◌, ◌++◌, false, true, IfOk, IfSo
 ghost use Rattle.std.specs.Fmt.{decimal};
 ghost use Rattle.carte_trim.specs.Around.{over_sink, Says};
 ghost use Rattle.carte_trim.specs.Outcome.{Ended, Prints, Reports};
-ghost use Rattle.carte_trim.specs.Texts.{error_line, is_done, is_long, reply};
+ghost use Rattle.carte_trim.specs.Texts.{error_line, is_done, is_long, reply, status_text};
 
 use crate::Status;
 use carte_io::{Sink, write_all};
@@ -108,23 +108,43 @@ fn is_done(status: &Status) -> bool
     }
 }
 
+// And those that do.
 fn long_line(alloc: Global, status: &Status) -> Result<String, NoMemory>
     requires { is_long status.now ≡ true }
     ensures { IfOk result (λ text. string_bytes text ≡ error_line status.now) }
 {
-    let mut text = String::from_str(alloc, "carte_trim: ")?;
     match status {
-        Status::BadState(offset) => {
-            text.push_str("bad state at byte ")?;
-            push_number(alloc, &mut text, *offset, "\n")?;
-        }
-        Status::Full(needed, limit) => {
-            text.push_str("state full: ")?;
-            push_number(alloc, &mut text, *needed, " bytes needed, limit ")?;
-            push_number(alloc, &mut text, *limit, "\n")?;
-        }
-        _ => {}
+        Status::BadState(offset) => bad_state_line(alloc, *offset),
+        Status::Full(needed, limit) => full_line(alloc, *needed, *limit),
+        _ => Ok(String::new(alloc)),
     }
+}
+
+fn bad_state_line(alloc: Global, offset: u64) -> Result<String, NoMemory>
+    ensures { IfOk result (λ text. string_bytes text ≡ error_line (Status.BadState offset)) }
+{
+    let mut text = String::from_str(alloc, "carte_trim: bad state at byte ")?;
+    push_number(alloc, &mut text, offset, "\n")?;
+    Ok(text)
+}
+
+fn full_line(alloc: Global, needed: u64, limit: u64) -> Result<String, NoMemory>
+    ensures { IfOk result (λ text. string_bytes text ≡ error_line (Status.Full needed limit)) }
+{
+    let mut text = String::from_str(alloc, "carte_trim: ")?;
+    let full = full_text(alloc, needed, limit)?;
+    text.push_str(full.as_str())?;
+    text.push_str("\n")?;
+    Ok(text)
+}
+
+fn full_text(alloc: Global, needed: u64, limit: u64) -> Result<String, NoMemory>
+    ensures { IfOk result (λ text. string_bytes text ≡ status_text (Status.Full needed limit)) }
+{
+    let mut text = String::from_str(alloc, "state full: ")?;
+    push_number(alloc, &mut text, needed, " bytes needed, limit ")?;
+    let limit = limit.to_string(alloc)?;
+    text.push_str(limit.as_str())?;
     Ok(text)
 }
 

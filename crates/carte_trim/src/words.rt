@@ -1,6 +1,6 @@
 // The words of the command line.
 ghost use Rattle.std.specs.Prelude.{◌≡◌, ◌==◌, slice_index, map};
-ghost use Rattle.carte_words.specs.Numbers.{number_within};
+ghost use Rattle.carte_words.specs.Numbers.{number_within, seed_in};
 ghost use Rattle.carte_trim.specs.Words.{count_of};
 
 use carte_words::Word;
@@ -20,12 +20,22 @@ pub fn count_of(words: &[Word]) -> Option<u64>
 fn count_in(word: &str) -> Option<u64>
     ensures { result ≡ number_within 1 1000000 word.now }
 {
+    match digits_in(word) {
+        Some(number) if 1 <= number && number <= MOST => Some(number),
+        _ => None,
+    }
+}
+
+// The number that a word is: digits alone, whose number fits.
+fn digits_in(word: &str) -> Option<u64>
+    ensures { result ≡ seed_in word.now }
+{
     if has_plus(word) {
         return None;
     }
     match word.parse::<u64>() {
-        Ok(number) if 1 <= number && number <= MOST => Some(number),
-        _ => None,
+        Ok(number) => Some(number),
+        Err(_) => None,
     }
 }
 
