@@ -6,3 +6,4 @@ mod Cutting
 mod Files
 mod Running
 mod Due
+mod Digits
