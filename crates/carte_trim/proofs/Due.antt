@@ -200,7 +200,7 @@ module _ (limit : ℕ) (words : List (List ℕ)) (s d : OverDisk) (k : OverSink)
   completes Done (BadState at) (n, asks, (K, keeps, did)) (m, also, (told, bad)) = no_state K at (keeps told) bad
   completes Done NotNew (n, asks, (K, keeps, (b, is, (short, rest)))) (m, also, (told, M, kept, (tells, long))) = absurd (omega (arith, long, short tells))
   completes Done Done ran is = inl refl
-  completes Done (Full needed most) (n, asks, (K, keeps, (b, is, (short, (L, trimmed, made, replied))))) (m, also, (told, M, kept, (tells, new, all))) =
+  completes Done (Full needed most) (n, asks, (K, keeps, (b, is, (short, (L, trimmed, (made, replied)))))) (m, also, (told, M, kept, (tells, new, all))) =
       absurd (no_room L needed most made.room (all L (trims_same K M L n m (keeps told) kept asks also trimmed)))
   completes status WriteFault ran never = absurd never
   completes status StateFault ran never = absurd never

@@ -78,13 +78,13 @@ module _ (limit n : ℕ) (K : SomeKept) (of_bytes : ℕ) (d : OverDisk) (k : Ove
       pub runs_made : (status : Status) → Answers (reply traces of_traces bytes of_bytes) k status → Runs status
       runs_made status (inl (is, still)) = subst Runs (sym is) (record { made = still; leaves = leaves_so makes.leaves; new = makes.made.2; sink = still.2 })
       runs_made Done (inr prints) = record {
-        made = (short, (L, trimmed, makes.made.0, replies TakesAll prints.0));
+        made = (short, (L, trimmed, (makes.made.0, replies TakesAll prints.0)));
         leaves = leaves_so makes.leaves;
         new = makes.made.2;
         sink = prints.1;
       }
       runs_made WriteFault (inr prints) = record {
-        made = (short, (L, trimmed, makes.made.0, replies TakesFront prints.0));
+        made = (short, (L, trimmed, (makes.made.0, replies TakesFront prints.0)));
         leaves = leaves_so makes.leaves;
         new = makes.made.2;
         sink = prints.1;
@@ -118,8 +118,8 @@ module _ (limit n : ℕ) (K : SomeKept) (of_bytes : ℕ) (d : OverDisk) (S : Typ
   }
 
   made_status : (status : Status) → Made limit n K of_bytes d k status → Made limit n K of_bytes e k status
-  made_status Done (short, (L, trimmed, made, replied)) = (short, (L, trimmed, made_too L made, replies_too TakesAll L replied))
-  made_status WriteFault (short, (L, trimmed, made, replied)) = (short, (L, trimmed, made_too L made, replies_too TakesFront L replied))
+  made_status Done (short, (L, trimmed, (made, replied))) = (short, (L, trimmed, (made_too L made, replies_too TakesAll L replied)))
+  made_status WriteFault (short, (L, trimmed, (made, replied))) = (short, (L, trimmed, (made_too L made, replies_too TakesFront L replied)))
   made_status (Full needed most) made = made
   made_status NotNew made = made
   made_status NewFault made = made
