@@ -5,7 +5,7 @@ use Rattle.carte_state.specs.Folding.{IsBadState, Keeps}
 use Rattle.carte_state.specs.States.{Stand, kept_in}
 use Rattle.carte_state.proofs.Folds.{bad_at_one, keeps_one, keeps_or_bad}
 use Rattle.carte_trim.specs.Around.{OverDisk, OverSink, IsUntouched, IsUnvisited}
-use Rattle.carte_trim.specs.Outcome.{Asks, Did, Found, IsRun, IsSpared, Made, MadeLeaves, MadeOf, Ran, Reports, TellsNew, TellsSink, TellsState}
+use Rattle.carte_trim.specs.Outcome.{Asks, Did, Found, HasRoomFor, IsRun, IsSpared, Made, MadeLeaves, MadeOf, Ran, Reports, TellsNew, TellsSink, TellsState}
 use Rattle.carte_trim.specs.Parts.{LoadsState, RunsFor, RunsOver}
 use Rattle.carte_trim.specs.Texts.{is_long}
 use Rattle.carte_trim.specs.New.{IsNeeded}
@@ -164,7 +164,7 @@ module _ (limit : ℕ) (words : List (List ℕ)) (s d : OverDisk) (k : OverSink)
   trims_same K M L n m one two asks also trimmed =
       subst (λ j. IsTrimmed M j L) (same_count n m asks also) (subst (λ N. IsTrimmed N n L) (keeps_one limit s.old.now.reads K M one two) trimmed)
 
-  no_room : (L : SomeKept) (needed most : ℕ) → ((L ≡ nothing_kept) × IsSpared d) ⊎ ((other : ℕ) × IsNeeded limit L other × (other ≤ limit)) → Overfills limit needed most L → ⊥
+  no_room : (L : SomeKept) (needed most : ℕ) → HasRoomFor limit d L → Overfills limit needed most L → ⊥
   no_room L needed most (inl (none, spared)) over = over.0 none
   no_room L needed most (inr (other, is, fits)) over = omega (arith, fits, over.2, over.3 other is)
 

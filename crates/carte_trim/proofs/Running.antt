@@ -7,7 +7,7 @@ use Rattle.carte_state.specs.Folding.{Keeps}
 use Rattle.carte_state.specs.States.{Stand, kept_in}
 use Rattle.carte_trim.specs.Around.{OverDisk, OverSink, IsUntouched, TakesAll, TakesFront}
 use Rattle.carte_trim.specs.New.{IsNeeded, IsNew, KeepsEither}
-use Rattle.carte_trim.specs.Outcome.{Found, IsMade, IsOver, IsShort, IsSpared, Left, Made, MadeLeaves, Prints, Replies, TellsNew, TellsSink}
+use Rattle.carte_trim.specs.Outcome.{HasRoomFor, IsMade, IsOver, IsShort, IsSpared, Left, Made, MadeLeaves, Prints, Replies, TellsNew, TellsSink}
 use Rattle.carte_trim.specs.Parts.{Answers, LengthOr, Makes, RunsOver}
 use Rattle.carte_trim.specs.Texts.{reply}
 use Rattle.carte_trim.specs.Trimmed.{IsNumberOf, IsTrimmed}
@@ -97,14 +97,27 @@ module _ (limit n : ℕ) (K : SomeKept) (of_bytes : ℕ) (d : OverDisk) (k : Ove
       runs_made NotNew (inr never) = absurd never
       runs_made NewFault (inr never) = absurd never
 
--- ---- the same of a disk that is looked at as another
+-- ---- the same of a disk that was looked at before, and of the very disk
 
-module _ (limit n : ℕ) (K : SomeKept) (of_bytes : ℕ) (d : OverDisk) (S : Type 0) (k : OverSink) where
+module _ (limit n : ℕ) (K : SomeKept) (of_bytes : ℕ) (d : OverDisk) (old : Story) (before : ℕ) (S : Type 0) (same : d.tells → d.old ≡ old) (faults : d.failed_before ≡ before) (k : OverSink) where
   abbrev e : OverDisk
-  e = record d { same = S }
+  e = record d { old = old; failed_before = before; same = S }
+
+  new_too : d.tells → IsNew old → IsNew d.old
+  new_too told new = subst IsNew (sym (same told)) new
+
+  spared_too : IsSpared d → IsSpared e
+  spared_too spared told = spared told ∙ same told
+
+  short_too : IsShort d → IsShort e
+  short_too short told = subst (λ (s : Story). length s.now.reads ≤ 9) (same told) (short told)
+
+  room_too : (L : SomeKept) → HasRoomFor limit d L → HasRoomFor limit e L
+  room_too L (inl (none, spared)) = inl (none, spared_too spared)
+  room_too L (inr needed) = inr needed
 
   made_too : (L : SomeKept) → IsMade limit d L → IsMade limit e L
-  made_too L is = record { keeps = is.keeps; room = is.room }
+  made_too L is = record { keeps = λ told new. is.keeps told (new_too told new); room = room_too L is.room }
 
   replies_too : (Takes : OverSink → List ℕ → Type 0) (L : SomeKept) → Replies of_bytes d k Takes K L → Replies of_bytes e k Takes K L
   replies_too Takes L is = record {
@@ -118,10 +131,10 @@ module _ (limit n : ℕ) (K : SomeKept) (of_bytes : ℕ) (d : OverDisk) (S : Typ
   }
 
   made_status : (status : Status) → Made limit n K of_bytes d k status → Made limit n K of_bytes e k status
-  made_status Done (short, (L, trimmed, (made, replied))) = (short, (L, trimmed, (made_too L made, replies_too TakesAll L replied)))
-  made_status WriteFault (short, (L, trimmed, (made, replied))) = (short, (L, trimmed, (made_too L made, replies_too TakesFront L replied)))
-  made_status (Full needed most) made = made
-  made_status NotNew made = made
+  made_status Done (short, (L, trimmed, (made, replied))) = (short_too short, (L, trimmed, (made_too L made, replies_too TakesAll L replied)))
+  made_status WriteFault (short, (L, trimmed, (made, replied))) = (short_too short, (L, trimmed, (made_too L made, replies_too TakesFront L replied)))
+  made_status (Full needed most) (short, left, spared, untouched) = (short_too short, left, spared_too spared, untouched)
+  made_status NotNew (long, spared, untouched) = (λ told. subst (λ (s : Story). 9 < length s.now.reads) (same told) (long told), spared_too spared, untouched)
   made_status NewFault made = made
   made_status NoMemory made = made
   made_status Usage made = made
@@ -129,15 +142,20 @@ module _ (limit n : ℕ) (K : SomeKept) (of_bytes : ℕ) (d : OverDisk) (S : Typ
   made_status (BadState offset) made = made
 
   tells_status : (status : Status) → TellsNew d status → TellsNew e status
-  tells_status Done is = is
-  tells_status WriteFault is = is
-  tells_status (Full needed most) is = is
-  tells_status NotNew is = is
-  tells_status NewFault is = is
-  tells_status NoMemory is = is
-  tells_status Usage is = is
-  tells_status StateFault is = is
-  tells_status (BadState offset) is = is
+  tells_status NewFault is = subst (λ (m : ℕ). Rose m d.failed) faults is
+  tells_status Done is = is ∙ faults
+  tells_status WriteFault is = is ∙ faults
+  tells_status (Full needed most) is = is ∙ faults
+  tells_status NotNew is = is ∙ faults
+  tells_status NoMemory is = is ∙ faults
+  tells_status Usage is = is ∙ faults
+  tells_status StateFault is = is ∙ faults
+  tells_status (BadState offset) is = is ∙ faults
+
+  leaves_too : MadeLeaves limit n K d → MadeLeaves limit n K e
+  leaves_too (inl spared) = inl (spared_too spared)
+  leaves_too (inr (short, (L, trimmed, leaves))) =
+      inr (short_too short, (L, trimmed, λ told new. subst (λ (s : Story). LeavesOnly s d.new (KeepsEither limit L)) (same told) (leaves told (new_too told new))))
 
   pub runs_too : (status : Status) → RunsOver limit n K of_bytes d k status → RunsOver limit n K of_bytes e k status
-  runs_too status runs = record { made = made_status status runs.made; leaves = runs.leaves; new = tells_status status runs.new; sink = runs.sink }
+  runs_too status runs = record { made = made_status status runs.made; leaves = leaves_too runs.leaves; new = tells_status status runs.new; sink = runs.sink }

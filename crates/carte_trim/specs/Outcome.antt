@@ -31,10 +31,14 @@ IsSpared d = d.tells → d.new ≡ d.old
 abbrev pub IsShort : OverDisk → Type 0
 IsShort d = d.tells → length d.old.now.reads ≤ 9
 
--- the file was a new one and keeps this. Where that is nothing, it was left as it was; and else there was room
+-- this is nothing, and the file was left as it was; or there was room
+abbrev pub HasRoomFor : ℕ → OverDisk → SomeKept → Type 0
+HasRoomFor limit d L = ((L ≡ nothing_kept) × IsSpared d) ⊎ ((needed : ℕ) × IsNeeded limit L needed × (needed ≤ limit))
+
+-- the file was a new one and keeps this
 pub record IsMade (limit : ℕ) (d : OverDisk) (L : SomeKept) : Type 0 where
   pub keeps : d.tells → IsNew d.old → Keeps limit L d.new.now.reads
-  pub room : ((L ≡ nothing_kept) × IsSpared d) ⊎ ((needed : ℕ) × IsNeeded limit L needed × (needed ≤ limit))
+  pub room : HasRoomFor limit d L
 
 -- with it the file would need so many bytes, which are more than the limit
 pub record IsOver (limit : ℕ) (L : SomeKept) (needed most : ℕ) : Type 0 where
