@@ -186,15 +186,15 @@ module _ (limit : ℕ) (words : List (List ℕ)) (s d : OverDisk) (k : OverSink)
   completes NotNew Usage (n, asks, did) is = some_none n asks is
   completes NotNew (BadState at) (n, asks, (K, keeps, did)) (m, also, (told, bad)) = no_state K at (keeps told) bad
   completes NotNew NotNew ran is = inl refl
-  completes NotNew (Full needed most) (n, asks, (K, keeps, (b, is, (long, rest)))) (m, also, (told, M, kept, (tells, short, over))) = absurd (omega (arith, long tells, short))
-  completes NotNew Done (n, asks, (K, keeps, (b, is, (long, rest)))) (m, also, (told, M, kept, (tells, short, over))) = absurd (omega (arith, long tells, short))
+  completes NotNew (Full needed most) (n, asks, (K, keeps, (b, is, (long, spared, untouched)))) (m, also, (told, M, kept, (tells, short, over))) = absurd (omega (arith, long tells, short))
+  completes NotNew Done (n, asks, (K, keeps, (b, is, (long, spared, untouched)))) (m, also, (told, M, kept, (tells, short, over))) = absurd (omega (arith, long tells, short))
   completes (Full needed most) Usage (n, asks, did) is = some_none n asks is
   completes (Full needed most) (BadState at) (n, asks, (K, keeps, did)) (m, also, (told, bad)) = no_state K at (keeps told) bad
-  completes (Full needed most) NotNew (n, asks, (K, keeps, (b, is, (short, rest)))) (m, also, (told, M, kept, (tells, long))) = absurd (omega (arith, long, short tells))
-  completes (Full needed most) (Full other limited) (n, asks, (K, keeps, (b, is, (short, (L, trimmed, over), rest)))) (m, also, (told, M, kept, (tells, new, all))) =
+  completes (Full needed most) NotNew (n, asks, (K, keeps, (b, is, (short, left, spared, untouched)))) (m, also, (told, M, kept, (tells, long))) = absurd (omega (arith, long, short tells))
+  completes (Full needed most) (Full other limited) (n, asks, (K, keeps, (b, is, (short, (L, trimmed, over), spared, untouched)))) (m, also, (told, M, kept, (tells, new, all))) =
       let (some, limit_is, above, one) = all L (trims_same K M L n m (keeps told) kept asks also trimmed) in
       inl (ap (λ (a : ℕ). Full a most) (one needed over.needed_is) ∙ ap (λ (a : ℕ). Full other a) (over.most_is ∙ sym limit_is))
-  completes (Full needed most) Done (n, asks, (K, keeps, (b, is, (short, (L, trimmed, over), rest)))) (m, also, (told, M, kept, (tells, new, all))) =
+  completes (Full needed most) Done (n, asks, (K, keeps, (b, is, (short, (L, trimmed, over), spared, untouched)))) (m, also, (told, M, kept, (tells, new, all))) =
       let fits = all L (trims_same K M L n m (keeps told) kept asks also trimmed) needed over.needed_is in absurd (omega (arith, fits, over.over))
   completes Done Usage (n, asks, did) is = some_none n asks is
   completes Done (BadState at) (n, asks, (K, keeps, did)) (m, also, (told, bad)) = no_state K at (keeps told) bad

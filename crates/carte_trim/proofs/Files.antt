@@ -19,6 +19,7 @@ use Rattle.carte_compact.proofs.Bare.{both, no_items}
 use Rattle.carte_record.specs.Kept.{SomeKept, nothing_kept}
 use Rattle.carte_record.proofs.Empties.{empty_same}
 use Rattle.carte_state.specs.Folding.{IsFolded, Keeps}
+use Rattle.carte_state.specs.States.{IsLoaded, Stand, kept_in}
 use Rattle.carte_trim.specs.New.{IsNew, IsPlan, KeepsEither, fresh_journal}
 use Rattle.carte_trim.specs.declared.plan.Plan.{Plan}
 
@@ -56,6 +57,11 @@ read_fresh limit j bodies read limit_is whole =
   where
     parts : j.gate ≡ 8 → j.limit ≡ limit → j.fresh ≡ true → j.broken ≡ false → j.bank ≡ None → j.frames ≡ 0 → j ≡ fresh_journal limit
     parts gate limited fresh broken bank frames i = record { gate = gate i; limit = limited i; fresh = fresh i; broken = broken i; bank = bank i; frames = frames i }
+
+-- what was loaded is what the file keeps
+pub loaded_keeps : (limit : ℕ) (e : Stand) (file : List ℕ) → IsLoaded e file → e.journal.limit ≡ limit → Keeps limit (kept_in e) file
+loaded_keeps limit e file loaded same =
+    subst (λ (l : ℕ). Keeps l (kept_in e) file) same (record { gate = e.journal.gate; bodies = loaded.bodies; reads = loaded.read.reads; folded = loaded.folded })
 
 -- a batch that brings nothing has no entry
 pub no_entries : (B : Batch) → is_empty B ≡ true → B.entries ≡ []
