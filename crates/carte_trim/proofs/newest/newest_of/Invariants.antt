@@ -1,0 +1,6 @@
+use Rattle.std.proofs.Common.{◌≡◌, ◌++◌, drop}
+use Rattle.carte_trim.specs.Lists.{newest_of}
+use Rattle.carte_trim.proofs.newest.newest_of.Given as goal
+
+abbrev pub invariant-loop-at : goal.invariant-loop-at
+invariant-loop-at l = l.list ++ newest_of l.count (drop l.at l.traces) ≡ newest_of l.count l.traces

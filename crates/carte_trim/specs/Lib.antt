@@ -1,0 +1,10 @@
+pub mod Trimmed
+pub mod Laws
+pub mod Lists
+pub mod Words
+pub mod Texts
+pub mod Around
+pub mod New
+pub mod Outcome
+pub mod Parts
+pub mod Whole

@@ -1,0 +1,62 @@
+// The batches of the live information, cut to the newest traces.
+ghost use Rattle.std.specs.Prelude.{◌≡◌, IfOk, OnOk};
+ghost use Rattle.carte_trim.specs.Lists.{AreCut, IsCut, number_in, with_newest};
+
+use crate::named::named;
+use crate::newest::newest_of;
+use carte_record::Batch;
+use carte_value::{NoMemory, Seeded};
+use std::alloc::Global;
+
+/// How many traces there were, and how many are left.
+#[derive(Clone, Copy)]
+pub(crate) struct Counts {
+    pub(crate) before: u64,
+    pub(crate) after: u64,
+}
+
+/// Cuts the first of the batches, which has all traces and values. The second one has marks alone.
+pub(crate) fn cut_all(
+    alloc: Global,
+    batches: &mut Vec<Batch>,
+    count: u64,
+    hasher: Seeded,
+) -> Result<Counts, NoMemory>
+    ensures { IfOk result (AreCut count batches.old.items batches.new.items) }
+{
+    match batches.get_mut(0) {
+        Some(first) => cut(alloc, first, count, hasher),
+        None => Ok(Counts {
+            before: 0,
+            after: 0,
+        }),
+    }
+}
+
+fn cut(alloc: Global, batch: &mut Batch, count: u64, hasher: Seeded) -> Result<Counts, NoMemory>
+    ensures cut { OnOk result (IsCut count batch.old batch.new) }
+    ensures counts { IfOk result (λ c. (c.before ≡ number_in batch.old) × (c.after ≡ number_in batch.new)) }
+{
+    let before = number_in(batch);
+    cut_traces(alloc, batch, count, hasher)?;
+    batch.values = named(alloc, batch, hasher)?;
+    Ok(Counts {
+        before,
+        after: number_in(batch),
+    })
+}
+
+fn cut_traces(alloc: Global, batch: &mut Batch, count: u64, hasher: Seeded) -> Result<(), NoMemory>
+    ensures { OnOk result (batch.new ≡ with_newest count batch.old) }
+{
+    batch.verifying = newest_of(alloc, &batch.verifying, count, hasher)?;
+    batch.constructive = newest_of(alloc, &batch.constructive, count, hasher)?;
+    batch.deep = newest_of(alloc, &batch.deep, count, hasher)?;
+    Ok(())
+}
+
+fn number_in(batch: &Batch) -> u64
+    ensures { result ≡ number_in batch.now }
+{
+    batch.verifying.len() as u64 + batch.constructive.len() as u64 + batch.deep.len() as u64
+}
