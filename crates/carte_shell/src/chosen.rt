@@ -42,7 +42,7 @@ pub(crate) fn plan_under<G: Gate, T: Threads + Sync>(
     ensures kept { engine.new ≡ engine.old }
     ensures unmarked { IfOk result (λ p. AreUnmarked p.batches.items) }
     ensures plans { Under (kept_in engine.old) (book_view book.now)
-        (IfOk result (IsPlan (scheduler_of choices.scheduler) (how_of choices.rebuilder) (kept_in engine.old) (book_view book.now) targets.now)) }
+        (IfOk result (λ p. IsPlan (scheduler_of choices.scheduler) (how_of choices.rebuilder) (kept_in engine.old) (book_view book.now) targets.now p.batches.items p.answer)) }
 {
     let by = scheduler_of(choices.scheduler);
     let workers = choices.workers;
