@@ -94,14 +94,18 @@ built_sound m targets a Bs plans H sound distinct some rest are =
     let h = how_of m.choices.rebuilder in
     plan_sound s h (kept_in m.stand) H m.book targets a some rest sound distinct (subst (Leads s h (kept_in m.stand) m.book targets a) are (plans H sound distinct).leads)
 
-emptied : (m : Scene) (B : Batch) → B ≡ clearing m.stand → apply B (kept_in m.stand) ≡ nothing_kept
-emptied m B is = ap (λ (C : Batch). apply C (kept_in m.stand)) is ∙ clearing_empties m.stand
+-- the front of a list with one item has none, or it alone
+one_front : (C : Batch) (some rest : List Batch) → C ∷ [] ≡ some ++ rest → (some ≡ []) ⊎ (some ≡ C ∷ [])
+one_front C [] rest are = inl refl
+one_front C (B ∷ []) rest are = inr cc
+one_front C (B ∷ D ∷ some) rest are = cc
 
 cleaned_sound : (m : Scene) (Bs : List Batch) → Bs ≡ clearing m.stand ∷ [] → (H : List Book) → IsSound (kept_in m.stand) H → HasDistinctDigests (H ++ [])
     → (some rest : List Batch) → Bs ≡ some ++ rest → IsSound (applied (kept_in m.stand) some) (H ++ [])
-cleaned_sound m Bs is H sound distinct [] rest are = behind_sound (kept_in m.stand) H [] sound
-cleaned_sound m Bs is H sound distinct (B ∷ []) rest are = subst (λ (L : SomeKept). IsSound L (H ++ [])) (sym (emptied m B cc)) (nothing_sound (H ++ []))
-cleaned_sound m Bs is H sound distinct (B ∷ C ∷ some) rest are = cc
+cleaned_sound m Bs is H sound distinct some rest are = elim (one_front (clearing m.stand) some rest (sym is ∙ are)) [
+  | inl none ↦ subst (λ (Cs : List Batch). IsSound (applied (kept_in m.stand) Cs) (H ++ [])) (sym none) (behind_sound (kept_in m.stand) H [] sound)
+  | inr one ↦ subst (λ (Cs : List Batch). IsSound (applied (kept_in m.stand) Cs) (H ++ [])) (sym one) (subst (λ (L : SomeKept). IsSound L (H ++ [])) (sym (clearing_empties m.stand)) (nothing_sound (H ++ [])))
+]
 
 -- ---- edits
 
