@@ -1,5 +1,5 @@
 -- Lines leave the state sound, whatever crash comes.
-use Rattle.std.proofs.Common.{◌≡◌, ℕ, ◌+◌, Bool, true, false, if◌then◌else◌, List, [], ◌∷◌, ◌++◌, Result, Ok, Err, refl, sym, ◌∙◌, ap, subst, inl, inr, ◌⊎◌, arith, append_assoc, append-nil}
+use Rattle.std.proofs.Common.{◌≡◌, ℕ, ◌+◌, true, List, [], ◌∷◌, ◌++◌, Result, Ok, Err, refl, sym, ◌∙◌, ap, subst, inl, inr, ◌⊎◌, arith, append_assoc, append-nil}
 use Rattle.carte_io.specs.Disk.{LeavesOnly, Story}
 use Rattle.carte_io.proofs.Images.{leaves_more, leaves_none, leaves_then}
 use Rattle.carte_value.specs.declared.value.Value.{Value}
@@ -14,9 +14,7 @@ use Rattle.carte_engine.proofs.Emptying.{clearing_empties}
 use Rattle.carte_engine.proofs.Keeping.{plan_sound}
 use Rattle.carte_engine.proofs.Several.{all_leaves, puts_kept, puts_limit, puts_rest}
 use Rattle.carte_record.specs.declared.batch.Batch.{Batch}
-use Rattle.carte_record.specs.Folds.{apply}
-use Rattle.carte_record.specs.Kept.{SomeKept, nothing_kept}
-use Rattle.carte_session.specs.Session.{Goes}
+use Rattle.carte_record.specs.Kept.{SomeKept}
 use Rattle.carte_session.specs.declared.end.StepEnd.{StepEnd}
 use Rattle.carte_sound.specs.Base.{HasDistinctDigests}
 use Rattle.carte_sound.specs.Parts.{applied}
@@ -30,8 +28,8 @@ use Rattle.carte_state.proofs.Applies.{kept_leaves}
 use Rattle.carte_words.specs.Lines.{Means}
 use Rattle.carte_words.specs.declared.line.Line.{Line}
 use Rattle.carte_words.specs.declared.line.Line.TheVariants as line
-use Rattle.carte_shell.specs.Answers.{Answers, Brings, Ends, Obeys, Plans, SetsInput}
-use Rattle.carte_shell.specs.Books.{AreBooks, Edits, IsBookAt, LooksAt}
+use Rattle.carte_shell.specs.Answers.{Answers, Brings, Obeys, Plans}
+use Rattle.carte_shell.specs.Books.{Edits, IsBookAt}
 use Rattle.carte_shell.specs.Chosen.{how_of, scheduler_of}
 use Rattle.carte_shell.specs.Commits.{Commits, Puts, Stops, disk_between}
 use Rattle.carte_shell.specs.Replies.{Said}
