@@ -146,7 +146,7 @@ def by_hand(trims):
     for state in ("stale", "chained", "unnamed", "bare"):
         trims.runs.put(state, odd_state(state))
         trims.checked(state, 2, state)
-    trims.runs.same("nothing is kept", (trims.read("new"), trims.trim("bare", "new", 1)), (b"", (0, b"kept 0 of 0 traces, 0 of 36 bytes\n", b"")))
+    trims.runs.same("nothing is kept", (trims.read("new"), trims.trim("bare", "new", 1)), (b"", (0, b"kept 0 of 0 traces, 0 of 45 bytes\n", b"")))
 
 
 def odd_state(kind):
@@ -296,19 +296,28 @@ def each_call(trims):
 
 # Full states
 
-def full_batches(size):
-    """The small batch, and one with traces of b2 that take so many bytes."""
+def with_traces(traces, values=()):
+    return batches.spell((("go on",), list(values), [], [], [], traces, [], [], None))
+
+
+def filled(data):
+    """The state with short traces behind it, so that no further batch has room."""
+    short = (b"z000000", [], batches.digest(60))
+    count = (states.LIMIT - len(data) - 5 - len(EMPTY)) // len(batches.spell_trace(short))
+    return states.committed(data, with_traces([(b"z%06d" % at, [], batches.digest(60)) for at in range(count)]))
+
+
+def long_traces(name_of, size):
+    """Traces of a hundred links, which take so many bytes; a key is worked out of the number of a trace."""
     links = [(b"x%d" % at, bytes([at]) * 32) for at in range(100)]
-    one = len(batches.spell_trace((b"b2", [(b"n%09d" % 0, bytes(32)), *links], batches.digest(60))))
-    traces = [(b"b2", [(b"n%09d" % at, bytes(32)), *links], batches.digest(60)) for at in range(size // one)]
-    return [batches.small(), (("go on",), [], [], [], [], traces, [], [], None)]
+    one = len(batches.spell_trace((name_of(0), [(b"n%06d" % 0, bytes(32)), *links], batches.digest(60))))
+    return [(name_of(at), [(b"n%06d" % at, bytes(32)), *links], batches.digest(60)) for at in range(size // one)]
 
 
 def full(trims):
-    """A state that is full of old traces: a build is refused; trimmed, it is built on."""
-    data = b""
-    for batch in full_batches(states.LIMIT - 5_000):
-        data = states.committed(data, batches.spell(batch))
+    """A state that is full of traces, twenty of each of many keys: a build is refused; trimmed, it is built on."""
+    data = states.committed(b"", batches.spell(batches.small()))
+    data = filled(states.committed(data, with_traces(long_traces(lambda at: b"k%06d" % (at // 20), states.LIMIT - 100_000))))
     trims.runs.put("state", data)
     status, out, err = built(trims, 11)
     trims.runs.same("a build over a full state", (status, out, err.startswith(b"carte: state full: ")), (8, b"", True))
@@ -319,13 +328,8 @@ def full(trims):
 
 def too_large(trims):
     """What is left has no room in a file: both numbers are told, and nothing is written."""
-    traces = [(b"k%d" % at, [(b"x%d" % link, bytes(32)) for link in range(100)], batches.digest(60)) for at in range(states.LIMIT // 3_900)]
-    body = batches.spell((("go on",), [60], [], [], [], traces, [], [], None))
-    data = states.put(states.HEADER + b"\1", 9, len(body).to_bytes(4, "big") + body + b"\0")
-    short = states.LIMIT - len(data)
-    trims.runs.same("a length", 0 <= short, True)
-    filler = (("go on",), [b"z" * 60_000] * 0, [], [], [], [(b"z%d" % at, [], batches.digest(60)) for at in range((short - 60) // 39)], [], [], None)
-    data = states.committed(data, batches.spell(filler))
+    data = filled(states.committed(b"", with_traces(long_traces(lambda at: b"k%06d" % at, states.LIMIT - 100_000), [60])))
+    trims.runs.same("a length", states.LIMIT - 44 < len(data) <= states.LIMIT, True)
     trims.runs.put("state", data)
     needed = len(made(trimmed(states.fold(states.read(data)), 1)))
     trims.runs.same("more than the limit", needed > states.LIMIT, True)
