@@ -1,10 +1,9 @@
--- Which status is due, where bytes are told: by the words first, then by the book, the state, the room for a batch, and last by what a build answers.
-use Rattle.std.specs.Prelude.{ℕ, ◌≡◌, ◌<◌, false, List, [], ◌∷◌, ◌++◌, Ok, Err}
+-- Which status is due, where bytes are told: by the words first, then by the book, the state, the room for the batches, and last by what a build answers.
+use Rattle.std.specs.Prelude.{ℕ, ◌≡◌, ◌<◌, List, [], ◌∷◌, ◌++◌, Ok, Err}
 use Rattle.carte_name.specs.declared.kind.Kind.{Kind}
 use Rattle.carte_book.specs.Book.{Book}
 use Rattle.carte_book.specs.Reason.{AllClean, IsReason}
 use Rattle.carte_record.specs.declared.batch.Batch.{Batch}
-use Rattle.carte_record.specs.Empty.{is_empty}
 use Rattle.carte_record.specs.Kept.{SomeKept}
 use Rattle.carte_sound.specs.Base.{HasDistinctDigests}
 use Rattle.carte_sound.specs.Sound.{IsSound}
@@ -20,7 +19,7 @@ use Rattle.carte_report.specs.declared.status.Status.{Status}
 use Rattle.carte_report.specs.declared.status.Status.TheVariants.{Done, BookRefused, Usage, BuildRefused, ReadFault, WriteFault, DiskFault, BadState, StateFull, NoMemory}
 use Rattle.carte_top.specs.Around.{OverSource, OverDisk}
 use Rattle.carte_top.specs.Chosen.{scheduler_of, how_of, BookOfKind}
-use Rattle.carte_top.specs.Found.{FitsIn, IsNeeded, IsClearing, Makes, for_last}
+use Rattle.carte_top.specs.Found.{AreClearing, FitsIn, IsNeeded, Makes, for_last}
 use Rattle.carte_top.specs.Outcome.{Asks}
 
 -- ---- what is there
@@ -50,7 +49,7 @@ IsPlanned w b K Bs = (a : Answer) × IsPlan (scheduler_of w.scheduler) (how_of w
 abbrev pub AllFit : ℕ → OverDisk → (List Batch → Type 0) → Type 0
 AllFit limit d May = (Bs : List Batch) → May Bs → FitsIn limit d.old.now.reads Bs
 
--- among all such batches there is one with which the file needs just so many bytes, which are more than the limit
+-- wherever there are such batches, there is one of them with which the file needs just so many bytes, which are more than the limit
 abbrev pub AllOver : ℕ → OverDisk → ℕ → ℕ → (List Batch → Type 0) → Type 0
 AllOver limit d needed most May = (most ≡ limit) × (limit < needed) × ((Bs : List Batch) → May Bs → IsNeeded limit d.old.now.reads Bs needed)
 
