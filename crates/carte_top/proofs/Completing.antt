@@ -24,7 +24,7 @@ use Rattle.carte_report.specs.declared.status.Status.TheVariants.{Done, BookRefu
 use Rattle.carte_top.specs.Around.{OverSource, OverDisk, OverSink, TakesAll}
 use Rattle.carte_top.specs.Chosen.{scheduler_of, BookOfKind}
 use Rattle.carte_top.specs.Due.{AllFit, AllOver, IsBadNow, IsBook, IsBuildDue, IsCleanDue, IsDue, IsDueFor, IsDueOver, IsExplainDue, IsFound, IsGenerateDue, IsHindered, IsPlanned, IsSessionDue}
-use Rattle.carte_top.specs.Found.{Clears, ClearsNot, Commits, Found, Holds, IsClearing, Makes, Overfills, Refuses, Replies, Explains, Carries, for_last, front_of}
+use Rattle.carte_top.specs.Found.{Clears, ClearsTooMuch, Commits, Found, Holds, AreClearing, Makes, Overfills, Refuses, Replies, Explains, Carries, for_last, front_of}
 use Rattle.carte_top.specs.Outcome.{Asks, Built, Cleaned, ComesTo, Does, Explained, Generated, IsBad, Lacks, Ran, Sat}
 use Rattle.carte_top.proofs.BuildsDue.{all_fit, all_over, bad_one, found_one, found_or_bad, kept_or_bad, meet, over_due, over_same}
 use Rattle.carte_top.proofs.Unique.{one_generated, one_meant, one_of_kind, one_outcome}
@@ -114,7 +114,7 @@ made_due limit w d k status due did is = over_due limit d (Makes w) (Makes w) (o
 
 module _ (limit : ℕ) (d : OverDisk) (k : OverSink) where
   abbrev Fits : SomeKept → Type 0
-  Fits K = AllFit limit d (IsClearing K)
+  Fits K = AllFit limit d (AreClearing K)
 
   cleaned_due : (status due : Status) → Cleaned limit d k status → IsCleanDue limit d due → (status ≡ due) ⊎ IsHindered status
   cleaned_due ReadFault due did is = inr tt
@@ -136,18 +136,20 @@ module _ (limit : ℕ) (d : OverDisk) (k : OverSink) where
   cleaned_due Done Done did is = inl refl
   cleaned_due Done (BadState at) did is = absurd (found_or_bad limit d (Clears limit d k TakesAll) at is did)
   cleaned_due Done (StateFull n m) did is =
-      let at = found_one limit d (λ K. AllOver limit d n m (IsClearing K)) (Clears limit d k TakesAll) is did in
-      absurd (all_over limit d (IsClearing at.0) at.0 at.3.batch at.3.clearing is.0 n m at.2 at.3.put)
+      let at = found_one limit d (λ K. AllOver limit d n m (AreClearing K)) (Clears limit d k TakesAll) is did in
+      absurd (all_over limit d (AreClearing at.0) at.0 (at.3.batch ∷ []) (at.3.batch, at.3.clearing, refl) is.0 n m at.2 at.3.put)
   cleaned_due (BadState at) Done did is = absurd (kept_or_bad limit d Fits at is did.0)
   cleaned_due (BadState at) (BadState offset) did is = inl (bad_one limit d offset at is did.0)
-  cleaned_due (BadState at) (StateFull n m) did is = absurd (kept_or_bad limit d (λ K. AllOver limit d n m (IsClearing K)) at is did.0)
+  cleaned_due (BadState at) (StateFull n m) did is = absurd (kept_or_bad limit d (λ K. AllOver limit d n m (AreClearing K)) at is did.0)
   cleaned_due (StateFull n m) Done did is =
-      let at = found_one limit d Fits (ClearsNot limit d n m) is did.0 in
-      absurd (all_fit limit d (IsClearing at.0) at.0 at.3.batch at.3.clearing is.0 at.2 n m at.3.filled at.3.over)
-  cleaned_due (StateFull n m) (BadState at) did is = absurd (found_or_bad limit d (ClearsNot limit d n m) at is did.0)
+      let at = found_one limit d Fits (ClearsTooMuch limit d n m) is did.0 in
+      let clears = at.3.clears_not in
+      absurd (all_fit limit d (AreClearing at.0) at.0 (clears.batch ∷ []) (clears.batch, clears.clearing, refl) is.0 at.2 n m clears.stopped)
+  cleaned_due (StateFull n m) (BadState at) did is = absurd (found_or_bad limit d (ClearsTooMuch limit d n m) at is did.0)
   cleaned_due (StateFull n m) (StateFull needed most) did is =
-      let at = found_one limit d (λ K. AllOver limit d needed most (IsClearing K)) (ClearsNot limit d n m) is did.0 in
-      inl (over_same limit d (IsClearing at.0) at.0 at.3.batch at.3.clearing is.0 needed most n m at.2 at.3.over)
+      let at = found_one limit d (λ K. AllOver limit d needed most (AreClearing K)) (ClearsTooMuch limit d n m) is did.0 in
+      let clears = at.3.clears_not in
+      inl (over_same limit d (AreClearing at.0) at.0 (clears.batch ∷ []) (clears.batch, clears.clearing, refl) is.0 needed most n m at.2 clears.stopped at.3.most_is)
 
 -- ---- an explanation
 
