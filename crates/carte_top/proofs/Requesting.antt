@@ -266,8 +266,8 @@ module _ (limit : ℕ) (w : Asked) (d : OverDisk) (k : OverSink) (b : Book) wher
     answers : (a : Answer) (Bs : List Batch) → Plans m w.targets a Bs → Answers w b (kept_in m.stand) a Bs
     answers a Bs plans =
         let K = kept_in m.stand in
-        subst (λ (y : Choices). Under K b (IsPlan (scheduler_of y.scheduler) (how_of y.rebuilder) K b w.targets (record { batches = Bs; answer = a }))) opens.choices
-        (subst (λ (c : Book). Under K c (IsPlan (scheduler_of m.choices.scheduler) (how_of m.choices.rebuilder) K c w.targets (record { batches = Bs; answer = a }))) opens.book plans)
+        subst (λ (y : Choices). Under K b (IsPlan (scheduler_of y.scheduler) (how_of y.rebuilder) K b w.targets Bs a)) opens.choices
+        (subst (λ (c : Book). Under K c (IsPlan (scheduler_of m.choices.scheduler) (how_of m.choices.rebuilder) K c w.targets Bs a)) opens.book plans)
 
     may_build : (a : Answer) (Bs : List Batch) → Plans m w.targets a Bs → MayBuild w b (kept_in m.stand) Bs
     may_build a Bs plans H sound distinct = (a, answers a Bs plans H sound distinct)

@@ -43,7 +43,7 @@ IsBadNow limit d at = d.tells × IsBadState limit d.old.now.reads at
 
 -- the batches are those of a right plan
 abbrev pub IsPlanned : Asked → Book → SomeKept → List Batch → Type 0
-IsPlanned w b K Bs = (a : Answer) × IsPlan (scheduler_of w.scheduler) (how_of w.rebuilder) K b w.targets (record { batches = Bs; answer = a })
+IsPlanned w b K Bs = (a : Answer) × IsPlan (scheduler_of w.scheduler) (how_of w.rebuilder) K b w.targets Bs a
 
 -- there is room for all such batches
 abbrev pub AllFit : ℕ → OverDisk → (List Batch → Type 0) → Type 0

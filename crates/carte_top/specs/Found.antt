@@ -134,7 +134,7 @@ pub record IsStopped (limit : ℕ) (d : OverDisk) (K : SomeKept) (Bs : List Batc
 
 -- a build of the words' targets answers so, rightly, and may commit the batches
 abbrev pub Answers : Asked → Book → SomeKept → Answer → List Batch → Type 0
-Answers w b K a Bs = Under K b (IsPlan (scheduler_of w.scheduler) (how_of w.rebuilder) K b w.targets (record { batches = Bs; answer = a }))
+Answers w b K a Bs = Under K b (IsPlan (scheduler_of w.scheduler) (how_of w.rebuilder) K b w.targets Bs a)
 
 -- it answered so, and committed its batches
 pub record Commits (limit : ℕ) (w : Asked) (d : OverDisk) (b : Book) (K : SomeKept) (a : Answer) : Type 0 where

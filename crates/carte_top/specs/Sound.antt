@@ -30,7 +30,7 @@ StaysAt limit May d = d.tells → IsSettled d.old.now → (K : SomeKept) → Kee
 
 -- the batches are those that a build with a right answer may commit
 abbrev pub MayBuild : Asked → Book → SomeKept → List Batch → Type 0
-MayBuild w b K Bs = Under K b ((a : Answer) × IsPlan (scheduler_of w.scheduler) (how_of w.rebuilder) K b w.targets (record { batches = Bs; answer = a }))
+MayBuild w b K Bs = Under K b ((a : Answer) × IsPlan (scheduler_of w.scheduler) (how_of w.rebuilder) K b w.targets Bs a)
 
 -- ---- soundness
 
