@@ -103,10 +103,10 @@ module _ (limit : ℕ) (w : Asked) (s c : OverSource) (d : OverDisk) (k : OverSi
   of_memory command.Build is (untouched, inr (bytes, was, b, book, halts)) = stopped command.Build is untouched (bytes, was, b, book, inl halts)
   of_memory command.Session is did = of_session NoMemory is tt did
   of_memory command.Explain is did = spared (did.0.1, did.1)
-  of_memory command.Clean is (unread, untouched, inl same) = spared (untouched, same)
-  of_memory command.Clean is (unread, untouched, inr clears) = stopped command.Clean is untouched (inl clears)
-  of_memory command.Generate is (unread, untouched, inl same) = spared (untouched, same)
-  of_memory command.Generate is (unread, untouched, inr (b, made, halts)) = stopped command.Generate is untouched (b, made, inl halts)
+  of_memory command.Clean is (unread, (untouched, inl same)) = spared (untouched, same)
+  of_memory command.Clean is (unread, (untouched, inr clears)) = stopped command.Clean is untouched (inl clears)
+  of_memory command.Generate is (unread, (untouched, inl same)) = spared (untouched, same)
+  of_memory command.Generate is (unread, (untouched, inr (b, made, halts))) = stopped command.Generate is untouched (b, made, inl halts)
 
   never_usage : (end : Result (Unit {0}) SessionEnd) (fault : _) → Usage fault ≡ status_of end → ⊥
   never_usage (Ok done) fault is = cc

@@ -47,8 +47,7 @@ grows_along limit first d old [] new puts told limit_is on = tt
 grows_along limit first d old (B ∷ Bs) new (mid, between, inl f, puts) told limit_is on =
     let base_on = ready_rest first (until (until d between) f.between) old f.base B f.ready told on in
     let base_limit = ready_limit first (until (until d between) f.between) old f.base B f.ready ∙ limit_is in
-    let mid_on = f.applies.comes.rest told base_on in
-    (
+    let mid_on = f.applies.comes.rest told base_on in (
       grows_by limit B f.base mid f.between between base_limit f.applies.limit f.applies.comes.after base_on mid_on,
       grows_along limit false (onwards d between) mid Bs new puts told (f.applies.limit ∙ base_limit) mid_on,
     )

@@ -157,8 +157,7 @@ module _ (limit : ℕ) (x : Choices) (b : Book) (d : OverDisk) (k : OverSink) wh
         subst (λ (e : StepEnd). Cleaned limit d k (status_of (Err (Machine e)))) (sym is) (untouched, inl (spared limit x b d m m' opens last (ap (λ (s : Scene). s.story) same)))
     clear_stopped line_end.DiskFault (inr (Bs, is, stops)) untouched = (inr (not_cleared Bs is applying.DiskFault stops), untouched)
     clear_stopped (line_end.StateFull needed most) (inr (Bs, is, stops)) untouched =
-        let over = too_much limit x b d m m' opens last faults Bs needed most stops in
-        (
+        let over = too_much limit x b d m m' opens last faults Bs needed most stops in (
           (
             kept_in m.stand,
             found limit x b d m m' opens last,
@@ -287,8 +286,7 @@ module _ (limit : ℕ) (w : Asked) (d : OverDisk) (k : OverSink) (b : Book) wher
         build_stopped faults line_end.DiskFault (inr (Bs, (a, plans), stops)) untouched =
             (inr (there (Halts limit w d applying.DiskFault) (halts m m' opens last faults a Bs plans applying.DiskFault stops)), untouched)
         build_stopped faults (line_end.StateFull needed most) (inr (Bs, (a, plans), stops)) untouched =
-            let over = too_much limit (choices_of w) b d m m' opens last faults Bs needed most stops in
-            (
+            let over = too_much limit (choices_of w) b d m m' opens last faults Bs needed most stops in (
               there (Overfills limit w d needed most) (record { halts = halts m m' opens last faults a Bs plans (applying.Full needed most) stops; most_is = over.0; over = over.1 }),
               untouched,
             )

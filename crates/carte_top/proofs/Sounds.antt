@@ -1,8 +1,8 @@
 -- Whatever the status, and wherever a crash cuts a run off, the state stays sound.
-use Rattle.std.proofs.Common.{◌≡◌, ℕ, List, [], ◌∷◌, ◌++◌, Ok, refl, sym, subst, inl, inr, ◌⊎◌}
+use Rattle.std.proofs.Common.{◌≡◌, ℕ, List, [], ◌∷◌, ◌++◌, Ok, refl, sym, ap, subst, inl, inr, ◌⊎◌}
 use Rattle.carte_io.proofs.Images.{leaves_more}
 use Rattle.carte_book.specs.Book.{Book}
-use Rattle.carte_record.specs.Kept.{SomeKept, nothing_kept}
+use Rattle.carte_record.specs.Kept.{SomeKept}
 use Rattle.carte_record.specs.declared.batch.Batch.{Batch}
 use Rattle.carte_sound.specs.Parts.{applied}
 use Rattle.carte_sound.specs.Sound.{IsSound}
@@ -44,12 +44,16 @@ built_sound limit w b d stays told settled H (K, keeps, sound) distinct =
         (applied K some, there, plan_sound (scheduler_of w.scheduler) (how_of w.rebuilder) K H b w.targets leads.0 some rest sound distinct leads.1.leads)
 
 -- under a clearing, whose batch was put, or was not
+front_of_one : {A : Type 0} (some rest : List A) (x : A) → some ++ rest ≡ x ∷ [] → (some ≡ []) ⊎ (some ≡ x ∷ [])
+front_of_one [] rest x is = inl refl
+front_of_one (y ∷ []) rest x is = let head : y ≡ x = cc in inr (ap (λ z. z ∷ []) head)
+front_of_one (y ∷ z ∷ some) rest x is = cc
+
 front_sound : (K : SomeKept) (H : List Book) (B : Batch) (some rest : List Batch) → IsSound K H → IsClearing K B → some ++ rest ≡ B ∷ [] → IsSound (applied K some) H
-front_sound K H B [] rest sound clearing all = sound
-front_sound K H B (C ∷ []) rest sound clearing all =
-    let head : B ≡ C = cc in
-    subst (λ (L : SomeKept). IsSound L H) (sym (subst (λ (D : Batch). applied K (D ∷ []) ≡ nothing_kept) head clearing.leaves)) (nothing_sound H)
-front_sound K H B (C ∷ D ∷ some) rest sound clearing all = cc
+front_sound K H B some rest sound clearing all = elim (front_of_one some rest B all) [
+  | inl none ↦ subst (λ (Bs : List Batch). IsSound (applied K Bs) H) (sym none) sound
+  | inr one ↦ subst (λ (Bs : List Batch). IsSound (applied K Bs) H) (sym one) (subst (λ (L : SomeKept). IsSound L H) (sym clearing.leaves) (nothing_sound H))
+]
 
 cleaned_sound : (limit : ℕ) (d : OverDisk) → StaysAt limit AreClearing d → StaysSound limit [] d
 cleaned_sound limit d stays told settled H (K, keeps, sound) distinct =
