@@ -1,5 +1,5 @@
 -- What commits make of a disk on which was found what is kept.
-use Rattle.std.proofs.Common.{◌≡◌, ℕ, ◌+◌, ◌<◌, Bool, true, false, if◌then◌else◌, List, [], ◌∷◌, Ok, Err, sym, ◌∙◌, ap, subst, inl, inr}
+use Rattle.std.proofs.Common.{◌≡◌, ℕ, ◌+◌, ◌<◌, Bool, true, false, if◌then◌else◌, List, [], ◌∷◌, sym, ◌∙◌, ap, subst, inl, inr}
 use Rattle.carte_io.specs.Disk.{IsSettled, LeavesOnly, Story}
 use Rattle.carte_io.specs.Stations.{Step, StepsThrough, calls_in}
 use Rattle.carte_io.proofs.Images.{leaves_none, settled_image}

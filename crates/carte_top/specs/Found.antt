@@ -119,8 +119,8 @@ pub record ArePut (limit : ℕ) (d : OverDisk) (K : SomeKept) (Bs : List Batch) 
   pub calls : d.tells → d.new.now.passed ≡ d.old.now.passed + calls_in (steps_put true (onwards d found.story) found.stand Bs last puts)
   pub stands : d.tells → IsSettled d.old.now → StepsThrough (Keeps limit) (kept_in found.stand) (steps_put true (onwards d found.story) found.stand Bs last puts) d.old d.new
 
--- Those in front were put, as if they were all, and the next one was not, for this reason: with it the file would need so many bytes, which are more than the limit; or the disk failed while
--- it was put, or while the file was rewritten before it; or there was no memory for it.
+-- Those in front were put so, and the next one was not, for this reason: with it the file would need so many bytes, which are more than the limit; or the disk failed
+-- while it was put, or while the file was rewritten before it; or there was no memory for it.
 pub record IsStopped (limit : ℕ) (d : OverDisk) (K : SomeKept) (Bs : List Batch) (fault : ApplyFault) : Type 0 where
   pub found : IsFoundAs limit d K
   pub last : Stand
@@ -170,7 +170,7 @@ pub record Halts (limit : ℕ) (w : Asked) (d : OverDisk) (fault : ApplyFault) (
   pub answers : Answers w b K answer batches
   pub stopped : IsStopped limit d K batches fault
 
--- it is too much
+-- since the file would need so many bytes, which are more than the limit
 pub record Overfills (limit : ℕ) (w : Asked) (d : OverDisk) (needed most : ℕ) (b : Book) (K : SomeKept) : Type 0 where
   pub halts : Halts limit w d (Full needed most) b K
   pub most_is : most ≡ limit
@@ -200,7 +200,7 @@ pub record ClearsNot (limit : ℕ) (d : OverDisk) (fault : ApplyFault) (K : Some
   pub clearing : IsClearing K batch
   pub stopped : IsStopped limit d K (batch ∷ []) fault
 
--- something is kept, and the batch is too much
+-- so it is where something is kept, and the batch is too much
 pub record ClearsTooMuch (limit : ℕ) (d : OverDisk) (needed most : ℕ) (K : SomeKept) : Type 0 where
   pub clears_not : ClearsNot limit d (Full needed most) K
   pub most_is : most ≡ limit
