@@ -20,7 +20,7 @@ use Rattle.carte_report.specs.declared.status.Status.{Status}
 use Rattle.carte_report.specs.declared.status.Status.TheVariants.{Done, BookRefused, Usage, BuildRefused, ReadFault, WriteFault, DiskFault, BadState, StateFull, NoMemory, ScriptTooLong}
 use Rattle.carte_top.specs.Around.{OverDisk, OverSink, TakesAll}
 use Rattle.carte_top.specs.Chosen.{scheduler_of}
-use Rattle.carte_top.specs.Due.{AllFit, AllOver, IsBadNow, IsDueOver, IsFound, IsHindered, IsKept, IsPlanned}
+use Rattle.carte_top.specs.Due.{AllFit, AllOver, IsBadNow, IsDueOver, IsFound, IsFull, IsFullOver, IsHindered, IsKept, IsPlanned, NoneFit}
 use Rattle.carte_top.specs.Found.{ArePut, Commits, Found, IsStopped, Overfills, Replies, behind}
 use Rattle.carte_top.specs.Outcome.{BuiltOver, IsBad}
 use Rattle.carte_top.proofs.Unique.{one_refusal, served_or_refused}
@@ -59,6 +59,9 @@ same_needed n m needed most (inl is) = cc
 same_needed n m needed most (inr (inl is)) = cc
 same_needed n m needed most (inr (inr is)) = cc
 
+pub none_fit : (limit : ℕ) (d : OverDisk) (May : List Batch → Type 0) (needed most : ℕ) → AllOver limit d needed most May → NoneFit limit d May
+none_fit limit d May needed most all Bs may = (needed, all.2 Bs may)
+
 -- what such batches say of a limit, against what all of them say
 module _ (limit : ℕ) (d : OverDisk) (May : List Batch → Type 0) (K : SomeKept) (Bs : List Batch) (may : May Bs) (told : d.tells) where
   pub all_fit : AllFit limit d May → (needed most : ℕ) → IsStopped limit d K Bs (applying.Full needed most) → ⊥
@@ -66,11 +69,12 @@ module _ (limit : ℕ) (d : OverDisk) (May : List Batch → Type 0) (K : SomeKep
       let found = stopped.found in
       fit_not_full (onwards d found.story) found.stand stopped.last Bs needed most stopped.stops (fit Bs may found.stand (found.loaded told) found.limit_is)
 
-  pub all_over : (needed most : ℕ) → AllOver limit d needed most May → ArePut limit d K Bs → ⊥
-  all_over needed most all put =
+  pub no_room : NoneFit limit d May → ArePut limit d K Bs → ⊥
+  no_room none put =
       let found = put.found in
-      never_passed needed found.stand.journal.limit
-      (overfilled (onwards d found.story) found.stand put.last Bs Passed needed put.puts (all.2 Bs may found.stand (found.loaded told) found.limit_is))
+      let over = none Bs may in
+      never_passed over.0 found.stand.journal.limit
+      (overfilled (onwards d found.story) found.stand put.last Bs Passed over.0 put.puts (over.1 found.stand (found.loaded told) found.limit_is))
 
   pub over_same : (needed most n m : ℕ) → AllOver limit d needed most May → IsStopped limit d K Bs (applying.Full n m) → m ≡ limit → StateFull n m ≡ StateFull needed most
   over_same needed most n m all stopped most_is =
@@ -153,16 +157,13 @@ module _ (limit : ℕ) (d : OverDisk) (Is Has : (Book → Type 0) → Type 0) (o
       not_bad : Has (λ b. Unit {0}) → (offset : ℕ) → IsBad limit d offset → ⊥
       not_bad has offset bad = never_bad (λ b. X b × IsFound limit d b (Fits b)) X Fits (λ b part. part) is has offset bad
 
-    -- where there is not
-    module _ (needed most : ℕ) (is : Is (λ b. IsFound limit d b (λ K. AllOver limit d needed most (IsPlanned w b K)))) where
-      abbrev Over : Book → SomeKept → Type 0
-      Over b K = AllOver limit d needed most (IsPlanned w b K)
-
+    -- where there is room for none
+    module _ (Over : Book → SomeKept → Type 0) (none : (b : Book) (K : SomeKept) → Over b K → NoneFit limit d (IsPlanned w b K)) (is : Is (λ b. IsFound limit d b (Over b))) where
       meets_over : (Q : Book → SomeKept → Type 0) → Has (λ b. Found limit d (Q b)) → Meets limit d (λ b. Unit {0}) Over Q
       meets_over Q did = meet (λ b. IsFound limit d b (Over b)) (λ b. Unit {0}) Over Q (λ b part. (tt, part)) is did
 
       not_committed : (b : Book) (K : SomeKept) (H : List Book) (a : Answer) → d.tells → IsSound K H → HasDistinctDigests (H ++ b ∷ []) → Over b K → Commits limit w d b K a → ⊥
-      not_committed b K H a told sound distinct all did = all_over limit d (IsPlanned w b K) K did.batches (a, did.answers H sound distinct) told needed most all did.put
+      not_committed b K H a told sound distinct over did = no_room limit d (IsPlanned w b K) K did.batches (a, did.answers H sound distinct) told (none b K over) did.put
 
       not_done : Has (λ b. Found limit d (Replied b)) → ⊥
       not_done did =
@@ -174,13 +175,34 @@ module _ (limit : ℕ) (d : OverDisk) (Is Has : (Book → Type 0) → Type 0) (o
           let m = meets_over (λ b K. Commits limit w d b K (answer.Refused reason)) did in
           not_committed m.book m.kept m.history (answer.Refused reason) m.told m.sound m.distinct m.room m.did
 
-      as_full : (n most_told : ℕ) → Has (λ b. Found limit d (Overfills limit w d n most_told b)) → StateFull n most_told ≡ StateFull needed most
-      as_full n most_told did =
-          let m = meets_over (λ b. Overfills limit w d n most_told b) did in
-          over_same limit d (IsPlanned w m.book m.kept) m.kept m.did.halts.batches (m.did.halts.answer, m.did.halts.answers m.history m.sound m.distinct) m.told needed most n most_told m.room m.did.halts.stopped m.did.most_is
-
       not_bad_over : Has (λ b. Unit {0}) → (offset : ℕ) → IsBad limit d offset → ⊥
       not_bad_over has offset bad = never_bad (λ b. IsFound limit d b (Over b)) (λ b. Unit {0}) Over (λ b part. (tt, part)) is has offset bad
+
+    pub full_due : (status : Status) → BuiltOver Has limit w front d k status → IsFullOver Is limit w d → IsFull status ⊎ IsHindered status
+    full_due WriteFault did is = inr tt
+    full_due DiskFault did is = inr tt
+    full_due NoMemory did is = inr tt
+    full_due ReadFault did is = absurd did
+    full_due (BookRefused fault) did is = absurd did
+    full_due (Usage fault) did is = absurd did
+    full_due ScriptTooLong did is = absurd did
+    full_due (StateFull n m) did is = inl tt
+    full_due Done did is = absurd (not_done (λ b K. NoneFit limit d (IsPlanned w b K)) (λ b K none. none) is did)
+    full_due (BuildRefused r) did is = absurd (not_kept (λ b K. NoneFit limit d (IsPlanned w b K)) (λ b K none. none) is r did.0)
+    full_due (BadState at) did is = absurd (not_bad_over (λ b K. NoneFit limit d (IsPlanned w b K)) (λ b K none. none) is did.0 at did.1)
+
+    -- and each needs as many bytes
+    module _ (needed most : ℕ) where
+      abbrev Over : Book → SomeKept → Type 0
+      Over b K = AllOver limit d needed most (IsPlanned w b K)
+
+      over_none : (b : Book) (K : SomeKept) → Over b K → NoneFit limit d (IsPlanned w b K)
+      over_none b K all = none_fit limit d (IsPlanned w b K) needed most all
+
+      as_full : Is (λ b. IsFound limit d b (Over b)) → (n most_told : ℕ) → Has (λ b. Found limit d (Overfills limit w d n most_told b)) → StateFull n most_told ≡ StateFull needed most
+      as_full is n most_told did =
+          let m = meets_over Over over_none is (λ b. Overfills limit w d n most_told b) did in
+          over_same limit d (IsPlanned w m.book m.kept) m.kept m.did.halts.batches (m.did.halts.answer, m.did.halts.answers m.history m.sound m.distinct) m.told needed most n most_told m.room m.did.halts.stopped m.did.most_is
 
     abbrev IsServedBy : Book → Type 0
     IsServedBy b = IsServed (scheduler_of w.scheduler) b w.targets
@@ -206,15 +228,15 @@ module _ (limit : ℕ) (d : OverDisk) (Is Has : (Book → Type 0) → Type 0) (o
     over_due Done Done did is = inl refl
     over_due Done (BuildRefused r) did is = let at = served (IsRefusedBy r) is did in absurd (served_or_refused (scheduler_of w.scheduler) at.0 w.targets r at.2 at.1)
     over_due Done (BadState at) did is = absurd (not_found Replied at is did)
-    over_due Done (StateFull n m) did is = absurd (not_done n m is did)
+    over_due Done (StateFull n m) did is = absurd (not_done (Over n m) (over_none n m) is did)
     over_due (BuildRefused r) Done did is = let at = refused IsServedBy is r did.0 in absurd (served_or_refused (scheduler_of w.scheduler) at.0 w.targets r at.1 at.2)
     over_due (BuildRefused r) (BuildRefused q) did is = let at = refused (IsRefusedBy q) is r did.0 in inl (ap BuildRefused (one_refusal (scheduler_of w.scheduler) at.0 w.targets r q at.2 at.1))
     over_due (BuildRefused r) (BadState at) did is = absurd (not_found (λ b K. Commits limit w d b K (answer.Refused r)) at is did.0)
-    over_due (BuildRefused r) (StateFull n m) did is = absurd (not_kept n m is r did.0)
+    over_due (BuildRefused r) (StateFull n m) did is = absurd (not_kept (Over n m) (over_none n m) is r did.0)
     over_due (BadState at) Done did is = absurd (not_bad IsServedBy is did.0 at did.1)
     over_due (BadState at) (BuildRefused r) did is = absurd (not_bad (IsRefusedBy r) is did.0 at did.1)
     over_due (BadState at) (BadState offset) did is = inl (bad_one limit d offset at (one (λ b. IsBadNow limit d offset) (λ b. Unit {0}) is did.0).1 did.1)
-    over_due (BadState at) (StateFull n m) did is = absurd (not_bad_over n m is did.0 at did.1)
+    over_due (BadState at) (StateFull n m) did is = absurd (not_bad_over (Over n m) (over_none n m) is did.0 at did.1)
     over_due (StateFull n m) Done did is = absurd (not_full IsServedBy is n m did.0)
     over_due (StateFull n m) (BuildRefused r) did is = absurd (not_full (IsRefusedBy r) is n m did.0)
     over_due (StateFull n m) (BadState at) did is = absurd (not_found (λ b. Overfills limit w d n m b) at is did.0)

@@ -16,7 +16,7 @@ use Rattle.carte_top.specs.Sound.{KeepsOn}
 use Rattle.carte_top.specs.Outcome.{Asks, ComesTo, Does, Ended, EndsShort, IsShort, IsSpared, KeepsRefused, Ran, Sat, StopsShort, TellsEither, TellsSources, status_of}
 use Rattle.carte_top.specs.Running.{IsRun, ReadsEnough, Reports, Runs, is_brief, is_spoken, usage_of}
 use Rattle.carte_top.specs.Whole.{IsOutcome}
-use Rattle.carte_top.proofs.Completing.{comes}
+use Rattle.carte_top.proofs.Completing.{comes, comes_full}
 use Rattle.carte_top.proofs.Sounds.{sound_run}
 
 -- its line may want memory, or it is the want of it
@@ -211,4 +211,5 @@ outcome limit a old new was reports ended =
       sink = run.sink;
       ended = ended;
       complete = λ due is. comes limit a.words a.book a.script a.state a.out new due run.did is;
+      full = λ is. comes_full limit a.words a.book a.script a.state a.out new run.did is;
     }

@@ -100,6 +100,29 @@ abbrev pub IsDue : ℕ → List (List ℕ) → OverSource → OverDisk → Statu
 IsDue limit words s d (Usage fault) = words_of words ≡ Err fault
 IsDue limit words s d due = Asks words (λ w. IsDueFor w.command limit w s d due)
 
+-- ---- no room
+
+-- there is room for no list of such batches; how many bytes the file would need may hang on the order in which their keys were finished
+abbrev pub NoneFit : ℕ → OverDisk → (List Batch → Type 0) → Type 0
+NoneFit limit d May = (Bs : List Batch) → May Bs → (needed : ℕ) × IsNeeded limit d.old.now.reads Bs needed
+
+-- so it is for a build over a book that is there so
+abbrev pub IsFullOver : ((Book → Type 0) → Type 0) → ℕ → Asked → OverDisk → Type 0
+IsFullOver Is limit w d = Is (λ b. IsFound limit d b (λ K. NoneFit limit d (IsPlanned w b K)))
+
+abbrev pub IsFullFor : Command → ℕ → OverSource → OverDisk → Asked → Type 0
+IsFullFor command.Build limit s d w = IsFullOver (IsBook w.kind s) limit w d
+IsFullFor command.Generate limit s d w = IsFullOver (Makes w) limit (for_last w) d
+IsFullFor _ limit s d w = ⊥
+
+abbrev pub IsFullDue : ℕ → List (List ℕ) → OverSource → OverDisk → Type 0
+IsFullDue limit words s d = Asks words (λ w. IsFullFor w.command limit s d w)
+
+-- and it is told, with some number of bytes
+abbrev pub IsFull : Status → Type 0
+IsFull (StateFull needed most) = Unit {0}
+IsFull _ = ⊥
+
 -- a device failed, or memory ran out
 abbrev pub IsHindered : Status → Type 0
 IsHindered ReadFault = Unit {0}
