@@ -1,13 +1,12 @@
--- What a commit comes to, and what its images keep.
-use Rattle.std.proofs.Common.{◌≡◌, ◌⊎◌, ℕ, ◌+◌, Bool, true, false, if◌then◌else◌, List, [], ◌∷◌, ◌++◌, Result, Ok, Err, refl, sym, ◌∙◌, ap, subst, inl, inr}
+-- What a commit of one batch comes to, and what its images keep.
+use Rattle.std.proofs.Common.{◌≡◌, ◌⊎◌, ℕ, ◌+◌, Bool, true, false, if◌then◌else◌, List, [], ◌∷◌, ◌++◌, Result, Ok, Err, refl, sym, ◌∙◌, ap, subst, inl, inr, arith}
 use Rattle.std.specs.Prelude.{MatchResult}
 use Rattle.carte_io.specs.Causes.{Rose}
 use Rattle.carte_io.specs.Disk.{LeavesOnly, Story}
-use Rattle.carte_io.specs.Stations.{IsAtOneOf, Step, StepsThrough}
-use Rattle.carte_io.proofs.Acknowledged.{steps_leave}
+use Rattle.carte_io.specs.Stations.{IsAtOneOf, Step, StepsThrough, calls_in, last_of}
+use Rattle.carte_io.proofs.Acknowledged.{AreMade, last_of-append, steps_leave}
 use Rattle.carte_io.proofs.Images.{leaves_more, leaves_none}
-use Rattle.carte_journal.specs.Journals.{calls_of}
-use Rattle.carte_journal.specs.Regions.{calls_to_turn}
+use Rattle.carte_journal.specs.Journals.{Standing, calls_of}
 use Rattle.carte_record.specs.Empty.{is_empty}
 use Rattle.carte_record.specs.Folds.{apply}
 use Rattle.carte_record.specs.Kept.{SomeKept, kept_view}
@@ -20,9 +19,10 @@ use Rattle.carte_state.specs.declared.fault.ApplyFault.{ApplyFault}
 use Rattle.carte_state.specs.declared.fault.ApplyFault.TheVariants.{DiskFault, Full, NoMemory}
 use Rattle.carte_state.proofs.Applies.{kept_leaves}
 use Rattle.carte_compact.specs.Rewriting.{Renewed, Rewrites, step_again}
-use Rattle.carte_compact.proofs.Behind.{kept_throughout, stations_behind, steps_behind, told_applied, told_renewed}
+use Rattle.carte_compact.proofs.Behind.{kept_throughout}
 use Rattle.carte_compact.proofs.Room.{due_has_room}
-use Rattle.carte_engine.specs.Committing.{Breaks, Commits, Follows, IsBase, IsDue, IsNotDue, Lacks, Readies, Unreadied, behind, seen, steps_ready, until}
+use Rattle.carte_engine.specs.Committing.{Breaks, Commits, Follows, HasPassed, IsBase, IsDue, IsNotDue, Lacks, Readies, Unreadied, behind, seen, step_begun, steps_once, steps_ready, until}
+use Rattle.carte_engine.proofs.Steps.{EndsWell, again_made, batch_calls, batch_last, begun_made, begun_passed, begun_through, both_calls, both_made, both_passed, both_through, none_through, passed_since}
 
 -- ---- disks by what is told of them
 
@@ -55,10 +55,10 @@ module _ (d : OverDisk) (old new : Stand) (B : Batch) where
       renewed_seen (Full needed limit) c = (c.0, still_seen c.1)
       renewed_seen NoMemory s = still_seen s
 
-  pub commits_seen : (result : Result (Unit {0}) ApplyFault) → Commits d old new B result → Commits (seen d) old new B result
-  commits_seen result (inl f) = inl (record { base = f.base; between = f.between; ready = f.ready; applies = f.applies })
-  commits_seen result (inr (fault, is, inl b)) = inr (fault, is, inl (record { due = b.due; is = b.is; rewrites = rewrites_seen DiskFault b.rewrites }))
-  commits_seen result (inr (fault, is, inr l)) = inr (fault, is, inr (record { is = l.is; still = still_seen l.still }))
+pub commits_seen : (first : Bool) (d : OverDisk) (old new : Stand) (B : Batch) (result : Result (Unit {0}) ApplyFault) → Commits first d old new B result → Commits first (seen d) old new B result
+commits_seen first d old new B result (inl f) = inl (record { base = f.base; between = f.between; ready = f.ready; applies = f.applies })
+commits_seen first d old new B result (inr (fault, is, inl b)) = inr (fault, is, inl (record { due = b.due; is = b.is; rewrites = rewrites_seen d old new B DiskFault b.rewrites }))
+commits_seen first d old new B result (inr (fault, is, inr l)) = inr (fault, is, inr (record { is = l.is; still = still_seen d old new B l.still }))
 
 -- a rewriting that passed, up to the moment behind it
 renews_until : (d : OverDisk) (old base : Stand) → Rewrites d old base (Ok tt) → Rewrites (until d d.new) old base (Ok tt)
@@ -79,98 +79,67 @@ renews_until d old base r = record {
   ordered = r.ordered;
 }
 
-readies_until : (d : OverDisk) (old base : Stand) (B : Batch) → Readies d old B base → Readies (until d d.new) old B base
-readies_until d old base B (inl (undue, same, story, faults)) = inl (undue, same, story, refl)
-readies_until d old base B (inr (due, rewrites)) = inr (due, renews_until d old base rewrites)
+module _ (first : Bool) where
+  readies_until : (d : OverDisk) (old base : Stand) (B : Batch) → Readies first d old B base → Readies first (until d d.new) old B base
+  readies_until d old base B (inl (undue, same, story, faults)) = inl (undue, same, story, refl)
+  readies_until d old base B (inr (due, rewrites)) = inr (due, renews_until d old base rewrites)
 
-readies_faults : (d : OverDisk) (old base : Stand) (B : Batch) → Readies d old B base → d.failed ≡ d.failed_before
-readies_faults d old base B (inl (undue, same, story, faults)) = faults
-readies_faults d old base B (inr (due, rewrites)) = rewrites.comes.faults
+  readies_faults : (d : OverDisk) (old base : Stand) (B : Batch) → Readies first d old B base → d.failed ≡ d.failed_before
+  readies_faults d old base B (inl (undue, same, story, faults)) = faults
+  readies_faults d old base B (inr (due, rewrites)) = rewrites.comes.faults
 
--- two stretches of one disk: up to the first call's end, and from there on
-pub followed : (tells : Type 0) (old between new : Story) (before mid after : ℕ) (one two same : Type 0) (s base t : Stand) (B : Batch) (result : Result (Unit {0}) ApplyFault)
-    → Readies (record { tells = tells; old = old; new = between; failed_before = before; failed = mid; same = one }) s B base
-    → Applies (record { tells = tells; old = between; new = new; failed_before = mid; failed = after; same = two }) base t B result
-    → Follows (record { tells = tells; old = old; new = new; failed_before = before; failed = after; same = same }) s t B result
-followed tells old between new before mid after one two same s base t B result ready applies =
-    let first : OverDisk = record { tells = tells; old = old; new = between; failed_before = before; failed = mid; same = one } in
-    let second : OverDisk = record { tells = tells; old = between; new = new; failed_before = mid; failed = after; same = two } in
-    record {
-      base = base;
-      between = between;
-      ready = readies_until first s base B ready;
-      applies = subst (λ n. Applies (record { tells = tells; old = between; new = new; failed_before = n; failed = after; same = Unit {0} }) base t B result)
-          (readies_faults first s base B ready) (applies_seen second base t B result applies);
-    }
+  -- two stretches of one disk: up to the first call's end, and from there on
+  pub followed : (tells : Type 0) (old between new : Story) (before mid after : ℕ) (one two same : Type 0) (s base t : Stand) (B : Batch) (result : Result (Unit {0}) ApplyFault)
+      → Readies first (record { tells = tells; old = old; new = between; failed_before = before; failed = mid; same = one }) s B base
+      → Applies (record { tells = tells; old = between; new = new; failed_before = mid; failed = after; same = two }) base t B result
+      → Follows first (record { tells = tells; old = old; new = new; failed_before = before; failed = after; same = same }) s t B result
+  followed tells old between new before mid after one two same s base t B result ready applies =
+      let front : OverDisk = record { tells = tells; old = old; new = between; failed_before = before; failed = mid; same = one } in
+      let back : OverDisk = record { tells = tells; old = between; new = new; failed_before = mid; failed = after; same = two } in
+      record {
+        base = base;
+        between = between;
+        ready = readies_until front s base B ready;
+        applies = subst (λ n. Applies (record { tells = tells; old = between; new = new; failed_before = n; failed = after; same = Unit {0} }) base t B result)
+            (readies_faults front s base B ready) (applies_seen back base t B result applies);
+      }
 
--- the same of a disk whose story was the same before, where it tells it
-module _ (tells : Type 0) (old first between : Story) (before failed : ℕ) (same_story : tells → old ≡ first) (same_count : before ≡ failed) (s base : Stand) (B : Batch) where
-  abbrev From : Story → ℕ → OverDisk
-  From u n = record { tells = tells; old = u; new = between; failed_before = n; failed = n; same = Unit {0} }
+  -- a rewriting that is due and wasn't made
+  pub unreadied : (d : OverDisk) (old new : Stand) (B : Batch) (fault : ApplyFault) → IsDue first old B → Rewrites d old new (Err fault) → Unreadied first d old new B fault
+  unreadied d old new B DiskFault due r = inl (record { due = due; is = refl; rewrites = r })
+  unreadied d old new B NoMemory due r = inr (record { is = refl; still = r.comes })
+  unreadied d old new B (Full needed limit) due r = absurd (due_has_room old B first due needed limit r.comes.0)
 
-  rewrites_from : Rewrites (From old before) s base (Ok tt) → Rewrites (From first failed) s base (Ok tt)
-  rewrites_from r = record {
-    comes = record {
-      region = r.comes.region;
-      live = r.comes.live;
-      room = r.comes.room;
-      after = r.comes.after;
-      whole = r.comes.whole;
-      faults = refl;
-      calls = λ told. subst (λ (u : Story). between.now.passed ≡ u.now.passed + calls_to_turn s.journal.bank) (same_story told) (r.comes.calls told);
-      rest = λ told on. r.comes.rest told (subst (IsKeptOn s) (sym (same_story told)) on);
-    };
-    limit = r.limit;
-    kept = r.kept;
-    steps = λ told on. subst (λ (u : Story). StepsThrough (Keeps s.journal.limit) (kept_in s) (step_again s) u between) (same_story told) (r.steps told (subst (IsKeptOn s) (sym (same_story told)) on));
-    ordered = r.ordered;
-  }
+  -- what comes of a rewriting that is due
+  pub made_ready : (d : OverDisk) (old new : Stand) (B : Batch) (result : Result (Unit {0}) ApplyFault) → IsDue first old B → Rewrites d old new result
+      → MatchResult result (λ done. Readies first d old B new) (λ fault. Unreadied first d old new B fault)
+  made_ready d old new B (Ok done) due rewrites = inr (due, rewrites)
+  made_ready d old new B (Err fault) due rewrites = unreadied d old new B fault due rewrites
 
-  pub readies_from : Readies (From old before) s B base → Readies (From first failed) s B base
-  readies_from (inl (undue, same, story, faults)) = inl (undue, same, (λ told. story told ∙ same_story told), refl)
-  readies_from (inr (due, rewrites)) = inr (due, rewrites_from rewrites)
+  -- ---- what is told of every commit
 
-  pub steps_from : (r : Readies (From old before) s B base) → steps_ready (From first failed) s base B (readies_from r) ≡ steps_ready (From old before) s base B r
-  unfolding readies_from
-  steps_from (inl plain) = refl
-  steps_from (inr turned) = refl
+  pub ready_kept : (d : OverDisk) (old base : Stand) (B : Batch) → Readies first d old B base → kept_in base ≡ kept_in old
+  ready_kept d old base B (inl (undue, same, story, faults)) = ap kept_in same
+  ready_kept d old base B (inr (due, rewrites)) = ap kept_view rewrites.kept
 
--- a rewriting that is due and wasn't made
-pub unreadied : (d : OverDisk) (old new : Stand) (B : Batch) (fault : ApplyFault) → IsDue old B → Rewrites d old new (Err fault) → Unreadied d old new B fault
-unreadied d old new B DiskFault due r = inl (record { due = due; is = refl; rewrites = r })
-unreadied d old new B NoMemory due r = inr (record { is = refl; still = r.comes })
-unreadied d old new B (Full needed limit) due r = absurd (due_has_room old B true due needed limit r.comes.0)
+  pub ready_limit : (d : OverDisk) (old base : Stand) (B : Batch) → Readies first d old B base → base.journal.limit ≡ old.journal.limit
+  ready_limit d old base B (inl (undue, same, story, faults)) = ap (λ (s : Stand). s.journal.limit) same
+  ready_limit d old base B (inr (due, rewrites)) = rewrites.limit
 
--- what comes of a rewriting that is due
-pub made_ready : (d : OverDisk) (old new : Stand) (B : Batch) (result : Result (Unit {0}) ApplyFault) → IsDue old B → Rewrites d old new result
-    → MatchResult result (λ done. Readies d old B new) (λ fault. Unreadied d old new B fault)
-made_ready d old new B (Ok done) due rewrites = inr (due, rewrites)
-made_ready d old new B (Err fault) due rewrites = unreadied d old new B fault due rewrites
+  pub ready_rest : (d : OverDisk) (old base : Stand) (B : Batch) → Readies first d old B base → d.tells → IsKeptOn old d.old → IsKeptOn base d.new
+  ready_rest d old base B (inl (undue, same, story, faults)) told on =
+      subst (λ (u : Story). IsKeptOn base u) (sym (story told)) (subst (λ (s : Stand). IsKeptOn s d.old) (sym same) on)
+  ready_rest d old base B (inr (due, rewrites)) told on = rewrites.comes.rest told on
 
--- ---- what is told of every commit
+  -- the state as it stood when the batch was put
+  pub ready_base : (d : OverDisk) (old base : Stand) (B : Batch) → Readies first d old B base → IsBase first old B base
+  ready_base d old base B (inl (undue, same, story, faults)) = inl (undue, same)
+  ready_base d old base B (inr (due, rewrites)) = inr (due, rewrites.comes.region, rewrites.comes.live, rewrites.comes.after)
 
-pub ready_kept : (d : OverDisk) (old base : Stand) (B : Batch) → Readies d old B base → kept_in base ≡ kept_in old
-ready_kept d old base B (inl (undue, same, story, faults)) = ap kept_in same
-ready_kept d old base B (inr (due, rewrites)) = ap kept_view rewrites.kept
-
-pub ready_limit : (d : OverDisk) (old base : Stand) (B : Batch) → Readies d old B base → base.journal.limit ≡ old.journal.limit
-ready_limit d old base B (inl (undue, same, story, faults)) = ap (λ (s : Stand). s.journal.limit) same
-ready_limit d old base B (inr (due, rewrites)) = rewrites.limit
-
-pub ready_rest : (d : OverDisk) (old base : Stand) (B : Batch) → Readies d old B base → d.tells → IsKeptOn old d.old → IsKeptOn base d.new
-ready_rest d old base B (inl (undue, same, story, faults)) told on =
-    subst (λ (u : Story). IsKeptOn base u) (sym (story told)) (subst (λ (s : Stand). IsKeptOn s d.old) (sym same) on)
-ready_rest d old base B (inr (due, rewrites)) told on = rewrites.comes.rest told on
-
--- the state as it stood when the batch was put
-pub ready_base : (d : OverDisk) (old base : Stand) (B : Batch) → Readies d old B base → IsBase old B base
-ready_base d old base B (inl (undue, same, story, faults)) = inl (undue, same)
-ready_base d old base B (inr (due, rewrites)) = inr (due, rewrites.comes.region, rewrites.comes.live, rewrites.comes.after)
-
-pub commit_limit : (d : OverDisk) (old new : Stand) (B : Batch) (result : Result (Unit {0}) ApplyFault) → Commits d old new B result → new.journal.limit ≡ old.journal.limit
-commit_limit d old new B result (inl f) = f.applies.limit ∙ ready_limit (until d f.between) old f.base B f.ready
-commit_limit d old new B result (inr (fault, is, inl b)) = b.rewrites.limit
-commit_limit d old new B result (inr (fault, is, inr l)) = ap (λ (s : Stand). s.journal.limit) l.still.stand
+  pub commit_limit : (d : OverDisk) (old new : Stand) (B : Batch) (result : Result (Unit {0}) ApplyFault) → Commits first d old new B result → new.journal.limit ≡ old.journal.limit
+  commit_limit d old new B result (inl f) = f.applies.limit ∙ ready_limit (until d f.between) old f.base B f.ready
+  commit_limit d old new B result (inr (fault, is, inl b)) = b.rewrites.limit
+  commit_limit d old new B result (inr (fault, is, inr l)) = ap (λ (s : Stand). s.journal.limit) l.still.stand
 
 -- a commit that passed
 pub record HasPut (d : OverDisk) (old new : Stand) (B : Batch) : Type 0 where
@@ -179,91 +148,166 @@ pub record HasPut (d : OverDisk) (old new : Stand) (B : Batch) : Type 0 where
   pub faults : d.failed ≡ d.failed_before
   pub rest : d.tells → IsKeptOn old d.old → IsKeptOn new d.new
 
-pub has_put : (d : OverDisk) (old new : Stand) (B : Batch) → Commits d old new B (Ok tt) → HasPut d old new B
-has_put d old new B (inl f) = record {
-  kept = f.applies.comes.after.kept ∙ ap (apply B) (ready_kept (until d f.between) old f.base B f.ready);
-  whole = f.applies.comes.whole;
-  faults = f.applies.comes.faults;
-  rest = λ told on. f.applies.comes.rest told (ready_rest (until d f.between) old f.base B f.ready told on);
-}
-has_put d old new B (inr (fault, is, unready)) = cc
+module _ (first : Bool) (d : OverDisk) (old new : Stand) (B : Batch) where
+  pub put_follows : Commits first d old new B (Ok tt) → Follows first d old new B (Ok tt)
+  put_follows (inl f) = f
+  put_follows (inr (fault, is, unready)) = cc
 
--- and one that didn't: only of a disk that failed the count has risen
-pub failed_commit : (d : OverDisk) (old new : Stand) (B : Batch) → Commits d old new B (Err DiskFault) → Rose d.failed_before d.failed
-failed_commit d old new B (inl f) = f.applies.comes.rose
-failed_commit d old new B (inr (fault, is, inl b)) = b.rewrites.comes.rose
-failed_commit d old new B (inr (fault, is, inr l)) = let why = l.is in cc
+  pub has_put : Commits first d old new B (Ok tt) → HasPut d old new B
+  has_put commits =
+      let f = put_follows commits in
+      record {
+        kept = f.applies.comes.after.kept ∙ ap (apply B) (ready_kept first (until d f.between) old f.base B f.ready);
+        whole = f.applies.comes.whole;
+        faults = f.applies.comes.faults;
+        rest = λ told on. f.applies.comes.rest told (ready_rest first (until d f.between) old f.base B f.ready told on);
+      }
 
-pub full_commit : (d : OverDisk) (old new : Stand) (B : Batch) (needed limit : ℕ) → Commits d old new B (Err (Full needed limit)) → Follows d old new B (Err (Full needed limit))
-full_commit d old new B needed limit (inl f) = f
-full_commit d old new B needed limit (inr (fault, is, inl b)) = let why = b.is in cc
-full_commit d old new B needed limit (inr (fault, is, inr l)) = let why = l.is in cc
+  -- and one that didn't: only of a disk that failed the count has risen
+  pub failed_commit : Commits first d old new B (Err DiskFault) → Rose d.failed_before d.failed
+  failed_commit (inl f) = f.applies.comes.rose
+  failed_commit (inr (fault, is, inl b)) = b.rewrites.comes.rose
+  failed_commit (inr (fault, is, inr l)) = let why = l.is in cc
 
-pub short_commit : (d : OverDisk) (old new : Stand) (B : Batch) → Commits d old new B (Err NoMemory) → Follows d old new B (Err NoMemory) ⊎ IsStill d old new
-short_commit d old new B (inl f) = inl f
-short_commit d old new B (inr (fault, is, inl b)) = let why = b.is in cc
-short_commit d old new B (inr (fault, is, inr l)) = inr l.still
+  pub full_commit : (needed limit : ℕ) → Commits first d old new B (Err (Full needed limit)) → Follows first d old new B (Err (Full needed limit))
+  full_commit needed limit (inl f) = f
+  full_commit needed limit (inr (fault, is, inl b)) = let why = b.is in cc
+  full_commit needed limit (inr (fault, is, inr l)) = let why = l.is in cc
 
--- so the count stands
-pub full_faults : (d : OverDisk) (old new : Stand) (B : Batch) (needed limit : ℕ) → Commits d old new B (Err (Full needed limit)) → d.failed ≡ d.failed_before
-full_faults d old new B needed limit commits = (full_commit d old new B needed limit commits).applies.comes.1.disk.faults
+  pub short_commit : Commits first d old new B (Err NoMemory) → Follows first d old new B (Err NoMemory) ⊎ IsStill d old new
+  short_commit (inl f) = inl f
+  short_commit (inr (fault, is, inl b)) = let why = b.is in cc
+  short_commit (inr (fault, is, inr l)) = inr l.still
 
-pub short_faults : (d : OverDisk) (old new : Stand) (B : Batch) → Commits d old new B (Err NoMemory) → d.failed ≡ d.failed_before
-short_faults d old new B commits = elim (short_commit d old new B commits) [
-  | inl f ↦ f.applies.comes.1.disk.faults
-  | inr still ↦ still.disk.faults
-]
+  -- so the count stands
+  pub full_faults : (needed limit : ℕ) → Commits first d old new B (Err (Full needed limit)) → d.failed ≡ d.failed_before
+  full_faults needed limit commits = (full_commit needed limit commits).applies.comes.1.disk.faults
+
+  pub short_faults : Commits first d old new B (Err NoMemory) → d.failed ≡ d.failed_before
+  short_faults commits = elim (short_commit commits) [
+    | inl f ↦ f.applies.comes.1.disk.faults
+    | inr still ↦ still.disk.faults
+  ]
+
+-- ---- its steps
+
+module _ (first : Bool) (d : OverDisk) (old base : Stand) (B : Batch) where
+  ready_made : (ready : Readies first d old B base) → AreMade (steps_ready first d old base B ready)
+  ready_made (inl plain) = tt
+  ready_made (inr turned) = again_made old
+
+  ready_last : (ready : Readies first d old B base) → last_of (kept_in old) (steps_ready first d old base B ready) ≡ kept_in old
+  ready_last (inl plain) = refl
+  ready_last (inr turned) = refl
+
+  ready_calls : (ready : Readies first d old B base) → d.tells → d.new.now.passed ≡ d.old.now.passed + calls_in (steps_ready first d old base B ready)
+  ready_calls (inl (undue, same, story, faults)) told = omega (arith, ap (λ (u : Story). u.now.passed) (story told))
+  ready_calls (inr (due, rewrites)) told = omega (arith, rewrites.comes.calls told)
+
+  ready_through : (ready : Readies first d old B base) → d.tells → IsKeptOn old d.old → StepsThrough (Keeps old.journal.limit) (kept_in old) (steps_ready first d old base B ready) d.old d.new
+  ready_through (inl (undue, same, story, faults)) told on = none_through old d.old d.new (story told) on
+  ready_through (inr (due, rewrites)) told on = rewrites.steps told on
+
+module _ (first : Bool) (d : OverDisk) (old new : Stand) (B : Batch) where
+  module _ (result : Result (Unit {0}) ApplyFault) where
+    abbrev steps : Commits first d old new B result → List (Step SomeKept)
+    steps commits = steps_once first d old new B result commits
+
+    -- each makes some call
+    pub once_made : (commits : Commits first d old new B result) → AreMade (steps commits)
+    once_made (inl f) =
+        both_made (steps_ready first (until d f.between) old f.base B f.ready) (step_begun f.base.journal (kept_in old) B result)
+        (ready_made first (until d f.between) old f.base B f.ready) (begun_made f.base.journal (kept_in old) B result)
+    once_made (inr (fault, is, inl b)) = again_made old
+    once_made (inr (fault, is, inr l)) = tt
+
+    pub once_well : (commits : Commits first d old new B result) → d.tells → EndsWell (steps commits) d.old d.new
+    once_well (inl f) told = inr (f.applies.ordered told)
+    once_well (inr (fault, is, inl b)) told = inr (b.rewrites.ordered told)
+    once_well (inr (fault, is, inr l)) told = inl (refl, l.still.disk.story)
+
+    -- what was acknowledged stands
+    pub once_through : (commits : Commits first d old new B result) → d.tells → IsKeptOn old d.old → StepsThrough (Keeps old.journal.limit) (kept_in old) (steps commits) d.old d.new
+    once_through (inl f) told on =
+        let e = until d f.between in
+        let front = steps_ready first e old f.base B f.ready in
+        let back : SomeKept → List (Step SomeKept) = λ K. step_begun f.base.journal K B result in
+        let here = begun_through (behind d f.between) f.base new B result f.applies told (ready_rest first e old f.base B f.ready told on) in
+        let there = subst (λ K. StepsThrough (Keeps f.base.journal.limit) K (back K) f.between d.new) (ready_kept first e old f.base B f.ready) here in
+        let under = subst (λ limit. StepsThrough (Keeps limit) (kept_in old) (back (kept_in old)) f.between d.new) (ready_limit first e old f.base B f.ready) there in
+        both_through (Keeps old.journal.limit) (kept_in old) front (back (kept_in old)) d.old f.between d.new (ready_through first e old f.base B f.ready told on) (ready_calls first e old f.base B f.ready told)
+        (inr (f.applies.ordered told)) (begun_made f.base.journal (kept_in old) B result)
+        (subst (λ K. StepsThrough (Keeps old.journal.limit) K (back (kept_in old)) f.between d.new) (sym (ready_last first e old f.base B f.ready)) under)
+    once_through (inr (fault, is, inl b)) told on = b.rewrites.steps told on
+    once_through (inr (fault, is, inr l)) told on = none_through old d.old d.new l.still.disk.story on
+
+  -- of those of a batch that was put the last one leads to what is kept then
+  pub once_last : (commits : Commits first d old new B (Ok tt)) → last_of (kept_in old) (steps_once first d old new B (Ok tt) commits) ≡ kept_in new
+  once_last (inl f) =
+      let e = until d f.between in
+      last_of-append (kept_in old) (steps_ready first e old f.base B f.ready) (step_for f.base.journal (kept_in old) B)
+      ∙ (ap (λ K. last_of K (step_for f.base.journal (kept_in old) B)) (ready_last first e old f.base B f.ready)
+      ∙ (batch_last f.base.journal (kept_in old) B
+      ∙ sym (f.applies.comes.after.kept ∙ ap (apply B) (ready_kept first e old f.base B f.ready))))
+  once_last (inr (fault, is, unready)) = cc
+
+  -- and so many calls have passed
+  pub once_calls : (commits : Commits first d old new B (Ok tt)) → d.tells → d.new.now.passed ≡ d.old.now.passed + calls_in (steps_once first d old new B (Ok tt) commits)
+  once_calls (inl f) told =
+      let e = until d f.between in
+      both_calls (steps_ready first e old f.base B f.ready) (step_for f.base.journal (kept_in old) B) d.old.now.passed f.between.now.passed d.new.now.passed (ready_calls first e old f.base B f.ready told)
+      (omega (arith, f.applies.comes.calls told, batch_calls f.base.journal (kept_in old) B))
+  once_calls (inr (fault, is, unready)) told = cc
+
+  -- or not all, where the disk failed
+  pub once_passed : (fault : ApplyFault) (commits : Commits first d old new B (Err fault)) → d.tells → HasPassed d d.old (steps_once first d old new B (Err fault) commits) fault
+  once_passed fault (inl f) told =
+      let e = until d f.between in
+      let front = steps_ready first e old f.base B f.ready in
+      let made : f.between.now.passed ≡ d.old.now.passed + calls_in front = ready_calls first e old f.base B f.ready told in
+      let back = step_begun f.base.journal (kept_in old) B (Err fault) in
+      passed_since d d.old f.between (front ++ back) fault (omega (arith, made))
+      (both_passed d f.between f.between front back fault made (begun_passed (behind d f.between) f.base new B (kept_in old) fault f.applies told))
+  once_passed fault (inr (other, is, inl b)) told = broken fault (let same : fault ≡ other = cc in same ∙ b.is) b.rewrites
+    where
+      broken : (fault : ApplyFault) → fault ≡ DiskFault → Rewrites d old new (Err DiskFault) → HasPassed d d.old (step_again old) fault
+      broken DiskFault is rewrites = let few = rewrites.comes.few told in (few.0, omega (arith, few.1))
+      broken (Full needed limit) is rewrites = cc
+      broken NoMemory is rewrites = cc
+  once_passed fault (inr (other, is, inr l)) told = lacking fault (let same : fault ≡ other = cc in same ∙ l.is) l.still.disk.story
+    where
+      lacking : (fault : ApplyFault) → fault ≡ NoMemory → d.new ≡ d.old → HasPassed d d.old [] fault
+      lacking DiskFault is same = cc
+      lacking (Full needed limit) is same = cc
+      lacking NoMemory is same = omega (arith, ap (λ (u : Story). u.now.passed) same)
 
 -- ---- what a crash leaves
 
-module _ (d : OverDisk) (old : Stand) (B : Batch) (told : d.tells) (on : IsKeptOn old d.old) where
-  abbrev Stays : Story → Type 0
-  Stays u = LeavesOnly d.old u (λ file. Keeps old.journal.limit (kept_in old) file ⊎ Keeps old.journal.limit (apply B (kept_in old)) file)
+module _ (first : Bool) (d : OverDisk) (old : Stand) (B : Batch) (told : d.tells) (on : IsKeptOn old d.old) where
+  abbrev Stays : List ℕ → Type 0
+  Stays file = Keeps old.journal.limit (kept_in old) file ⊎ Keeps old.journal.limit (apply B (kept_in old)) file
 
-  station : (empty : Bool) (step : Step SomeKept) (file : List ℕ) → IsAtOneOf (Keeps old.journal.limit) (kept_in old) (if empty then [] else step ∷ []) file
-      → Keeps old.journal.limit (kept_in old) file ⊎ Keeps old.journal.limit step.to file
-  station true step file at = inl at
-  station false step file (inl at) = inl at
-  station false step file (inr at) = inr at
+  at_batch : (empty : Bool) (calls : ℕ) (file : List ℕ) → IsAtOneOf (Keeps old.journal.limit) (kept_in old) (if empty then [] else let step : Step SomeKept = record { calls = calls; to = apply B (kept_in old) } in step ∷ []) file → Stays file
+  at_batch true calls file at = inl at
+  at_batch false calls file at = at
 
-  -- of a batch that is put where nothing was rewritten
-  plain_leaves : (u : Story) (new : Stand) (result : Result (Unit {0}) ApplyFault) (e : OverDisk) → e.old ≡ d.old → e.new ≡ u → e.tells → Applies e old new B result → Stays u
-  plain_leaves u new result e first last e_told a =
-      subst Stays last (subst (λ (s : Story). LeavesOnly s e.new (λ file. Keeps old.journal.limit (kept_in old) file ⊎ Keeps old.journal.limit (apply B (kept_in old)) file)) first
-      (leaves_more e.old e.new (IsAtOneOf (Keeps old.journal.limit) (kept_in old) (step_for old.journal (kept_in old) B)) _
-      (λ file at. station (is_empty B) (record { calls = calls_of old.journal; to = apply B (kept_in old) }) file at)
-      (steps_leave (Keeps old.journal.limit) (kept_in old) (step_for old.journal (kept_in old) B) e.old e.new (a.ordered e_told)
-      (a.steps e_told (subst (IsKeptOn old) (sym first) on)))))
+  at_begun : (j : Standing) (result : Result (Unit {0}) ApplyFault) (file : List ℕ) → IsAtOneOf (Keeps old.journal.limit) (kept_in old) (step_begun j (kept_in old) B result) file → Stays file
+  at_begun j (Ok done) file at = at_batch (is_empty B) (calls_of j) file at
+  at_begun j (Err DiskFault) file at = at_batch (is_empty B) (calls_of j) file at
+  at_begun j (Err (Full needed limit)) file at = inl at
+  at_begun j (Err NoMemory) file at = inl at
 
-  follow_leaves : (new : Stand) (result : Result (Unit {0}) ApplyFault) → Follows d old new B result → Stays d.new
-  follow_leaves new result f = by f.base f.between f.ready f.applies
-    where
-      by : (base : Stand) (between : Story) → Readies (until d between) old B base → Applies (behind d between) base new B result → Stays d.new
-      by base between (inl (undue, same, story, faults)) applies =
-          plain_leaves d.new new result (behind d between) (story told) refl told (subst (λ (s : Stand). Applies (behind d between) s new B result) same applies)
-      by base between (inr (due, rewrites)) applies =
-          stations_behind old base B d.old between d.new (told_renewed (until d between) old base rewrites told on)
-          (told_applied (behind d between) base new B result applies told (rewrites.comes.rest told on))
+  at_ready : (e : OverDisk) (base : Stand) (result : Result (Unit {0}) ApplyFault) (ready : Readies first e old B base) (file : List ℕ)
+      → IsAtOneOf (Keeps old.journal.limit) (kept_in old) (steps_ready first e old base B ready ++ step_begun base.journal (kept_in old) B result) file → Stays file
+  at_ready e base result (inl plain) file at = at_begun base.journal result file at
+  at_ready e base result (inr turned) file (inl at) = inl at
+  at_ready e base result (inr turned) file (inr at) = at_begun base.journal result file at
 
-  -- what was acknowledged stands: a rewriting and the batch are steps, one after another
-  pub follow_steps : (new : Stand) (result : Result (Unit {0}) ApplyFault) (f : Follows d old new B result)
-      → StepsThrough (Keeps old.journal.limit) (kept_in old) (steps_ready (until d f.between) old f.base B f.ready ++ step_for f.base.journal (kept_in old) B) d.old d.new
-  follow_steps new result f = by f.base f.between f.ready f.applies
-    where
-      by : (base : Stand) (between : Story) (ready : Readies (until d between) old B base) → Applies (behind d between) base new B result
-          → StepsThrough (Keeps old.journal.limit) (kept_in old) (steps_ready (until d between) old base B ready ++ step_for base.journal (kept_in old) B) d.old d.new
-      by base between (inl (undue, same, story, faults)) applies =
-          let here : StepsThrough (Keeps base.journal.limit) (kept_in base) (step_for base.journal (kept_in base) B) between d.new =
-          applies.steps told (ready_rest (until d between) old base B (inl (undue, same, story, faults)) told on) in
-          subst (λ (u : Story). StepsThrough (Keeps old.journal.limit) (kept_in old) (step_for base.journal (kept_in old) B) u d.new) (story told)
-          (subst (λ (s : Stand). StepsThrough (Keeps s.journal.limit) (kept_in s) (step_for base.journal (kept_in s) B) between d.new) same here)
-      by base between (inr (due, rewrites)) applies =
-          steps_behind old base B d.old between d.new (told_renewed (until d between) old base rewrites told on)
-          (told_applied (behind d between) base new B result applies told (rewrites.comes.rest told on))
-
-  pub commit_leaves : (new : Stand) (result : Result (Unit {0}) ApplyFault) → Commits d old new B result → Stays d.new
-  commit_leaves new result (inl f) = follow_leaves new result f
+  pub commit_leaves : (new : Stand) (result : Result (Unit {0}) ApplyFault) → Commits first d old new B result → LeavesOnly d.old d.new Stays
+  commit_leaves new result (inl f) =
+      leaves_more d.old d.new (IsAtOneOf (Keeps old.journal.limit) (kept_in old) (steps_once first d old new B result (inl f))) Stays (at_ready (until d f.between) f.base result f.ready)
+      (steps_leave (Keeps old.journal.limit) (kept_in old) (steps_once first d old new B result (inl f)) d.old d.new (f.applies.ordered told) (once_through first d old new B result (inl f) told on))
   commit_leaves new result (inr (fault, is, inl b)) =
-      leaves_more d.old d.new (Keeps old.journal.limit (kept_in old)) _ (λ file at. inl at)
+      leaves_more d.old d.new (Keeps old.journal.limit (kept_in old)) Stays (λ file at. inl at)
       (kept_throughout old d.old d.new (b.rewrites.ordered told) (b.rewrites.steps told on))
-  commit_leaves new result (inr (fault, is, inr l)) = leaves_none d.old d.new _ l.still.disk.story (λ file image. inl (kept_leaves old d.old on file image))
+  commit_leaves new result (inr (fault, is, inr l)) = leaves_none d.old d.new Stays l.still.disk.story (λ file image. inl (kept_leaves old d.old on file image))

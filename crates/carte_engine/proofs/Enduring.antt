@@ -1,13 +1,13 @@
 -- Over a history what is kept stays sound.
-use Rattle.std.proofs.Common.{Bool, true, false, cond, List, [], ◌∷◌, ◌++◌, sym, subst, append-nil, append_assoc}
+use Rattle.std.proofs.Common.{List, [], ◌∷◌, ◌++◌, drop, take, sym, subst, append-nil, append_assoc}
+use Rattle.std.proofs.lemmas.List.{take-append-drop}
 use Rattle.carte_book.specs.Book.{Book}
-use Rattle.carte_record.specs.Folds.{apply}
 use Rattle.carte_record.specs.Kept.{SomeKept, nothing_kept}
 use Rattle.carte_sound.specs.Base.{HasDistinctDigests}
 use Rattle.carte_sound.specs.Sound.{IsSound}
-use Rattle.carte_sound.proofs.Begins.{behind_sound, front_distinct}
+use Rattle.carte_sound.proofs.Begins.{front_distinct}
 use Rattle.carte_sound.proofs.Histories.{nothing_sound}
-use Rattle.carte_engine.specs.Answers.{IsPlan}
+use Rattle.carte_engine.specs.Answers.{IsPlan, Leads}
 use Rattle.carte_engine.specs.Histories.{AreRuns, HistoryIsRight, IsRightNext, Run, books_of, kept_after, kept_behind}
 use Rattle.carte_engine.proofs.Keeping.{plan_sound}
 
@@ -15,10 +15,12 @@ use Rattle.carte_engine.proofs.Keeping.{plan_sound}
 next_distinct : (H : List Book) (b : Book) (J : List Book) → HasDistinctDigests (H ++ b ∷ J) → HasDistinctDigests (H ++ b ∷ [])
 next_distinct H b J distinct = front_distinct (H ++ b ∷ []) J (subst HasDistinctDigests (sym (append_assoc H (b ∷ []) J)) distinct)
 
-behind : (K : SomeKept) (H : List Book) (run : Run) → IsSound K H → HasDistinctDigests (H ++ run.book ∷ []) → IsPlan run.scheduler run.how K run.book run.targets run.plan
-    → (committed : Bool) → IsSound (cond committed (apply run.plan.batch K) K) (H ++ run.book ∷ [])
-behind K H run sound distinct plan true = plan_sound run.scheduler run.how K H run.book run.targets run.plan.answer run.plan.batch sound distinct plan.leads
-behind K H run sound distinct plan false = behind_sound K H (run.book ∷ []) sound
+behind : (K : SomeKept) (H : List Book) (run : Run) → IsSound K H → HasDistinctDigests (H ++ run.book ∷ []) → IsPlan run.scheduler run.how K run.book run.targets run.plan.batches.items run.plan.answer
+    → IsSound (kept_behind K run) (H ++ run.book ∷ [])
+behind K H run sound distinct plan =
+    let Bs = run.plan.batches.items in
+    plan_sound run.scheduler run.how K H run.book run.targets run.plan.answer (take run.committed Bs) (drop run.committed Bs) sound distinct
+    (subst (Leads run.scheduler run.how K run.book run.targets run.plan.answer) (sym (take-append-drop run.committed Bs)) plan.leads)
 
 next_right : (K : SomeKept) (H : List Book) (after : List Run) → IsSound K H → AreRuns K after → HasDistinctDigests (H ++ books_of after) → IsRightNext K after
 next_right K H [] sound runs distinct = tt
@@ -30,7 +32,7 @@ from K H [] after sound runs distinct = (subst (IsSound K) (sym (append-nil H)) 
 from K H (run ∷ before) after sound runs distinct =
     let b = run.book in
     let one : HasDistinctDigests (H ++ b ∷ []) = next_distinct H b (books_of (before ++ after)) distinct in
-    let rest = from (kept_behind K run) (H ++ b ∷ []) before after (behind K H run sound one (runs.0 H sound one) run.committed) runs.1
+    let rest = from (kept_behind K run) (H ++ b ∷ []) before after (behind K H run sound one (runs.0 H sound one)) runs.1
     (subst HasDistinctDigests (sym (append_assoc H (b ∷ []) (books_of (before ++ after)))) distinct) in
     (subst (IsSound (kept_after (kept_behind K run) before)) (append_assoc H (b ∷ []) (books_of before)) rest.0, rest.1)
 

@@ -7,5 +7,8 @@ pub mod Planning
 pub mod Keeping
 pub mod Enduring
 pub mod Emptying
+pub mod Steps
 pub mod Committing
+pub mod Several
+pub mod Looping
 pub mod Foreseeing

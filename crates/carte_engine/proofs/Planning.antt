@@ -13,47 +13,56 @@ use Rattle.carte_mark.specs.Bases.{BeginsWith}
 use Rattle.carte_sound.specs.Base.{HasDistinctDigests, IsBase}
 use Rattle.carte_sound.specs.Begun.{begin}
 use Rattle.carte_sound.specs.Held.{How}
-use Rattle.carte_sound.specs.LeadsTo.{LeadsRestarting, chain_behind}
+use Rattle.carte_sound.specs.LeadsTo.{chain_behind}
 use Rattle.carte_sound.specs.Left.{keys_of}
+use Rattle.carte_sound.specs.Parts.{PartsRestarting}
 use Rattle.carte_sound.specs.Sound.{IsSound}
 use Rattle.carte_sound.specs.Treated.{IsDoneInOrder, IsDoneRestarting, IsDoneSuspending}
 use Rattle.carte_sound.proofs.Begins.{begun_base, behind_sound, has_last}
-use Rattle.carte_note.specs.Notes.{AreUnmarked}
+use Rattle.carte_note.specs.Notes.{AreUnmarked as NoneMarked}
+use Rattle.carte_state.specs.Runs.{AreUnmarked}
 use Rattle.carte_note.specs.Right.{finishes_of}
 use Rattle.carte_note.specs.declared.finished.Finished.{Finished}
 use Rattle.carte_rebuild.specs.declared.work.Work.{Work}
 use Rattle.carte_rebuild.specs.declared.work.WorkEnd.TheVariants.{All, Refused}
 use Rattle.carte_rebuild.specs.Ends.{EndsInOrder, EndsRestarting, EndsSuspending, IsGiven, IsWork}
-use Rattle.carte_plan.specs.Planned.{IsBuilt, Plans}
-use Rattle.carte_plan.proofs.Leading.{leads_by}
+use Rattle.carte_plan.specs.Cuts.{AllUnmarked, PlansParts}
+use Rattle.carte_plan.specs.Planned.{IsBuilt}
+use Rattle.carte_plan.proofs.PartsLead.{parts_lead}
 use Rattle.carte_engine.specs.Answers.{IsPlan}
-use Rattle.carte_engine.specs.Reckoned.{EndsBy, IsBatchOf, IsReckoned}
+use Rattle.carte_engine.specs.Reckoned.{AreBatchesOf, EndsBy, IsReckoned}
 use Rattle.carte_engine.specs.declared.answer.Answer.TheVariants as answer
 use Rattle.carte_engine.specs.declared.answer.Built.{Built}
 use Rattle.carte_engine.specs.declared.scheduler.Scheduler.{Scheduler}
 use Rattle.carte_engine.specs.declared.scheduler.Scheduler.TheVariants.{Topological, Restarting, Suspending}
 use Rattle.carte_engine.proofs.Succeeding.{gives_few, starts_once, succeeds}
 
-pub each_unmarked : (es : List Entry) → AreUnmarked es → EachFits IsUnmarked es
+each_unmarked : (es : List Entry) → NoneMarked es → EachFits IsUnmarked es
 each_unmarked [] unmarked = tt
 each_unmarked (e ∷ es) unmarked = (unmarked e (inl refl), each_unmarked es (λ f there. unmarked f (inr there)))
 
--- the batch of work, with its new chain or without one
-pub chained_batch : {E : Type 0} (h : How) (K M : SomeKept) (b : Book) (ms : List (List ℕ)) (w : Work) (chain : List (List ℕ)) (r : Result Batch E) → w.chain ≡ Some chain
-    → ((targets : List (List ℕ)) → chain ≡ chain_behind (keys_of (finishes_of w.finished)) M.chain → IsBuilt h K b ms (IsDoneRestarting h (begin K b ms) b targets) w.finished → IfOk r (LeadsRestarting h K b targets))
-    → IfOk r (IsBatchOf h K M b ms w)
-chained_batch h K M b ms w chain (Ok B) is leads = record {
+pub all_unmarked : (Bs : List Batch) → AllUnmarked Bs → AreUnmarked Bs
+all_unmarked [] unmarked = tt
+all_unmarked (B ∷ Bs) unmarked = (each_unmarked B.entries unmarked.0, all_unmarked Bs unmarked.1)
+
+-- the batches of work, with its new chain or without one
+pub chained_batches : {V E : Type 0} (r : Result V E) (items : V → List Batch) (h : How) (K M : SomeKept) (b : Book) (ms : List (List ℕ)) (w : Work) (chain : List (List ℕ)) → w.chain ≡ Some chain
+    → ((targets : List (List ℕ)) → chain ≡ chain_behind (keys_of (finishes_of w.finished)) M.chain → IsBuilt h K b ms (IsDoneRestarting h (begin K b ms) b targets) w.finished
+    → IfOk r (λ v. PartsRestarting h K b targets (items v)))
+    → IfOk r (λ v. AreBatchesOf h K M b ms w (items v))
+chained_batches (Ok v) items h K M b ms w chain is leads = record {
   plain = λ none. let e : Some chain ≡ None = sym is ∙ none in cc;
   chained = λ targets new built. leads targets (let e : Some chain ≡ Some (chain_behind (keys_of (finishes_of w.finished)) M.chain) = sym is ∙ new in cc) built;
 }
-chained_batch h K M b ms w chain (Err e) is leads = tt
+chained_batches (Err e) items h K M b ms w chain is leads = tt
 
-pub plain_batch : {E : Type 0} (h : How) (K M : SomeKept) (b : Book) (ms : List (List ℕ)) (w : Work) (r : Result Batch E) → w.chain ≡ None → IfOk r (Plans h K b ms w.finished) → IfOk r (IsBatchOf h K M b ms w)
-plain_batch h K M b ms w (Ok B) is plans = record {
+pub plain_batches : {V E : Type 0} (r : Result V E) (items : V → List Batch) (h : How) (K M : SomeKept) (b : Book) (ms : List (List ℕ)) (w : Work) → w.chain ≡ None
+    → IfOk r (λ v. PlansParts h K b ms w.finished (items v)) → IfOk r (λ v. AreBatchesOf h K M b ms w (items v))
+plain_batches (Ok v) items h K M b ms w is plans = record {
   plain = λ none. plans;
   chained = λ targets new built. let e : Some (chain_behind (keys_of (finishes_of w.finished)) M.chain) ≡ None = sym new ∙ is in cc;
 }
-plain_batch h K M b ms w (Err e) is plans = tt
+plain_batches (Err e) items h K M b ms w is plans = tt
 
 module _ (h : How) (K : SomeKept) (b : Book) (targets : List (List ℕ)) (x : Begun) (M : SomeKept) (begins : BeginsWith K b x M) (H : List Book) (sound : IsSound K H) (distinct : HasDistinctDigests (H ++ b ∷ [])) where
   base : IsBase (begin K b x.marks) b (H ++ b ∷ [])
@@ -73,50 +82,50 @@ module _ (h : How) (K : SomeKept) (b : Book) (targets : List (List ℕ)) (x : Be
   })
 
   -- all targets have their values
-  pub all_by : (s : Scheduler) (w : Work) (B : Batch) (built : Built) → EndsBy s h M b targets (All w) → IsBatchOf h K M b x.marks w B → IsReckoned b targets w built
-      → IsPlan s h K b targets (record { batch = B; answer = answer.Built built })
-  all_by Topological w B built ends batch reckoned =
+  pub all_by : (s : Scheduler) (w : Work) (Bs : List Batch) (built : Built) → EndsBy s h M b targets (All w) → AreBatchesOf h K M b x.marks w Bs → IsReckoned b targets w built
+      → IsPlan s h K b targets Bs (answer.Built built)
+  all_by Topological w Bs built ends batches reckoned =
       let end = subst (λ L. EndsInOrder h L b targets (All w)) begins.base ends in
       let worked = end.3 given in
       record {
-        leads = leads_by h (λ M k. IsDoneInOrder b targets k) K b x.marks w.finished B begins.marked (batch.plain ends.0) (built_by (IsDoneInOrder b targets) w worked.0);
+        leads = parts_lead h (λ M k. IsDoneInOrder b targets k) K b x.marks w.finished Bs begins.marked (batches.plain ends.0) (built_by (IsDoneInOrder b targets) w worked.0);
         right = succeeds Topological h K b targets x.marks w built begins.marked (end.1, end.2) worked.0 reckoned (starts_once h (begin K b x.marks) b targets (IsDoneInOrder b targets) w built worked.0 worked.1 reckoned);
       }
-  all_by Restarting w B built ends batch reckoned =
+  all_by Restarting w Bs built ends batches reckoned =
       let end = subst (λ L. EndsRestarting h L b targets (All w)) begins.base ends in
       let worked = end.1 given in
       record {
-        leads = batch.chained targets ends.0 (built_by (IsDoneRestarting h (begin K b x.marks) b targets) w worked.1);
+        leads = batches.chained targets ends.0 (built_by (IsDoneRestarting h (begin K b x.marks) b targets) w worked.1);
         right = succeeds Restarting h K b targets x.marks w built begins.marked worked.0 worked.1 reckoned (gives_few h (begin K b x.marks) b targets w built worked.2 worked.3 reckoned);
       }
-  all_by Suspending w B built ends batch reckoned =
+  all_by Suspending w Bs built ends batches reckoned =
       let end = subst (λ L. EndsSuspending h L b targets (All w)) begins.base ends in
       let worked = end.1 given in
       record {
-        leads = leads_by h (λ M k. IsDoneSuspending h M b targets k) K b x.marks w.finished B begins.marked (batch.plain ends.0) (built_by (IsDoneSuspending h (begin K b x.marks) b targets) w worked.1);
+        leads = parts_lead h (λ M k. IsDoneSuspending h M b targets k) K b x.marks w.finished Bs begins.marked (batches.plain ends.0) (built_by (IsDoneSuspending h (begin K b x.marks) b targets) w worked.1);
         right = succeeds Suspending h K b targets x.marks w built begins.marked worked.0 worked.1 reckoned (starts_once h (begin K b x.marks) b targets (IsDoneSuspending h (begin K b x.marks) b targets) w built worked.1 worked.2 reckoned);
       }
 
   -- some target has none
-  pub refused_by : (s : Scheduler) (w : Work) (reason : Reason) (B : Batch) → EndsBy s h M b targets (Refused w reason) → IsBatchOf h K M b x.marks w B
-      → IsPlan s h K b targets (record { batch = B; answer = answer.Refused reason })
-  refused_by Topological w reason B ends batch =
+  pub refused_by : (s : Scheduler) (w : Work) (reason : Reason) (Bs : List Batch) → EndsBy s h M b targets (Refused w reason) → AreBatchesOf h K M b x.marks w Bs
+      → IsPlan s h K b targets Bs (answer.Refused reason)
+  refused_by Topological w reason Bs ends batches =
       let end = subst (λ L. EndsInOrder h L b targets (Refused w reason)) begins.base ends in
       record {
-        leads = leads_by h (λ M k. ⊥) K b x.marks w.finished B begins.marked (batch.plain ends.0) (nothing_built w.finished end.2.finished);
+        leads = parts_lead h (λ M k. ⊥) K b x.marks w.finished Bs begins.marked (batches.plain ends.0) (nothing_built w.finished end.2.finished);
         right = end.1;
       }
-  refused_by Restarting w reason B ends batch =
+  refused_by Restarting w reason Bs ends batches =
       let end = subst (λ L. EndsRestarting h L b targets (Refused w reason)) begins.base ends in
       let worked = end.1 given in
       record {
-        leads = batch.chained targets ends.0 (built_by (IsDoneRestarting h (begin K b x.marks) b targets) w worked.1);
+        leads = batches.chained targets ends.0 (built_by (IsDoneRestarting h (begin K b x.marks) b targets) w worked.1);
         right = worked.0;
       }
-  refused_by Suspending w reason B ends batch =
+  refused_by Suspending w reason Bs ends batches =
       let end = subst (λ L. EndsSuspending h L b targets (Refused w reason)) begins.base ends in
       let worked = end.1 given in
       record {
-        leads = leads_by h (λ M k. IsDoneSuspending h M b targets k) K b x.marks w.finished B begins.marked (batch.plain ends.0) (built_by (IsDoneSuspending h (begin K b x.marks) b targets) w worked.1);
+        leads = parts_lead h (λ M k. IsDoneSuspending h M b targets k) K b x.marks w.finished Bs begins.marked (batches.plain ends.0) (built_by (IsDoneSuspending h (begin K b x.marks) b targets) w worked.1);
         right = worked.0;
       }

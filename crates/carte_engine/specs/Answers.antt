@@ -17,7 +17,6 @@ use Rattle.carte_rebuild.specs.Ends.{GivesUp}
 use Rattle.carte_engine.specs.declared.answer.Answer.{Answer}
 use Rattle.carte_engine.specs.declared.answer.Answer.TheVariants as answer
 use Rattle.carte_engine.specs.declared.answer.Built.{Built}
-use Rattle.carte_engine.specs.declared.answer.Plan.{Plan}
 use Rattle.carte_engine.specs.declared.scheduler.Scheduler.{Scheduler}
 use Rattle.carte_engine.specs.declared.scheduler.Scheduler.TheVariants.{Topological, Restarting, Suspending}
 use Rattle.carte_engine.specs.Schedulers.{IsDoneBy, IsServed, IsRefusedFor}
@@ -76,9 +75,9 @@ IsAnswer s h K b targets (answer.Built built) = IsSuccess s h K b targets built
 IsAnswer s h K b targets (answer.Refused reason) = IsRefusedFor s b targets reason
 
 -- the answer is right, and the batches are those that it may commit
-pub record IsPlan (s : Scheduler) (h : How) (K : SomeKept) (b : Book) (targets : List (List ℕ)) (p : Plan) : Type 0 where
-  pub leads : Leads s h K b targets p.answer p.batches
-  pub right : IsAnswer s h K b targets p.answer
+pub record IsPlan (s : Scheduler) (h : How) (K : SomeKept) (b : Book) (targets : List (List ℕ)) (Bs : List Batch) (a : Answer) : Type 0 where
+  pub leads : Leads s h K b targets a Bs
+  pub right : IsAnswer s h K b targets a
 
 -- whatever history what is kept is sound for
 abbrev pub Under : SomeKept → Book → Type 0 → Type 0

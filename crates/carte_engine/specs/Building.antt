@@ -30,6 +30,6 @@ answered_behind a (Err why) = Err (fault_of why)
 -- There is a plan that is right under whatever history what was kept is sound for, and its batches were put, one after another, or not all of them. Or there was no memory for a plan.
 abbrev pub Builds : Scheduler → How → Book → List (List ℕ) → OverDisk → Stand → Stand → Result Built BuildFault → Type 0
 Builds s h b targets d old new result =
-    ((p : Plan) × (applied : Result (Unit {0}) ApplyFault) × Under (kept_in old) b (IsPlan s h (kept_in old) b targets p)
-    × CommitsAll d old new p.batches applied × (result ≡ answered_behind p.answer applied))
+    ((p : Plan) × (applied : Result (Unit {0}) ApplyFault) × Under (kept_in old) b (IsPlan s h (kept_in old) b targets p.batches.items p.answer)
+    × CommitsAll d old new p.batches.items applied × (result ≡ answered_behind p.answer applied))
     ⊎ ((result ≡ Err fault.NoMemory) × IsStill d old new)

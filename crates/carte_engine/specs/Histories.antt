@@ -25,7 +25,7 @@ books_of (run ∷ runs) = run.book ∷ books_of runs
 
 -- what is kept behind it
 abbrev pub kept_behind : SomeKept → Run → SomeKept
-kept_behind K run = applied K (take run.committed run.plan.batches)
+kept_behind K run = applied K (take run.committed run.plan.batches.items)
 
 abbrev pub kept_after : SomeKept → List Run → SomeKept
 kept_after K [] = K
@@ -33,7 +33,7 @@ kept_after K (run ∷ runs) = kept_after (kept_behind K run) runs
 
 -- the plan is one for what is kept, whatever history that is sound for, as the call that made it promises
 abbrev pub IsPlanned : SomeKept → Run → Type 0
-IsPlanned K run = Under K run.book (IsPlan run.scheduler run.how K run.book run.targets run.plan)
+IsPlanned K run = Under K run.book (IsPlan run.scheduler run.how K run.book run.targets run.plan.batches.items run.plan.answer)
 
 abbrev pub AreRuns : SomeKept → List Run → Type 0
 AreRuns K [] = Unit {0}
@@ -42,7 +42,7 @@ AreRuns K (run ∷ runs) = IsPlanned K run × AreRuns (kept_behind K run) runs
 -- the plan of the first of them is right over what is kept
 abbrev pub IsRightNext : SomeKept → List Run → Type 0
 IsRightNext K [] = Unit {0}
-IsRightNext K (run ∷ runs) = IsPlan run.scheduler run.how K run.book run.targets run.plan
+IsRightNext K (run ∷ runs) = IsPlan run.scheduler run.how K run.book run.targets run.plan.batches.items run.plan.answer
 
 -- from nothing kept on, behind each run, what is kept is sound for the books so far, and the next answer is right
 abbrev pub HistoryIsRight : Type 0

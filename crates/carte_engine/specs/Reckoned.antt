@@ -16,9 +16,10 @@ use Rattle.carte_rebuild.specs.declared.work.WorkEnd.{WorkEnd}
 use Rattle.carte_rebuild.specs.Ends.{EndsInOrder, EndsRestarting, EndsSuspending, IsNewChain}
 use Rattle.carte_sound.specs.Begun.{begin}
 use Rattle.carte_sound.specs.Held.{How}
-use Rattle.carte_sound.specs.LeadsTo.{LeadsRestarting}
+use Rattle.carte_sound.specs.Parts.{PartsRestarting}
 use Rattle.carte_sound.specs.Treated.{IsDoneRestarting}
-use Rattle.carte_plan.specs.Planned.{IsBuilt, Plans}
+use Rattle.carte_plan.specs.Cuts.{PlansParts}
+use Rattle.carte_plan.specs.Planned.{IsBuilt}
 use Rattle.carte_engine.specs.declared.answer.Built.{Built}
 use Rattle.carte_engine.specs.declared.scheduler.Scheduler.{Scheduler}
 use Rattle.carte_engine.specs.declared.scheduler.Scheduler.TheVariants.{Topological, Restarting, Suspending}
@@ -50,7 +51,7 @@ pub record IsReckoned (b : Book) (targets : List (List ℕ)) (w : Work) (built :
   pub given_up : built.given_up ≡ left_open w.runs
   pub runs : built.runs ≡ w.runs
 
--- The batch of work that was done over M: that of its finished keys, and with the new chain where the work has one.
-pub record IsBatchOf (h : How) (K M : SomeKept) (b : Book) (marks : List (List ℕ)) (w : Work) (B : Batch) : Type 0 where
-  pub plain : w.chain ≡ None → Plans h K b marks w.finished B
-  pub chained : (targets : List (List ℕ)) → IsNewChain M w → IsBuilt h K b marks (IsDoneRestarting h (begin K b marks) b targets) w.finished → LeadsRestarting h K b targets B
+-- The batches of work that was done over M: those of its finished keys, part by part, and with the new chain in the last where the work has one.
+pub record AreBatchesOf (h : How) (K M : SomeKept) (b : Book) (marks : List (List ℕ)) (w : Work) (Bs : List Batch) : Type 0 where
+  pub plain : w.chain ≡ None → PlansParts h K b marks w.finished Bs
+  pub chained : (targets : List (List ℕ)) → IsNewChain M w → IsBuilt h K b marks (IsDoneRestarting h (begin K b marks) b targets) w.finished → PartsRestarting h K b targets Bs

@@ -29,7 +29,7 @@ pub enum Answer {
 /// A build that was worked out and not committed yet.
 #[derive(Drop)]
 pub struct Plan {
-    /// What it brings to the state; empty where it changes nothing.
-    pub batch: Batch,
+    /// What it brings to the state, in this order: at least one batch, and an empty one where it changes nothing.
+    pub batches: Vec<Batch>,
     pub answer: Answer,
 }

@@ -14,8 +14,9 @@ use std::marker::Sync;
 use std::thread::Threads;
 
 impl Engine {
-    /// Builds the targets, and keeps what was finished: a plan, its commit, and then its answer. A refused build keeps what
-    /// it finished too. Where the disk fails the engine is broken; where there is no room, or no memory, nothing has changed.
+    /// Builds the targets, and keeps what was finished: a plan, the commit of its batches, and then its answer. A refused
+    /// build keeps what it finished too. Where the disk fails the engine is broken; where there is no room for a batch, or
+    /// no memory, those in front of it are kept, and nothing else has changed.
     pub fn build<D: Disk, R: Rebuilder, G: Gate, T: Threads + Sync>(
         &mut self,
         rt: &T,
@@ -32,10 +33,10 @@ impl Engine {
         ensures { Builds scheduler (R.how rebuilder.now) (book_view book.now) targets.now
             (over_disk D.tells D.story D.faults disk.old disk.new) self.old self.new result }
     {
-        let Plan { batch, answer } = self.plan(
+        let Plan { batches, answer } = self.plan(
             rt, alloc, book, rebuilder, scheduler, workers, targets, gate,
         )?;
-        self.commit(alloc, disk, batch)?;
+        self.commit(alloc, disk, batches)?;
         answered(answer)
     }
 }

@@ -1,12 +1,13 @@
 // Commits, before which the file is rewritten where that is due.
-ghost use Rattle.std.specs.Prelude.{◌≡◌, false, MatchResult, OnOk};
+ghost use Rattle.std.specs.Prelude.{◌≡◌, ◌∷◌, [], false, MatchResult, OnOk};
 ghost use Rattle.carte_codec.specs.Each.{EachFits};
 ghost use Rattle.carte_record.specs.Bodies.{IsUnmarked};
 ghost use Rattle.carte_record.specs.Kept.{nothing_kept};
 ghost use Rattle.carte_state.specs.Around.{over_disk};
+ghost use Rattle.carte_state.specs.Runs.{AreUnmarked};
 ghost use Rattle.carte_state.specs.States.{kept_in};
 ghost use Rattle.carte_engine.specs.Clearing.{clearing};
-ghost use Rattle.carte_engine.specs.Committing.{Commits, Readies, Unreadied};
+ghost use Rattle.carte_engine.specs.Committing.{Commits, CommitsAll, Readies, Unreadied};
 
 use crate::Engine;
 use crate::clear::clearing;
@@ -17,32 +18,54 @@ use carte_state::ApplyFault;
 use std::alloc::Global;
 
 impl Engine {
-    /// Commits the batch of a plan, as `State::apply` does: in one step, whole or not at all, whatever crash comes. Before
-    /// that the file is rewritten with what is live, where that is possible and the file is large beside it or has no room
-    /// for the batch: so a state doesn't grow without end, and is full only where a rewriting doesn't help. An empty batch
-    /// makes no call. Where it is refused the batch is dropped; a rewriting that was made stands, and keeps the same.
+    /// Commits the batches of a plan, one after another, up to the first that is refused: that one and those behind it are
+    /// dropped. Each is put as `State::apply` does: in one step, whole or not at all, whatever crash comes. Before the
+    /// first one the file is rewritten with what is live, where that is possible and the file is large beside it or has no
+    /// room for the batch; before a later one only where it has no room. So a state doesn't grow without end, and is full
+    /// only where a rewriting doesn't help. An empty batch makes no call. A rewriting that was made stands, and keeps the
+    /// same.
     pub fn commit<D: Disk>(
         &mut self,
         alloc: Global,
         disk: &mut D,
-        batch: Batch,
+        batches: Vec<Batch>,
     ) -> Result<(), ApplyFault>
         requires whole { self.old.journal.broken ≡ false }
-        requires unmarked { EachFits IsUnmarked batch.entries }
-        ensures { Commits (over_disk D.tells D.story D.faults disk.old disk.new) self.old self.new batch result }
+        requires unmarked { AreUnmarked batches.items }
+        ensures { CommitsAll (over_disk D.tells D.story D.faults disk.old disk.new) self.old self.new batches.items result }
     {
-        self.make_ready(alloc, disk, &batch)?;
-        self.state.apply(alloc, disk, batch)
+        let mut first = true;
+        for batch in batches {
+            self.commit_one(alloc, disk, batch, first)?;
+            first = false;
+        }
+        Ok(())
     }
 
     /// Empties the state: commits a batch that clears it, or nothing where nothing is kept.
     pub fn clean<D: Disk>(&mut self, alloc: Global, disk: &mut D) -> Result<(), ApplyFault>
         requires whole { self.old.journal.broken ≡ false }
         ensures cleaned { OnOk result (kept_in self.new ≡ nothing_kept) }
-        ensures commits { Commits (over_disk D.tells D.story D.faults disk.old disk.new) self.old self.new (clearing self.old) result }
+        ensures commits { CommitsAll (over_disk D.tells D.story D.faults disk.old disk.new) self.old self.new (clearing self.old ∷ []) result }
     {
         let batch = clearing(alloc, &self.state);
-        self.commit(alloc, disk, batch)
+        self.commit_one(alloc, disk, batch, true)
+    }
+
+    // The first batch of a build, or a later one.
+    fn commit_one<D: Disk>(
+        &mut self,
+        alloc: Global,
+        disk: &mut D,
+        batch: Batch,
+        first: bool,
+    ) -> Result<(), ApplyFault>
+        requires whole { self.old.journal.broken ≡ false }
+        requires unmarked { EachFits IsUnmarked batch.entries }
+        ensures { Commits first (over_disk D.tells D.story D.faults disk.old disk.new) self.old self.new batch result }
+    {
+        self.make_ready(alloc, disk, &batch, first)?;
+        self.state.apply(alloc, disk, batch)
     }
 
     // Rewrites the file, where that is due before this batch.
@@ -51,14 +74,15 @@ impl Engine {
         alloc: Global,
         disk: &mut D,
         batch: &Batch,
+        first: bool,
     ) -> Result<(), ApplyFault>
         requires whole { self.old.journal.broken ≡ false }
         ensures ready { MatchResult result
-            (λ _. Readies (over_disk D.tells D.story D.faults disk.old disk.new) self.old batch.now self.new)
-            (λ fault. Unreadied (over_disk D.tells D.story D.faults disk.old disk.new) self.old self.new batch.now fault) }
+            (λ _. Readies first (over_disk D.tells D.story D.faults disk.old disk.new) self.old batch.now self.new)
+            (λ fault. Unreadied first (over_disk D.tells D.story D.faults disk.old disk.new) self.old self.new batch.now fault) }
         ensures whole { OnOk result (self.new.journal.broken ≡ false) }
     {
-        if !is_due(alloc, &self.state, batch, true)? {
+        if !is_due(alloc, &self.state, batch, first)? {
             return Ok(());
         }
         rewrite(alloc, &mut self.state, disk)

@@ -1,11 +1,10 @@
 ghost use Rattle.std.specs.Prelude.{◌≡◌, ◌<◌, ◌^◌, ℕ, List, false, IfOk, Err};
-ghost use Rattle.carte_codec.specs.Each.{EachFits};
 ghost use Rattle.carte_state.specs.Around.{over_disk};
 ghost use Rattle.carte_io.specs.Causes.{HasCauseOf};
 ghost use Rattle.carte_book.specs.Book.{Book as SomeBook, book_view};
 ghost use Rattle.carte_book.specs.Digest.{rules_digest_of};
-ghost use Rattle.carte_record.specs.Bodies.{IsUnmarked};
 ghost use Rattle.carte_state.specs.Folding.{IsBadState};
+ghost use Rattle.carte_state.specs.Runs.{AreUnmarked};
 ghost use Rattle.carte_state.specs.States.{IsLoaded, kept_in};
 ghost use Rattle.carte_engine.specs.Answers.{IsPlan, Under};
 
@@ -58,6 +57,28 @@ impl Engine {
         Ok(Engine { state })
     }
 
+    /// The same by at most so many threads, as `State::load_by` does.
+    pub fn load_by<D: Disk, G: Gate, T: Threads + Sync>(
+        rt: &T,
+        alloc: Global,
+        disk: &mut D,
+        limit: u64,
+        hasher: Seeded,
+        workers: usize,
+        gate: &G,
+    ) -> Result<Engine, LoadFault>
+        requires { limit < 2 ^ 32 }
+        ensures read { D.tells → IfOk result (λ s. IsLoaded s (D.story disk.old).now.reads) }
+        ensures starts { IfOk result (λ s. (s.journal.limit ≡ limit) × (s.journal.broken ≡ false)) }
+        ensures bad { D.tells → (offset : ℕ) → result ≡ Err (LoadFault.BadState offset)
+            → IsBadState limit (D.story disk.old).now.reads offset }
+        ensures cause { HasCauseOf LoadFault.DiskFault (D.faults disk.old) (D.faults disk.new) result }
+        ensures same { D.tells → D.story disk.new ≡ D.story disk.old }
+    {
+        let state = State::load_by(rt, alloc, disk, limit, hasher, workers, gate)?;
+        Ok(Engine { state })
+    }
+
     /// What is kept.
     pub fn kept(&self) -> &Kept
         ensures { result.now ≡ self.now.kept }
@@ -72,7 +93,7 @@ impl Engine {
         self.state.is_broken()
     }
 
-    /// Works out a build of the targets: what it answers, and the batch that it brings to the state. Nothing is changed,
+    /// Works out a build of the targets: what it answers, and the batches that it brings to the state. Nothing is changed,
     /// and no call of a disk is made. What is known of it holds where what is kept is sound, for whatever history.
     ///
     /// Where rules wait for what they need, several workers drive side by side those that can go on, and `gate` is passed
@@ -89,9 +110,9 @@ impl Engine {
         gate: &G,
     ) -> Result<Plan, NoMemory>
         ensures kept { self.new ≡ self.old }
-        ensures unmarked { IfOk result (λ p. EachFits IsUnmarked p.batch.entries) }
+        ensures unmarked { IfOk result (λ p. AreUnmarked p.batches.items) }
         ensures plans { Under (kept_in self.old) (book_view book.now)
-            (IfOk result (IsPlan scheduler (R.how rebuilder.now) (kept_in self.old) (book_view book.now) targets.now)) }
+            (IfOk result (λ p. IsPlan scheduler (R.how rebuilder.now) (kept_in self.old) (book_view book.now) targets.now p.batches.items p.answer)) }
     {
         let rules = book.rules_digest(alloc)?;
         self.plan_under(
@@ -114,9 +135,9 @@ impl Engine {
     ) -> Result<Plan, NoMemory>
         requires { rules.now ≡ rules_digest_of (book_view book.now) }
         ensures kept { self.new ≡ self.old }
-        ensures unmarked { IfOk result (λ p. EachFits IsUnmarked p.batch.entries) }
+        ensures unmarked { IfOk result (λ p. AreUnmarked p.batches.items) }
         ensures plans { Under (kept_in self.old) (book_view book.now)
-            (IfOk result (IsPlan scheduler (R.how rebuilder.now) (kept_in self.old) (book_view book.now) targets.now)) }
+            (IfOk result (λ p. IsPlan scheduler (R.how rebuilder.now) (kept_in self.old) (book_view book.now) targets.now p.batches.items p.answer)) }
     {
         let begun = begin(alloc, self.state.kept(), book, rules)?;
         if !begun.same {

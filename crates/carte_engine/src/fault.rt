@@ -11,10 +11,10 @@ pub enum BuildFault {
     /// A call of the disk failed, and the disk counted it. The engine is broken.
     #[error("the state's device failed")]
     DiskFault,
-    /// The state would need more bytes than its limit. Nothing has changed.
+    /// With a batch the state would need more bytes than its limit. Those in front of it were put.
     #[error("state full: {needed} bytes needed, limit {limit}")]
     StateFull { needed: u64, limit: u64 },
-    /// There was no memory. Nothing has changed.
+    /// There was no memory. Batches that were put before stay.
     #[error("out of memory")]
     NoMemory,
 }

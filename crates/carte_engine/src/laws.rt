@@ -2,10 +2,10 @@
 ghost use Rattle.std.specs.Prelude.{◌++◌, ◌∷◌, [], ℕ, List};
 ghost use Rattle.carte_book.specs.Book.{Book};
 ghost use Rattle.carte_record.specs.declared.batch.Batch.{Batch};
-ghost use Rattle.carte_record.specs.Folds.{apply};
 ghost use Rattle.carte_record.specs.Kept.{SomeKept};
 ghost use Rattle.carte_sound.specs.Base.{HasDistinctDigests};
 ghost use Rattle.carte_sound.specs.Held.{How};
+ghost use Rattle.carte_sound.specs.Parts.{applied};
 ghost use Rattle.carte_sound.specs.Sound.{IsSound};
 ghost use Rattle.carte_engine.specs.declared.answer.Answer.{Answer};
 ghost use Rattle.carte_engine.specs.declared.answer.Answer.TheVariants.{Built as built_answer};
@@ -15,22 +15,22 @@ ghost use Rattle.carte_engine.specs.Answers.{Leads};
 ghost use Rattle.carte_engine.specs.Histories.{HistoryIsRight};
 ghost use Rattle.carte_engine.specs.Schedulers.{IsServed, IsServedOrRefused, KeepsBy};
 
-/// A batch that a build may commit leaves what is kept sound for the history with the present book, with each scheduler
-/// and each rebuilder, whatever the build answers.
+/// Whichever of the batches were committed that a build may commit, in their order, what is kept is sound for the history
+/// with the present book, with each scheduler and each rebuilder, whatever the build answers.
 pub fn plan_is_sound()
-    ensures { (s : Scheduler) (h : How) (K : SomeKept) (H : List Book) (b : Book) (targets : List (List ℕ)) (a : Answer) (B : Batch)
-        → IsSound K H → HasDistinctDigests (H ++ b ∷ []) → Leads s h K b targets a B → IsSound (apply B K) (H ++ b ∷ []) }
+    ensures { (s : Scheduler) (h : How) (K : SomeKept) (H : List Book) (b : Book) (targets : List (List ℕ)) (a : Answer) (some rest : List Batch)
+        → IsSound K H → HasDistinctDigests (H ++ b ∷ []) → Leads s h K b targets a (some ++ rest) → IsSound (applied K some) (H ++ b ∷ []) }
 {}
 
-/// Behind a build that was served each rule that its targets reach is kept with its clean value; under deep traces, where
-/// rules aren't ordered before any is worked out, each rule that was done is.
+/// Behind all batches of a build that was served each rule that its targets reach is kept with its clean value; under deep
+/// traces, where rules aren't ordered before any is worked out, each rule that was done is.
 pub fn plan_keeps()
-    ensures { (s : Scheduler) (h : How) (K : SomeKept) (H : List Book) (b : Book) (targets : List (List ℕ)) (built : Built) (B : Batch)
-        → IsSound K H → HasDistinctDigests (H ++ b ∷ []) → IsServed s b targets → Leads s h K b targets (built_answer built) B → KeepsBy s h K (apply B K) b targets }
+    ensures { (s : Scheduler) (h : How) (K : SomeKept) (H : List Book) (b : Book) (targets : List (List ℕ)) (built : Built) (Bs : List Batch)
+        → IsSound K H → HasDistinctDigests (H ++ b ∷ []) → IsServed s b targets → Leads s h K b targets (built_answer built) Bs → KeepsBy s h K (applied K Bs) b targets }
 {}
 
-/// However many builds follow one another, over whatever books, each with its own scheduler and rebuilder, and whichever of
-/// them a crash cuts off before its commit: what is kept stays sound for the books so far, and each answer is right.
+/// However many builds follow one another, over whatever books, each with its own scheduler and rebuilder, and behind
+/// whichever of its batches a crash cuts each off: what is kept stays sound for the books so far, and each answer is right.
 pub fn history_is_right()
     ensures { HistoryIsRight }
 {}

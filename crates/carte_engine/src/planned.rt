@@ -2,20 +2,19 @@
 ghost use Rattle.std.specs.Prelude.{◌≡◌, IfOk};
 ghost use Rattle.carte_book.specs.Book.{book_view};
 ghost use Rattle.carte_book.specs.Digest.{rules_digest_of};
-ghost use Rattle.carte_codec.specs.Each.{EachFits};
 ghost use Rattle.carte_mark.specs.Bases.{BeginsWith};
-ghost use Rattle.carte_record.specs.Bodies.{IsUnmarked};
 ghost use Rattle.carte_record.specs.Kept.{SomeKept, kept_view};
+ghost use Rattle.carte_state.specs.Runs.{AreUnmarked};
 ghost use Rattle.carte_engine.specs.declared.scheduler.Scheduler.{Scheduler as SomeScheduler};
 ghost use Rattle.carte_engine.specs.Answers.{IsPlan, Under};
-ghost use Rattle.carte_note.specs.Notes.{AreUnmarked};
-ghost use Rattle.carte_engine.specs.Reckoned.{EndsBy, IsBatchOf};
+ghost use Rattle.carte_plan.specs.Cuts.{AllUnmarked};
+ghost use Rattle.carte_engine.specs.Reckoned.{EndsBy, AreBatchesOf};
 
 use crate::reckon::reckon;
 use crate::{Answer, Plan, Scheduler};
 use carte_book::Book;
 use carte_mark::Begun;
-use carte_plan::{plan, plan_chained};
+use carte_plan::{plan_parts, plan_parts_chained};
 use carte_rebuild::{Rebuilder, Work, WorkEnd};
 use carte_record::{Batch, Kept};
 use carte_value::{Digest, Names, NoMemory};
@@ -39,9 +38,9 @@ pub(crate) fn plan_over<R: Rebuilder, G: Gate, T: Threads + Sync>(
     gate: &G,
 ) -> Result<Plan, NoMemory>
     requires { rules ≡ rules_digest_of (book_view book.now) }
-    ensures unmarked { IfOk result (λ p. EachFits IsUnmarked p.batch.entries) }
+    ensures unmarked { IfOk result (λ p. AreUnmarked p.batches.items) }
     ensures plans { let h = R.how rebuilder.now in let b = book_view book.now in (K : SomeKept) → BeginsWith K b begun.now (kept_view base.now)
-        → Under K b (IfOk result (IsPlan scheduler h K b targets.now)) }
+        → Under K b (IfOk result (λ p. IsPlan scheduler h K b targets.now p.batches.items p.answer)) }
 {
     let end = run(
         rt, alloc, rebuilder, base, book, scheduler, workers, targets, gate,
@@ -85,31 +84,31 @@ fn planned<R: Rebuilder>(
     end: WorkEnd,
 ) -> Result<Plan, NoMemory>
     requires { rules ≡ rules_digest_of (book_view book.now) }
-    ensures unmarked { IfOk result (λ p. EachFits IsUnmarked p.batch.entries) }
+    ensures unmarked { IfOk result (λ p. AreUnmarked p.batches.items) }
     ensures plans { let h = R.how rebuilder.now in let b = book_view book.now in (s : SomeScheduler) (K : SomeKept) → BeginsWith K b begun.now (kept_view base.now)
-        → EndsBy s h (kept_view base.now) b targets.now end → Under K b (IfOk result (IsPlan s h K b targets.now)) }
+        → EndsBy s h (kept_view base.now) b targets.now end → Under K b (IfOk result (λ p. IsPlan s h K b targets.now p.batches.items p.answer)) }
 {
     match end {
         WorkEnd::All(work) => {
-            let batch = batch_of(alloc, rebuilder, begun, base, rules, book, &work)?;
+            let batches = batches_of(alloc, rebuilder, begun, base, rules, book, &work)?;
             let built = reckon(alloc, book, targets, work)?;
             Ok(Plan {
-                batch,
+                batches,
                 answer: Answer::Built(built),
             })
         }
         WorkEnd::Refused(work, reason) => {
-            let batch = batch_of(alloc, rebuilder, begun, base, rules, book, &work)?;
+            let batches = batches_of(alloc, rebuilder, begun, base, rules, book, &work)?;
             Ok(Plan {
-                batch,
+                batches,
                 answer: Answer::Refused(reason),
             })
         }
     }
 }
 
-// The batch of the work, with its new chain where it has one.
-fn batch_of<R: Rebuilder>(
+// The batches of the work, with its new chain where it has one.
+fn batches_of<R: Rebuilder>(
     alloc: Global,
     rebuilder: &R,
     begun: &Begun,
@@ -117,15 +116,17 @@ fn batch_of<R: Rebuilder>(
     rules: Digest,
     book: &Book,
     work: &Work,
-) -> Result<Batch, NoMemory>
+) -> Result<Vec<Batch>, NoMemory>
     requires { rules ≡ rules_digest_of (book_view book.now) }
-    ensures unmarked { IfOk result (λ batch. AreUnmarked batch.entries) }
+    ensures unmarked { IfOk result (λ batches. AllUnmarked batches.items) }
     ensures brings { let h = R.how rebuilder.now in let b = book_view book.now in let M = kept_view base.now in (K : SomeKept) → BeginsWith K b begun.now M
-        → IfOk result (IsBatchOf h K M b begun.now.marks work.now) }
+        → IfOk result (λ batches. AreBatchesOf h K M b begun.now.marks work.now batches.items) }
 {
     let finished = &work.finished;
     match &work.chain {
-        Some(chain) => plan_chained(alloc, rebuilder, begun, base, rules, book, finished, chain),
-        None => plan(alloc, rebuilder, begun, base, rules, book, finished),
+        Some(chain) => {
+            plan_parts_chained(alloc, rebuilder, begun, base, rules, book, finished, chain)
+        }
+        None => plan_parts(alloc, rebuilder, begun, base, rules, book, finished),
     }
 }

@@ -1,4 +1,4 @@
--- From the batch of a build that leaves a chain to what it leads to.
+-- The chain that is put into a batch.
 use Rattle.std.proofs.Common.{◌≡◌, ℕ, Bool, true, false, cond, List, [], Some, refl, ap, sym, ◌∙◌, subst, inl, inr}
 use Rattle.std.specs.Bool.{Decides}
 use Rattle.std.specs.Cmp.Lexicographic.{bytes_decides, pointwise}
@@ -10,18 +10,14 @@ use Rattle.carte_record.specs.declared.way.Way.{Way}
 use Rattle.carte_record.specs.declared.way.Way.TheVariants.{Verifying, Constructive, Deep}
 use Rattle.carte_record.specs.Folds.{batch_traces, with_marks}
 use Rattle.carte_record.specs.Kept.{SomeKept, nothing_kept, traces_in}
-use Rattle.carte_sound.specs.Begun.{AreMarks, begin, has_rules_of}
+use Rattle.carte_sound.specs.Begun.{begin, has_rules_of}
 use Rattle.carte_sound.specs.Carries.{Carries}
-use Rattle.carte_sound.specs.Held.{How}
-use Rattle.carte_sound.specs.LeadsTo.{LeadsTo, chain_behind}
-use Rattle.carte_sound.specs.Left.{keys_of, left}
-use Rattle.carte_sound.proofs.Applied.{difference_applied}
-use Rattle.carte_sound.proofs.Assembled.{carries_left}
+use Rattle.carte_sound.specs.LeadsTo.{chain_behind}
+use Rattle.carte_sound.specs.Left.{keys_of}
 use Rattle.carte_note.specs.declared.finished.Finished.{Finished}
 use Rattle.carte_note.specs.Notes.{AreUnmarked}
 use Rattle.carte_note.specs.Right.{finishes_of}
-use Rattle.carte_plan.specs.Planned.{IsBuilt, PlansChained, PutsChain}
-use Rattle.carte_plan.proofs.Leading.{given_by, no_finishes, nothing_done}
+use Rattle.carte_plan.specs.Planned.{PutsChain}
 
 -- the test of the two lists tells whether the chain is to be put
 module _ (old chain xs ys : List (List ℕ)) (B : Batch) where
@@ -86,33 +82,3 @@ none_chained K b ms other = ap (λ (t : Bool). (cond t (with_marks K ms) nothing
 
 pub none_behind : (K : SomeKept) (b : Book) (ms : List (List ℕ)) (fs : List Finished) (chain : List (List ℕ)) → has_rules_of K b ≡ false → fs ≡ [] → chain ≡ chain_behind (keys_of (finishes_of fs)) (begin K b ms).chain → chain ≡ []
 none_behind K b ms fs chain other none is = is ∙ (ap (λ old. chain_behind (keys_of (finishes_of fs)) old) (none_chained K b ms other) ∙ ap (λ (gs : List Finished). chain_behind (keys_of (finishes_of gs)) []) none)
-
--- what a build leads to that leaves the finished keys before the old chain
-pub leads_chained : (h : How) (done : SomeKept → List ℕ → Type 0) (K : SomeKept) (b : Book) (ms : List (List ℕ)) (fs : List Finished) (chain : List (List ℕ)) (C : Batch) → AreMarks K b ms → PlansChained h K b ms fs chain C → IsBuilt h K b ms (done (begin K b ms)) fs → chain ≡ chain_behind (keys_of (finishes_of fs)) (begin K b ms).chain → LeadsTo h done chain_behind K b C
-leads_chained h done K b ms fs chain C marked (B, inl (other, none, empty), puts) built is =
-    let bare = none_chained K b ms other in
-    inr (record {
-      other = other;
-      none = nothing_done h done K b ms fs other none built;
-      empty = puts_none chain B C (none_behind K b ms fs chain other none is) (subst (λ old. PutsChain old chain B C) bare puts) ∙ empty;
-    })
-leads_chained h done K b ms fs chain C marked (B, inr (something, plan), puts) built is =
-    let M = begin K b ms in
-    let given = given_by h done K b ms fs built in
-    let carries = puts_carries b M (left h b M (finishes_of fs) M.chain) chain B C puts (carries_left h b M (finishes_of fs) B (plan.carries given)) in
-    let whole = subst (λ ks. Carries b M (left h b M (finishes_of fs) ks) C) is carries in
-    let start = puts_start M.chain chain B C puts ∙ plan.start in
-    let stale = puts_stale M.chain chain B C puts ∙ plan.stale in
-    inl (record {
-      marks = ms;
-      marked = marked;
-      finished = finishes_of fs;
-      order = built.order;
-      something = λ rules none. something rules (no_finishes fs none);
-      start = start;
-      stale = stale;
-      traces = λ w. puts_ways M.chain chain B C puts w ∙ plan.traces given w;
-      unmarked = puts_unmarked M.chain chain B C puts plan.unmarked;
-      carries = whole;
-      applied = difference_applied h b K ms (finishes_of fs) (chain_behind (keys_of (finishes_of fs)) M.chain) C start stale whole;
-    })

@@ -1,11 +1,7 @@
 pub mod Growing
 pub mod Lists
 pub mod Leading
-pub mod Sums
-pub mod Alike
 pub mod Orders
-pub mod OneSize
-pub mod Lengths
 pub mod Chained
 pub mod Pieces
 pub mod Along

@@ -16,7 +16,7 @@ use Rattle.carte_record.specs.Kept.{SomeKept, kept_view}
 use Rattle.carte_sound.specs.Carries.{Carries}
 use Rattle.carte_sound.specs.Held.{How}
 use Rattle.carte_sound.specs.LeadsTo.{marks_left, traces_made}
-use Rattle.carte_sound.specs.Left.{Finishes, add_all, is_way, left}
+use Rattle.carte_sound.specs.Left.{Finishes, is_way, left}
 use Rattle.carte_sound.specs.Parts.{AreOfParts, IsOfPart, later_chain}
 use Rattle.carte_sound.specs.True.{trace_of}
 use Rattle.carte_sound.proofs.Assembled.{carries_left}

@@ -1,5 +1,5 @@
 -- From the batches of a build in parts to what they lead to.
-use Rattle.std.proofs.Common.{◌≡◌, ℕ, Bool, true, false, arith, cond, take, List, [], ◌∷◌, ◌++◌, length, map, append-nil, refl, ap, sym, ◌∙◌, subst, inl, inr}
+use Rattle.std.proofs.Common.{◌≡◌, ℕ, true, false, take, List, [], ◌∷◌, ◌++◌, length, map, append-nil, refl, ap, sym, ◌∙◌, subst, inl, inr}
 use Rattle.std.specs.List.{flat_map}
 use Rattle.std.specs.Prelude.{if◌then◌else◌, ◌==◌, not, ◌&&◌}
 use Rattle.std.proofs.Math.Seq.{take-append_seam}
@@ -19,11 +19,11 @@ use Rattle.carte_sound.specs.Begun.{AreMarks, begin, has_rules_of}
 use Rattle.carte_sound.specs.Held.{How}
 use Rattle.carte_sound.specs.LeadsTo.{chain_behind, chain_stays, empty_batch, marks_left}
 use Rattle.carte_sound.specs.Left.{Finishes, keys_of, left}
-use Rattle.carte_sound.specs.Parts.{AreOfParts, AreParts, IsOfPart, PartsTo, full_part, later_chain}
+use Rattle.carte_sound.specs.Parts.{AreOfParts, AreParts, IsOfPart, PartsTo, full_part}
 use Rattle.carte_note.specs.declared.finished.Finished.{Finished}
 use Rattle.carte_note.specs.Notes.{AreUnmarked}
 use Rattle.carte_note.specs.Right.{finishes_of}
-use Rattle.carte_plan.specs.Cuts.{AllUnmarked, AreCuts, ArePartsPlanned, PlansParts, PlansPartsChained, PutsLast, cuts}
+use Rattle.carte_plan.specs.Cuts.{AllUnmarked, AreCuts, PlansParts, PlansPartsChained, cuts}
 use Rattle.carte_plan.specs.Planned.{AreGiven, IsBuilt, PutsChain, opening}
 use Rattle.carte_plan.proofs.Chained.{none_behind, none_chained, puts_carries, puts_none, puts_stale, puts_start, puts_unmarked, puts_ways}
 use Rattle.carte_plan.proofs.Growing.{none_noted}

@@ -1,20 +1,18 @@
--- The batch of a build, from its finished keys.
-use Rattle.std.specs.Prelude.{ℕ, ◌≡◌, ◌⊎◌, false, List, [], ◌++◌, Some, if◌then◌else◌}
+-- A batch of a build, from finished keys.
+use Rattle.std.specs.Prelude.{ℕ, ◌≡◌, ◌⊎◌, List, ◌++◌, Some}
 use Rattle.carte_value.specs.Truths.{NoneTwice}
 use Rattle.carte_book.specs.Book.{Book}
-use Rattle.carte_book.specs.Digest.{rules_digest_of}
 use Rattle.carte_record.specs.declared.batch.Batch.{Batch}
 use Rattle.carte_record.specs.declared.start.Start.{Start}
-use Rattle.carte_record.specs.declared.start.Start.TheVariants.{GoOn, Anew}
 use Rattle.carte_record.specs.declared.way.Way.{Way}
 use Rattle.carte_record.specs.Folds.{batch_traces}
 use Rattle.carte_record.specs.Kept.{SomeKept}
 use Rattle.carte_sound.specs.Base.{AllNow}
-use Rattle.carte_sound.specs.Begun.{begin, has_rules_of}
+use Rattle.carte_sound.specs.Begun.{begin}
 use Rattle.carte_sound.specs.Carries.{Carries}
 use Rattle.carte_sound.specs.Finished.{IsFinishing}
 use Rattle.carte_sound.specs.Held.{How}
-use Rattle.carte_sound.specs.LeadsTo.{empty_batch, marks_left, traces_made}
+use Rattle.carte_sound.specs.LeadsTo.{empty_batch, traces_made}
 use Rattle.carte_sound.specs.Left.{add_all}
 use Rattle.carte_note.specs.declared.finished.Finished.{Finished}
 use Rattle.carte_note.specs.Notes.{AreUnmarked}
@@ -38,25 +36,9 @@ pub record NotesAll (h : How) (M : SomeKept) (b : Book) (fs : List Finished) (ol
   pub carries : AreGiven h M b fs → Carries b M M old → Carries b M (add_all h b M (finishes_of fs)) new
   pub traces : AreGiven h M b fs → Carries b M M old → (w : Way) → batch_traces w new ≡ batch_traces w old ++ traces_made h b (finishes_of fs) w
 
--- the start, the marks that no finished key has, and what the keys bring
-pub record IsPlanOf (h : How) (K : SomeKept) (b : Book) (ms : List (List ℕ)) (fs : List Finished) (B : Batch) : Type 0 where
-  pub start : B.start ≡ (if has_rules_of K b then GoOn else Anew (rules_digest_of b))
-  pub stale : B.stale ≡ marks_left (finishes_of fs) ms
-  pub unmarked : AreUnmarked B.entries
-  pub carries : AreGiven h (begin K b ms) b fs → Carries b (begin K b ms) (add_all h b (begin K b ms) (finishes_of fs)) B
-  pub traces : AreGiven h (begin K b ms) b fs → (w : Way) → batch_traces w B ≡ traces_made h b (finishes_of fs) w
-
--- under other rules nothing, where nothing is finished
-abbrev pub Plans : How → SomeKept → Book → List (List ℕ) → List Finished → Batch → Type 0
-Plans h K b ms fs B = ((has_rules_of K b ≡ false) × (fs ≡ []) × (B ≡ empty_batch)) ⊎ ((has_rules_of K b ≡ false → ¬ (fs ≡ [])) × IsPlanOf h K b ms fs B)
-
 -- the chain was put into the batch, where it isn't the old one
 abbrev pub PutsChain : List (List ℕ) → List (List ℕ) → Batch → Batch → Type 0
 PutsChain old chain B C = ((old ≡ chain) × (C ≡ B)) ⊎ ((¬ (old ≡ chain)) × (C ≡ record B { chain = Some chain }))
-
--- the same for a build that leaves this chain
-abbrev pub PlansChained : How → SomeKept → Book → List (List ℕ) → List Finished → List (List ℕ) → Batch → Type 0
-PlansChained h K b ms fs chain C = (B : Batch) × Plans h K b ms fs B × PutsChain (begin K b ms).chain chain B C
 
 -- a build has finished what is done, each key rightly, in an order in which it may
 pub record IsBuilt (h : How) (K : SomeKept) (b : Book) (ms : List (List ℕ)) (done : List ℕ → Type 0) (fs : List Finished) : Type 0 where

@@ -3,17 +3,16 @@ ghost use Rattle.carte_book.specs.Book.{book_view};
 ghost use Rattle.carte_book.specs.Digest.{rules_digest_of};
 ghost use Rattle.carte_record.specs.declared.start.Start.TheVariants.{GoOn, Anew};
 ghost use Rattle.carte_record.specs.Kept.{SomeKept, kept_view};
-ghost use Rattle.carte_sound.specs.LeadsTo.{LeadsInOrder, LeadsRefused, LeadsRestarting, LeadsSuspending, chain_behind, marks_left};
+ghost use Rattle.carte_sound.specs.LeadsTo.{chain_behind, marks_left};
 ghost use Rattle.carte_sound.specs.Parts.{PartsInOrder, PartsRefused, PartsRestarting, PartsSuspending};
 ghost use Rattle.carte_sound.specs.Begun.{begin};
 ghost use Rattle.carte_sound.specs.Left.{keys_of};
 ghost use Rattle.carte_sound.specs.Treated.{IsDoneInOrder, IsDoneRestarting, IsDoneSuspending};
 ghost use Rattle.carte_note.specs.Lists.{finished_of};
-ghost use Rattle.carte_note.specs.Notes.{AreUnmarked};
 ghost use Rattle.carte_note.specs.Right.{finishes_of};
 ghost use Rattle.carte_mark.specs.Bases.{BeginsWith};
 ghost use Rattle.carte_plan.specs.Cuts.{AllUnmarked, PlansParts, PlansPartsChained};
-ghost use Rattle.carte_plan.specs.Planned.{IsBuilt, NotesAll, Plans, PlansChained, PutsChain, opening};
+ghost use Rattle.carte_plan.specs.Planned.{IsBuilt, PutsChain, opening};
 
 use crate::cutting::{Cut, FULL_PART, in_parts};
 use carte_book::Book;
@@ -24,52 +23,9 @@ use carte_record::{Batch, Kept, Start};
 use carte_value::{Digest, Name, Names, NoMemory};
 use std::alloc::Global;
 
-/// The batch of a build. `base` is what it began with, and `rules` the digest of the book's rules.
-pub fn plan<R: Rebuilder>(
-    alloc: Global,
-    rebuilder: &R,
-    begun: &Begun,
-    base: &Kept,
-    rules: Digest,
-    book: &Book,
-    finished: &FinishedList,
-) -> Result<Batch, NoMemory>
-    requires { rules ≡ rules_digest_of (book_view book.now) }
-    ensures unmarked { IfOk result (λ batch. AreUnmarked batch.entries) }
-    ensures in_order { let b = book_view book.now in let h = R.how rebuilder.now in (K : SomeKept) (targets : List (List ℕ)) → BeginsWith K b begun.now (kept_view base.now) → IsBuilt h K b begun.now.marks (IsDoneInOrder b targets) finished.now → IfOk result (LeadsInOrder h K b targets) }
-    ensures suspending { let b = book_view book.now in let h = R.how rebuilder.now in (K : SomeKept) (targets : List (List ℕ)) → BeginsWith K b begun.now (kept_view base.now) → IsBuilt h K b begun.now.marks (IsDoneSuspending h (begin K b begun.now.marks) b targets) finished.now → IfOk result (LeadsSuspending h K b targets) }
-    ensures refused { let b = book_view book.now in let h = R.how rebuilder.now in (K : SomeKept) → BeginsWith K b begun.now (kept_view base.now) → IsBuilt h K b begun.now.marks (λ k. ⊥) finished.now → IfOk result (LeadsRefused h K b) }
-    // The same for whatever else may be done, as lemmas go on from it.
-    ensures plans { let b = book_view book.now in let h = R.how rebuilder.now in (K : SomeKept) → BeginsWith K b begun.now (kept_view base.now) → IfOk result (Plans h K b begun.now.marks finished.now) }
-{
-    made(alloc, rebuilder, begun, base, rules, book, finished)
-}
-
-/// The same for a build that leaves a chain, which the batch has where it isn't that of `base`.
-pub fn plan_chained<R: Rebuilder>(
-    alloc: Global,
-    rebuilder: &R,
-    begun: &Begun,
-    base: &Kept,
-    rules: Digest,
-    book: &Book,
-    finished: &FinishedList,
-    chain: &Names,
-) -> Result<Batch, NoMemory>
-    requires { rules ≡ rules_digest_of (book_view book.now) }
-    ensures unmarked { IfOk result (λ batch. AreUnmarked batch.entries) }
-    ensures restarting { let b = book_view book.now in let h = R.how rebuilder.now in (K : SomeKept) (targets : List (List ℕ)) → BeginsWith K b begun.now (kept_view base.now) → IsBuilt h K b begun.now.marks (IsDoneRestarting h (begin K b begun.now.marks) b targets) finished.now
-        → chain.now ≡ chain_behind (keys_of (finishes_of finished.now)) (kept_view base.now).chain → IfOk result (LeadsRestarting h K b targets) }
-    // The same for whatever else may be done, as lemmas go on from it.
-    ensures plans { let b = book_view book.now in let h = R.how rebuilder.now in (K : SomeKept) → BeginsWith K b begun.now (kept_view base.now) → IfOk result (PlansChained h K b begun.now.marks finished.now chain.now) }
-{
-    let mut batch = made(alloc, rebuilder, begun, base, rules, book, finished)?;
-    put_chain(alloc, &base.chain, chain, &mut batch)?;
-    Ok(batch)
-}
-
-/// The batches of such a build where it is committed part by part, at least one: the first has the start and the marks. None
-/// is copied but for values and links that later parts look up, of which a copy is short or shared.
+/// The batches of a build, part by part, at least one: the first has the start and the marks. `base` is what the build began
+/// with, and `rules` the digest of the book's rules. Nothing is copied but values and links that later parts look up, of
+/// which a copy is short or shared.
 pub fn plan_parts<R: Rebuilder>(
     alloc: Global,
     rebuilder: &R,
@@ -146,28 +102,6 @@ fn put_chain(alloc: Global, old: &Names, chain: &Names, batch: &mut Batch) -> Re
     Ok(())
 }
 
-fn made<R: Rebuilder>(
-    alloc: Global,
-    rebuilder: &R,
-    begun: &Begun,
-    base: &Kept,
-    rules: Digest,
-    book: &Book,
-    finished: &FinishedList,
-) -> Result<Batch, NoMemory>
-    requires { rules ≡ rules_digest_of (book_view book.now) }
-    ensures unmarked { IfOk result (λ batch. AreUnmarked batch.entries) }
-    ensures plans { let b = book_view book.now in let h = R.how rebuilder.now in (K : SomeKept) → BeginsWith K b begun.now (kept_view base.now) → IfOk result (Plans h K b begun.now.marks finished.now) }
-{
-    if brings_nothing(begun, finished) {
-        return Ok(Batch::new(alloc, book.hasher()));
-    }
-    let mut batch = opened(alloc, begun, rules, book, finished, finished.len())?;
-    batch.widen(finished.len());
-    note_all(alloc, rebuilder, base, book, finished, &mut batch)?;
-    Ok(batch)
-}
-
 /// Whether nothing was finished under other rules.
 fn brings_nothing(begun: &Begun, finished: &FinishedList) -> bool
     ensures { result ≡ (not begun.now.same && (length finished.now == 0)) }
@@ -230,20 +164,4 @@ fn add_left(
         return Ok(());
     }
     left.push(mark.copy(alloc)?)
-}
-
-fn note_all<R: Rebuilder>(
-    alloc: Global,
-    rebuilder: &R,
-    kept: &Kept,
-    book: &Book,
-    finished: &FinishedList,
-    batch: &mut Batch,
-) -> Result<(), NoMemory>
-    ensures { OnOk result (NotesAll (R.how rebuilder.now) (kept_view kept.now) (book_view book.now) finished.now batch.old batch.new) }
-{
-    for one in finished.as_slice() {
-        rebuilder.note(alloc, kept, book, one, batch)?;
-    }
-    Ok(())
 }

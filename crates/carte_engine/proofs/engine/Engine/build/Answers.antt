@@ -2,11 +2,11 @@ use Rattle.std.proofs.Common.{Ok, Err, refl, ap, subst, ◌∙◌, inl, inr}
 use Rattle.std.proofs.lemmas.Result.{err_from_is_err_and}
 use Rattle.carte_state.specs.Around.{over_disk}
 use Rattle.carte_state.specs.States.{Stand}
-use Rattle.carte_engine.specs.Committing.{Commits}
+use Rattle.carte_engine.specs.Committing.{CommitsAll}
 use Rattle.carte_engine.proofs.engine.Engine.build.Goals as goal
 
-pub returns-in_err-batch : goal.returns-in_err-batch
-returns-in_err-batch g c =
+pub returns-in_err-batches : goal.returns-in_err-batches
+returns-in_err-batches g c =
     let r = c.from_residual.result in
     let p = err_from_is_err_and r c.from_residual.ensures.1 in
     inr (p.1 ∙ ap Err p.2, record { stand = c.plan.ensures.kept; disk = record { same = refl; story = refl; faults = refl } })
@@ -16,13 +16,13 @@ returns-in_err-commit g c =
     let r = c.from_residual-in_err-commit.result in
     let p = err_from_is_err_and r c.from_residual-in_err-commit.ensures.1 in
     let seen = over_disk g.D.Disk.tells g.D.Disk.story g.D.Disk.faults c.args.disk.now c.commit.new.disk in
-    let batch = c.in_ok-batch.field-0.batch in
+    let batches = c.in_ok-batches.field-0.batches.items in
     inl (
-      c.in_ok-batch.field-0,
+      c.in_ok-batches.field-0,
       Err c.in_err-commit.field-0.0,
-      c.in_ok-batch.ensures.plans,
-      subst (λ (old : Stand). Commits seen old c.commit.new.self batch (Err c.in_err-commit.field-0.0)) c.plan.ensures.kept
-          (subst (λ applied. Commits seen c.plan.new.self c.commit.new.self batch applied) c.in_err-commit.was c.commit.ensures),
+      c.in_ok-batches.ensures.plans,
+      subst (λ (old : Stand). CommitsAll seen old c.commit.new.self batches (Err c.in_err-commit.field-0.0)) c.plan.ensures.kept
+          (subst (λ applied. CommitsAll seen c.plan.new.self c.commit.new.self batches applied) c.in_err-commit.was c.commit.ensures),
       p.1 ∙ ap Err p.2,
     )
 
@@ -30,10 +30,10 @@ pub returns : goal.returns
 returns g c =
     let seen = over_disk g.D.Disk.tells g.D.Disk.story g.D.Disk.faults c.args.disk.now c.commit.new.disk in
     inl (
-      c.in_ok-batch.field-0,
+      c.in_ok-batches.field-0,
       Ok c.in_ok-commit.field-0,
-      c.in_ok-batch.ensures.plans,
-      subst (λ (old : Stand). Commits seen old c.commit.new.self c.in_ok-batch.field-0.batch (Ok c.in_ok-commit.field-0)) c.plan.ensures.kept
-          (subst (λ applied. Commits seen c.plan.new.self c.commit.new.self c.in_ok-batch.field-0.batch applied) c.in_ok-commit.was c.commit.ensures),
+      c.in_ok-batches.ensures.plans,
+      subst (λ (old : Stand). CommitsAll seen old c.commit.new.self c.in_ok-batches.field-0.batches.items (Ok c.in_ok-commit.field-0)) c.plan.ensures.kept
+          (subst (λ applied. CommitsAll seen c.plan.new.self c.commit.new.self c.in_ok-batches.field-0.batches.items applied) c.in_ok-commit.was c.commit.ensures),
       c.answered.ensures,
     )

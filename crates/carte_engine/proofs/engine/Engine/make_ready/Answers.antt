@@ -9,6 +9,6 @@ use Rattle.carte_engine.proofs.engine.Engine.make_ready.Goals as goal
 pub returns-clause-ready : goal.returns-clause-ready
 returns-clause-ready g c =
     let d = over_disk g.D.Disk.tells g.D.Disk.story g.D.Disk.faults c.args.disk.now c.rewrite.new.disk in
-    let due : IsDue c.self.inside.state c.args.batch.now = λ live is. sym (c.in_ok-is_due.ensures.due live is) ∙ c.if-not-branch.false in
-    made_ready d c.args.self.now c.rewrite.new.state c.args.batch.now c.rewrite.result (subst (λ (s : Stand). IsDue s c.args.batch.now) c.self.view_is due)
+    let due : IsDue c.args.first c.self.inside.state c.args.batch.now = λ live is. sym (c.in_ok-is_due.ensures.due live is) ∙ c.if-not-branch.false in
+    made_ready c.args.first d c.args.self.now c.rewrite.new.state c.args.batch.now c.rewrite.result (subst (λ (s : Stand). IsDue c.args.first s c.args.batch.now) c.self.view_is due)
     (subst (λ (s : Stand). Rewrites d s c.rewrite.new.state c.rewrite.result) c.self.view_is c.rewrite.ensures)

@@ -1,18 +1,18 @@
 use Rattle.carte_book.specs.Book.{book_view}
 use Rattle.carte_record.specs.Kept.{kept_view}
-use Rattle.carte_engine.proofs.Planning.{chained_batch, plain_batch}
-use Rattle.carte_engine.proofs.planned.batch_of.Goals as goal
+use Rattle.carte_engine.proofs.Planning.{chained_batches, plain_batches}
+use Rattle.carte_engine.proofs.planned.batches_of.Goals as goal
 
 pub returns-in-Some-clause-brings : goal.returns-in-Some-clause-brings
 returns-in-Some-clause-brings g c K begins =
     let h = g.R.Rebuilder.how c.args.rebuilder.now in
     let M = kept_view c.args.base.now in
     let b = book_view c.args.book.now in
-    chained_batch h K M b c.args.begun.now.marks c.args.work.now c.in-Some.chain c.plan_chained.result c.in-Some.is (λ targets new built. c.plan_chained.ensures.restarting K targets begins built new)
+    chained_batches c.plan_parts_chained.result (λ all. all.items) h K M b c.args.begun.now.marks c.args.work.now c.in-Some.chain c.in-Some.is (λ targets new built. c.plan_parts_chained.ensures.restarting K targets begins built new)
 
 pub returns-in-None-clause-brings : goal.returns-in-None-clause-brings
 returns-in-None-clause-brings g c K begins =
     let h = g.R.Rebuilder.how c.args.rebuilder.now in
     let M = kept_view c.args.base.now in
     let b = book_view c.args.book.now in
-    plain_batch h K M b c.args.begun.now.marks c.args.work.now c.plan.result c.in-None.is (c.plan.ensures.plans K begins)
+    plain_batches c.plan_parts.result (λ all. all.items) h K M b c.args.begun.now.marks c.args.work.now c.in-None.is (c.plan_parts.ensures.plans K begins)
