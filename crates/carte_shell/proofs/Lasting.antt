@@ -3,7 +3,6 @@ use Rattle.std.proofs.Common.{◌≡◌, ℕ, ◌+◌, ◌<◌, ◌≤◌, true,
 use Rattle.carte_io.specs.Causes.{Rose}
 use Rattle.carte_io.specs.Streams.{SinkState, SourceState}
 use Rattle.carte_record.specs.declared.batch.Batch.{Batch}
-use Rattle.carte_record.specs.Empty.{is_empty}
 use Rattle.carte_session.specs.Lines.{IsNext, lines_of}
 use Rattle.carte_session.specs.Session.{Goes, IsSession}
 use Rattle.carte_session.specs.declared.end.SessionEnd.{SessionEnd}
@@ -12,33 +11,26 @@ use Rattle.carte_session.specs.declared.end.StepEnd.{StepEnd}
 use Rattle.carte_session.specs.declared.end.StepEnd.TheVariants as line_end
 use Rattle.carte_session.proofs.LineLemmas.{next_is}
 use Rattle.carte_session.proofs.SessionLaws.{too_long_is}
-use Rattle.carte_state.specs.Applying.{IsOver}
-use Rattle.carte_state.specs.States.{HasRoom, Stand}
 use Rattle.carte_words.specs.Lines.{Means}
 use Rattle.carte_words.specs.declared.line.Line.{Line}
 use Rattle.carte_words.specs.declared.line.Line.TheVariants as line
 use Rattle.carte_engine.specs.Clearing.{clearing}
-use Rattle.carte_engine.specs.Committing.{IsBase, until}
-use Rattle.carte_engine.proofs.Committing.{failed_commit, full_commit, has_put, ready_base}
+use Rattle.carte_engine.specs.Committing.{FitAll}
+use Rattle.carte_engine.proofs.Several.{fit_not_full, puts_faults, stops_rose}
 use Rattle.carte_shell.specs.Answers.{Answers, Brings, Ends, Obeys}
 use Rattle.carte_shell.specs.Commits.{Stops, disk_between}
 use Rattle.carte_shell.specs.Lasting.{AllFit, IsDoneOrShort, NoneFailed, SessionIsDone}
 use Rattle.carte_shell.specs.Replies.{Said}
 use Rattle.carte_shell.specs.Scenes.{Scene}
 
--- there is no room for it that is lacking
-not_over : (s : Stand) (B : Batch) (needed limit : ℕ) → HasRoom s B → IsOver s B needed limit → ⊥
-not_over s B needed limit (inl empty) over = let filled = over.filled in cc
-not_over s B needed limit (inr few) over = omega (arith, few, over.needed_is, over.limit_is, over.over)
-
 module _ (tells : Type 0) where
   -- a line that is answered leaves the disk's failures as they were
   obeyed : (m m' : Scene) (l : Line) (reply : Said) → Obeys tells m l reply m' → m'.faults ≡ m.faults
   obeyed m m' line.Nothing reply obeys = ap (λ (x : Scene). x.faults) obeys.1
   obeyed m m' (line.Set k v) reply obeys = ap (λ (x : Scene). x.faults) obeys.1
-  obeyed m m' (line.Build targets) reply obeys = (has_put (disk_between tells m m') m.stand m'.stand obeys.1 obeys.4.commits).faults
+  obeyed m m' (line.Build targets) reply obeys = puts_faults true (disk_between tells m m') m.stand obeys.1 m'.stand obeys.4.commits
   obeyed m m' (line.Explain targets) reply obeys = ap (λ (x : Scene). x.faults) obeys.1
-  obeyed m m' line.Clean reply obeys = (has_put (disk_between tells m m') m.stand m'.stand (clearing m.stand) obeys.1.commits).faults
+  obeyed m m' line.Clean reply obeys = puts_faults true (disk_between tells m m') m.stand (clearing m.stand ∷ []) m'.stand obeys.1.commits
 
   answered : (m m' : Scene) (n : ℕ) (bytes text : List ℕ) → Answers tells m n bytes text m' → m'.faults ≡ m.faults
   answered m m' n bytes text (inl stray) = ap (λ (x : Scene). x.faults) stray.2
@@ -49,20 +41,16 @@ module _ (tells : Type 0) where
   all_answered n m m' (bytes ∷ lines) said goes = all_answered (n + 1) goes.0 m' lines goes.2 goes.4 ∙ answered m goes.0 n bytes goes.1 goes.3
 
   -- a line isn't answered where the disk failed, where there is no room, or where memory is lacking
-  stopped : (m m' : Scene) (B : Batch) (end : StepEnd) → Stops tells m m' B end → ¬ (Rose m.faults m'.faults) → ((base : Stand) → IsBase m.stand B base → HasRoom base B)
-      → IsDoneOrShort (Err (Machine end))
-  stopped m m' B line_end.NoMemory stops none fits = tt
-  stopped m m' B line_end.DiskFault stops none fits = none (failed_commit (disk_between tells m m') m.stand m'.stand B stops.commits)
-  stopped m m' B (line_end.StateFull needed limit) stops none fits =
-      let d = disk_between tells m m' in
-      let f = full_commit d m.stand m'.stand B needed limit stops.commits in
-      not_over f.base B needed limit (fits f.base (ready_base (until d f.between) m.stand f.base B f.ready)) f.applies.comes.0
+  stopped : (m m' : Scene) (Bs : List Batch) (end : StepEnd) → Stops tells m m' Bs end → ¬ (Rose m.faults m'.faults) → FitAll true m.stand Bs → IsDoneOrShort (Err (Machine end))
+  stopped m m' Bs line_end.NoMemory stops none fits = tt
+  stopped m m' Bs line_end.DiskFault stops none fits = none (stops_rose (disk_between tells m m') m.stand Bs m'.stand stops.commits)
+  stopped m m' Bs (line_end.StateFull needed limit) stops none fits = fit_not_full (disk_between tells m m') m.stand m'.stand Bs needed limit stops.commits fits
 
   not_answered : (m m' : Scene) (n : ℕ) (bytes : List ℕ) (end : StepEnd) → Ends tells m n bytes end m' → ¬ (Rose m.faults m'.faults)
-      → ((l : Line) (B : Batch) (base : Stand) → Means m.book.kind bytes l → Brings m l B → IsBase m.stand B base → HasRoom base B) → IsDoneOrShort (Err (Machine end))
+      → ((l : Line) (Bs : List Batch) → Means m.book.kind bytes l → Brings m l Bs → FitAll true m.stand Bs) → IsDoneOrShort (Err (Machine end))
   not_answered m m' n bytes end (inl none) unfailed fits = subst (λ (e : StepEnd). IsDoneOrShort (Err (Machine e))) (sym none.0) tt
   not_answered m m' n bytes end (inr (l, means, inl none)) unfailed fits = subst (λ (e : StepEnd). IsDoneOrShort (Err (Machine e))) (sym none.0) tt
-  not_answered m m' n bytes end (inr (l, means, inr (B, brings, stops))) unfailed fits = stopped m m' B end stops unfailed (λ base is. fits l B base means brings is)
+  not_answered m m' n bytes end (inr (l, means, inr (Bs, brings, stops))) unfailed fits = stopped m m' Bs end stops unfailed (fits l Bs means brings)
 
 -- the next line of what was read, where the end is told
 told_next : (read line : List ℕ) (lines : List (List ℕ)) (most : ℕ) (Told AtEnd : Type 0) → Told → IsNext read lines line most (Told → AtEnd) → IsNext read lines line most AtEnd
@@ -91,4 +79,4 @@ session_done tells source_tells sink_tells m m' script left k k' limit (Err (Mac
     let whole : lines_of script.left ≡ lines ++ bytes ∷ next.0 = ap lines_of (is.ended.1 told) ∙ next.1 in
     let same : mid.faults ≡ m.faults = all_answered tells 1 m mid lines stopped.1 stopped.5 in
     not_answered tells mid m' (length lines + 1) bytes end stopped.6 (subst (λ (n : ℕ). ¬ (Rose n m'.faults)) (sym same) none.disk)
-    (λ l B base means brings is. fits lines next.0 bytes stopped.1 mid l B base whole stopped.5 means brings is)
+    (λ l Bs means brings. fits lines next.0 bytes stopped.1 mid l Bs whole stopped.5 means brings)

@@ -1,5 +1,5 @@
 -- Lines leave the state sound, whatever crash comes.
-use Rattle.std.proofs.Common.{◌≡◌, ℕ, ◌+◌, Bool, true, false, if◌then◌else◌, List, [], ◌∷◌, ◌++◌, Result, Ok, Err, refl, sym, ◌∙◌, ap, subst, inl, inr, ◌⊎◌, arith, append_assoc}
+use Rattle.std.proofs.Common.{◌≡◌, ℕ, ◌+◌, Bool, true, false, if◌then◌else◌, List, [], ◌∷◌, ◌++◌, Result, Ok, Err, refl, sym, ◌∙◌, ap, subst, inl, inr, ◌⊎◌, arith, append_assoc, append-nil}
 use Rattle.carte_io.specs.Disk.{LeavesOnly, Story}
 use Rattle.carte_io.proofs.Images.{leaves_more, leaves_none, leaves_then}
 use Rattle.carte_value.specs.declared.value.Value.{Value}
@@ -7,17 +7,19 @@ use Rattle.carte_book.specs.Book.{Book}
 use Rattle.carte_book.specs.Edits.{Sets}
 use Rattle.carte_book.specs.declared.fault.SetFault.{SetFault}
 use Rattle.carte_book.specs.declared.fault.SetFault.TheVariants as set
+use Rattle.carte_engine.specs.Answers.{Leads}
 use Rattle.carte_engine.specs.Clearing.{clearing}
 use Rattle.carte_engine.specs.declared.answer.Answer.{Answer}
-use Rattle.carte_engine.proofs.Committing.{commit_leaves, commit_limit, has_put}
 use Rattle.carte_engine.proofs.Emptying.{clearing_empties}
 use Rattle.carte_engine.proofs.Keeping.{plan_sound}
+use Rattle.carte_engine.proofs.Several.{all_leaves, puts_kept, puts_limit, puts_rest}
 use Rattle.carte_record.specs.declared.batch.Batch.{Batch}
 use Rattle.carte_record.specs.Folds.{apply}
-use Rattle.carte_record.specs.Kept.{SomeKept}
+use Rattle.carte_record.specs.Kept.{SomeKept, nothing_kept}
 use Rattle.carte_session.specs.Session.{Goes}
 use Rattle.carte_session.specs.declared.end.StepEnd.{StepEnd}
 use Rattle.carte_sound.specs.Base.{HasDistinctDigests}
+use Rattle.carte_sound.specs.Parts.{applied}
 use Rattle.carte_sound.specs.Sound.{IsSound}
 use Rattle.carte_sound.proofs.Begins.{behind_sound, front_distinct}
 use Rattle.carte_sound.proofs.Histories.{nothing_sound}
@@ -37,40 +39,36 @@ use Rattle.carte_shell.specs.Scenes.{Scene}
 use Rattle.carte_shell.specs.Stopping.{fault_of}
 use Rattle.carte_shell.specs.Sound.{EndLeavesSound, KeepsSound, LeavesSound, LinesStaySound, StandsSound, StaysSound}
 
--- ---- one commit
+-- ---- commits
 
-module _ (m m' : Scene) (B : Batch) (J : List Book) where
-  -- what is sound before a batch, and what it makes of it
+module _ (m m' : Scene) (Bs : List Batch) (J : List Book) where
+  -- what the first of the batches make of what is kept, however many
   abbrev Sounds : List Book → Type 0
-  Sounds H = IsSound (kept_in m.stand) (H ++ J) × IsSound (apply B (kept_in m.stand)) (H ++ J)
+  Sounds H = (some rest : List Batch) → Bs ≡ some ++ rest → IsSound (applied (kept_in m.stand) some) (H ++ J)
 
-  images_sound : (tells : Type 0) (result : Result (Unit {0}) ApplyFault) → Commits tells m m' B result → tells → IsKeptOn m.stand m.story → (H : List Book) → Sounds H
+  images_sound : (tells : Type 0) (result : Result (Unit {0}) ApplyFault) → Commits tells m m' Bs result → tells → IsKeptOn m.stand m.story → (H : List Book) → Sounds H
       → LeavesOnly m.story m'.story (KeepsSound m.stand.journal.limit (H ++ J))
   images_sound tells result c told on H sounds =
-      leaves_more m.story m'.story (λ file. Keeps m.stand.journal.limit (kept_in m.stand) file ⊎ Keeps m.stand.journal.limit (apply B (kept_in m.stand)) file) (KeepsSound m.stand.journal.limit (H ++ J)) at
-      (commit_leaves (disk_between tells m m') m.stand B told on m'.stand result c.commits)
-    where
-      at : (file : List ℕ) → Keeps m.stand.journal.limit (kept_in m.stand) file ⊎ Keeps m.stand.journal.limit (apply B (kept_in m.stand)) file → KeepsSound m.stand.journal.limit (H ++ J) file
-      at file (inl old) = (kept_in m.stand, old, sounds.0)
-      at file (inr new) = (apply B (kept_in m.stand), new, sounds.1)
+      leaves_more m.story m'.story (λ file. (some rest : List Batch) × (Bs ≡ some ++ rest) × Keeps m.stand.journal.limit (applied (kept_in m.stand) some) file) (KeepsSound m.stand.journal.limit (H ++ J))
+      (λ file at. (applied (kept_in m.stand) at.0, at.3, sounds at.0 at.1 at.2))
+      (all_leaves (disk_between tells m m') m.stand m'.stand Bs result c.commits told on)
 
   abbrev MakesSound : Type 0
-  MakesSound = (H : List Book) → IsSound (kept_in m.stand) H → HasDistinctDigests (H ++ J) → IsSound (apply B (kept_in m.stand)) (H ++ J)
+  MakesSound = (H : List Book) → IsSound (kept_in m.stand) H → HasDistinctDigests (H ++ J) → Sounds H
 
-  pub put_sound : (tells : Type 0) → Puts tells m m' B → MakesSound → StaysSound tells m m' J
+  pub put_sound : (tells : Type 0) → Puts tells m m' Bs → MakesSound → StaysSound tells m m' J
   put_sound tells puts makes told H stands distinct =
       let made = makes H stands.sound distinct in
-      let put = has_put (disk_between tells m m') m.stand m'.stand B puts.commits in (
+      let d = disk_between tells m m' in (
         record {
-          kept_on = put.rest told stands.kept_on;
-          sound = subst (λ (L : SomeKept). IsSound L (H ++ J)) (sym put.kept) made;
+          kept_on = puts_rest true d m.stand Bs m'.stand puts.commits told stands.kept_on;
+          sound = subst (λ (L : SomeKept). IsSound L (H ++ J)) (sym (puts_kept true d m.stand Bs m'.stand puts.commits)) (made Bs [] (sym (append-nil Bs)));
         },
-        images_sound tells (Ok tt) puts told stands.kept_on H (behind_sound (kept_in m.stand) H J stands.sound, made),
+        images_sound tells (Ok tt) puts told stands.kept_on H made,
       )
 
-  pub stop_sound : (tells : Type 0) (end : StepEnd) → Stops tells m m' B end → MakesSound → LeavesSound tells m m' J
-  stop_sound tells end stops makes told H stands distinct =
-      images_sound tells (Err (fault_of end)) stops told stands.kept_on H (behind_sound (kept_in m.stand) H J stands.sound, makes H stands.sound distinct)
+  pub stop_sound : (tells : Type 0) (end : StepEnd) → Stops tells m m' Bs end → MakesSound → LeavesSound tells m m' J
+  stop_sound tells end stops makes told H stands distinct = images_sound tells (Err (fault_of end)) stops told stands.kept_on H (makes H stands.sound distinct)
 
 -- ---- no commit
 
@@ -89,13 +87,21 @@ same_sound tells m m' J same = still_sound tells m m' J (ap (λ (x : Scene). x.s
 
 -- ---- batches
 
-built_sound : (m : Scene) (targets : List (List ℕ)) (a : Answer) (B : Batch) → Plans m targets a B → (H : List Book) → IsSound (kept_in m.stand) H → HasDistinctDigests (H ++ m.book ∷ []) → IsSound (apply B (kept_in m.stand)) (H ++ m.book ∷ [])
-built_sound m targets a B plans H sound distinct =
-    plan_sound (scheduler_of m.choices.scheduler) (how_of m.choices.rebuilder) (kept_in m.stand) H m.book targets a B sound distinct (plans H sound distinct).leads
+built_sound : (m : Scene) (targets : List (List ℕ)) (a : Answer) (Bs : List Batch) → Plans m targets a Bs → (H : List Book) → IsSound (kept_in m.stand) H → HasDistinctDigests (H ++ m.book ∷ [])
+    → (some rest : List Batch) → Bs ≡ some ++ rest → IsSound (applied (kept_in m.stand) some) (H ++ m.book ∷ [])
+built_sound m targets a Bs plans H sound distinct some rest are =
+    let s = scheduler_of m.choices.scheduler in
+    let h = how_of m.choices.rebuilder in
+    plan_sound s h (kept_in m.stand) H m.book targets a some rest sound distinct (subst (Leads s h (kept_in m.stand) m.book targets a) are (plans H sound distinct).leads)
 
-cleaned_sound : (m : Scene) (B : Batch) → B ≡ clearing m.stand → (H : List Book) → IsSound (kept_in m.stand) H → HasDistinctDigests (H ++ []) → IsSound (apply B (kept_in m.stand)) (H ++ [])
-cleaned_sound m B is H sound distinct =
-    subst (λ (C : Batch). IsSound (apply C (kept_in m.stand)) (H ++ [])) (sym is) (subst (λ (L : SomeKept). IsSound L (H ++ [])) (sym (clearing_empties m.stand)) (nothing_sound (H ++ [])))
+emptied : (m : Scene) (B : Batch) → B ≡ clearing m.stand → apply B (kept_in m.stand) ≡ nothing_kept
+emptied m B is = ap (λ (C : Batch). apply C (kept_in m.stand)) is ∙ clearing_empties m.stand
+
+cleaned_sound : (m : Scene) (Bs : List Batch) → Bs ≡ clearing m.stand ∷ [] → (H : List Book) → IsSound (kept_in m.stand) H → HasDistinctDigests (H ++ [])
+    → (some rest : List Batch) → Bs ≡ some ++ rest → IsSound (applied (kept_in m.stand) some) (H ++ [])
+cleaned_sound m Bs is H sound distinct [] rest are = behind_sound (kept_in m.stand) H [] sound
+cleaned_sound m Bs is H sound distinct (B ∷ []) rest are = subst (λ (L : SomeKept). IsSound L (H ++ [])) (sym (emptied m B cc)) (nothing_sound (H ++ []))
+cleaned_sound m Bs is H sound distinct (B ∷ C ∷ some) rest are = cc
 
 -- ---- edits
 
@@ -124,13 +130,14 @@ module _ (tells : Type 0) (m m' : Scene) (bytes text : List ℕ) where
   obeyed (line.Build targets) reply means does = (
     m.book ∷ [],
     inr (line.Build targets, means, (refl, does.4.book)),
-    commit_limit (disk_between tells m m') m.stand m'.stand does.1 (Ok tt) does.4.commits,
+    puts_limit true (disk_between tells m m') m.stand does.1 m'.stand does.4.commits,
     put_sound m m' does.1 (m.book ∷ []) tells does.4 (built_sound m targets does.0 does.1 does.2),
   )
   obeyed (line.Explain targets) reply means does =
       (m.book ∷ [], inr (line.Explain targets, means, (refl, ap (λ (x : Scene). x.book) does.1)), ap (λ (x : Scene). x.stand.journal.limit) does.1, same_sound tells m m' (m.book ∷ []) does.1)
   obeyed line.Clean reply means does =
-      ([], inr (line.Clean, means, (refl, does.1.book)), commit_limit (disk_between tells m m') m.stand m'.stand (clearing m.stand) (Ok tt) does.1.commits, put_sound m m' (clearing m.stand) [] tells does.1 (cleaned_sound m (clearing m.stand) refl))
+      let Bs = clearing m.stand ∷ [] in
+      ([], inr (line.Clean, means, (refl, does.1.book)), puts_limit true (disk_between tells m m') m.stand Bs m'.stand does.1.commits, put_sound m m' Bs [] tells does.1 (cleaned_sound m Bs refl))
 
   pub answered : (n : ℕ) → Answers tells m n bytes text m' → One tells m m' bytes
   answered n (inl stray) =
@@ -174,15 +181,15 @@ module _ (tells : Type 0) (m m' : Scene) (bytes : List ℕ) where
   abbrev Left : Type 0
   Left = (J : List Book) × ((J ≡ []) ⊎ IsBookAt m.book bytes J m.book) × LeavesSound tells m m' J
 
-  brought : (l : Line) (end : StepEnd) → Means m.book.kind bytes l → (B : Batch) → Brings m l B → Stops tells m m' B end → Left
-  brought (line.Build targets) end means B brings stops =
-      (m.book ∷ [], inr (inr (line.Build targets, means, (refl, refl))), stop_sound m m' B (m.book ∷ []) tells end stops (built_sound m targets brings.0 B brings.1))
-  brought line.Clean end means B brings stops = ([], inl refl, stop_sound m m' B [] tells end stops (cleaned_sound m B brings))
-  brought (line.Set k v) end means B brings stops = absurd brings
-  brought (line.Explain targets) end means B brings stops = absurd brings
-  brought line.Nothing end means B brings stops = absurd brings
+  brought : (l : Line) (end : StepEnd) → Means m.book.kind bytes l → (Bs : List Batch) → Brings m l Bs → Stops tells m m' Bs end → Left
+  brought (line.Build targets) end means Bs brings stops =
+      (m.book ∷ [], inr (inr (line.Build targets, means, (refl, refl))), stop_sound m m' Bs (m.book ∷ []) tells end stops (built_sound m targets brings.0 Bs brings.1))
+  brought line.Clean end means Bs brings stops = ([], inl refl, stop_sound m m' Bs [] tells end stops (cleaned_sound m Bs brings))
+  brought (line.Set k v) end means Bs brings stops = absurd brings
+  brought (line.Explain targets) end means Bs brings stops = absurd brings
+  brought line.Nothing end means Bs brings stops = absurd brings
 
 pub end_sound : (tells : Type 0) → EndLeavesSound tells
 end_sound tells n m m' bytes end (inl none) = ([], inl refl, leaves tells m m' [] (same_sound tells m m' [] none.1))
 end_sound tells n m m' bytes end (inr (l, means, inl none)) = ([], inl refl, leaves tells m m' [] (same_sound tells m m' [] none.1))
-end_sound tells n m m' bytes end (inr (l, means, inr (B, brings, stops))) = brought tells m m' bytes l end means B brings stops
+end_sound tells n m m' bytes end (inr (l, means, inr (Bs, brings, stops))) = brought tells m m' bytes l end means Bs brings stops

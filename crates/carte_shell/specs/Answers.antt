@@ -30,7 +30,7 @@ use Rattle.carte_shell.specs.Scenes.{Scene}
 -- a build of the targets answers so, rightly, and commits the batches: whatever history what is kept is sound for
 abbrev pub Plans : Scene → List (List ℕ) → Answer → List Batch → Type 0
 Plans m targets a Bs =
-    Under (kept_in m.stand) m.book (IsPlan (scheduler_of m.choices.scheduler) (how_of m.choices.rebuilder) (kept_in m.stand) m.book targets (record { batches = Bs; answer = a }))
+    Under (kept_in m.stand) m.book (IsPlan (scheduler_of m.choices.scheduler) (how_of m.choices.rebuilder) (kept_in m.stand) m.book targets Bs a)
 
 -- ---- inputs
 

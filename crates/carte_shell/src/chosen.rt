@@ -1,11 +1,10 @@
 // The scheduler and the rebuilder that the words choose.
 ghost use Rattle.std.specs.Prelude.{◌≡◌, ℕ, IfOk, Err};
-ghost use Rattle.carte_codec.specs.Each.{EachFits};
 ghost use Rattle.carte_book.specs.Book.{book_view};
 ghost use Rattle.carte_book.specs.Digest.{rules_digest_of};
 ghost use Rattle.carte_book.specs.Reason.{IsReason};
 ghost use Rattle.carte_book.specs.declared.reason.Reason.{Reason as SomeReason};
-ghost use Rattle.carte_record.specs.Bodies.{IsUnmarked};
+ghost use Rattle.carte_state.specs.Runs.{AreUnmarked};
 ghost use Rattle.carte_state.specs.States.{kept_in};
 ghost use Rattle.carte_engine.specs.Answers.{IsPlan, Under};
 ghost use Rattle.carte_engine.specs.Previews.{IsPreview};
@@ -41,9 +40,9 @@ pub(crate) fn plan_under<G: Gate, T: Threads + Sync>(
 ) -> Result<Plan, NoMemory>
     requires { rules.now ≡ rules_digest_of (book_view book.now) }
     ensures kept { engine.new ≡ engine.old }
-    ensures unmarked { IfOk result (λ p. EachFits IsUnmarked p.batch.entries) }
+    ensures unmarked { IfOk result (λ p. AreUnmarked p.batches.items) }
     ensures plans { Under (kept_in engine.old) (book_view book.now)
-        (IfOk result (IsPlan (scheduler_of choices.scheduler) (how_of choices.rebuilder) (kept_in engine.old) (book_view book.now) targets.now)) }
+        (IfOk result (λ p. IsPlan (scheduler_of choices.scheduler) (how_of choices.rebuilder) (kept_in engine.old) (book_view book.now) targets.now p.batches.items p.answer)) }
 {
     let by = scheduler_of(choices.scheduler);
     let workers = choices.workers;

@@ -5,8 +5,9 @@
 //! and what it is answered is `Answers`, and why one isn't answered is `Ends`: relations over a plain record, the scene, in
 //! which the disk is seen by its story and its count of faults. So they say the same of every disk.
 //!
-//! The text of a reply is made before its commit. So want of memory leaves all as it was before the line, and a line that was
-//! committed has its reply. What is told of builds and explanations holds under every history that what is kept is sound for.
+//! The text of a reply is made before the first commit of its line. So a line whose batches were all committed has its reply.
+//! Where memory runs out, all is as it was before the line, or the first batches of its build are in place, if it ran out
+//! between them. What is told of builds and explanations holds under every history that what is kept is sound for.
 //! `session_stays_sound` says of whole sessions that only files are left which are sound for the history with the books at the
 //! lines that build or explain, whatever end comes and wherever a crash cuts it off.
 //!

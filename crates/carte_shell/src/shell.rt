@@ -1,9 +1,8 @@
 ghost use Rattle.std.specs.Prelude.{◌≡◌, false, IfOk, IsTrue, MatchResult, OnOk, Some};
 ghost use Rattle.carte_value.specs.declared.digest.Digest.{Digest as SomeDigest};
-ghost use Rattle.carte_codec.specs.Each.{EachFits};
 ghost use Rattle.carte_book.specs.Book.{book_view};
 ghost use Rattle.carte_book.specs.Digest.{rules_digest_of};
-ghost use Rattle.carte_record.specs.Bodies.{IsUnmarked};
+ghost use Rattle.carte_state.specs.Runs.{AreUnmarked};
 ghost use Rattle.carte_engine.specs.Clearing.{clearing};
 ghost use Rattle.carte_words.specs.declared.line.Line.TheVariants.{Build as build_line, Clean as clean_line};
 
@@ -86,9 +85,9 @@ impl Shell {
     }
 
     /// Carries out a request over the disk that the engine was loaded from: the reply, or why there is none. Edits stay in memory.
-    /// The reply is made before what it tells of is committed, so want of memory leaves all as it was. Where the disk failed the
-    /// engine is broken, and no further request may be made. Of several workers each has a thread of `rt`, and passes `gate`
-    /// before its part of a wave.
+    /// The reply is made before what it tells of is committed. Where memory runs out all is as it was, or the first batches of the
+    /// build are kept, if it ran out between them. Where the disk failed the engine is broken, and no further request may be
+    /// made. Of several workers each has a thread of `rt`, and passes `gate` before its part of a wave.
     pub fn obey<D: Disk, G: Gate, T: Threads + Sync>(
         &mut self,
         rt: &T,
@@ -133,7 +132,7 @@ impl Shell {
         ensures on { OnOk result (self.new.engine.journal.broken ≡ false) }
     {
         let rules = known(alloc, &mut self.rules, &self.book)?;
-        let Plan { batch, answer } = plan_under(
+        let Plan { batches, answer } = plan_under(
             rt,
             alloc,
             self.choices,
@@ -144,21 +143,26 @@ impl Shell {
             gate,
         )?;
         let reply = build_reply(alloc, self.choices.list, targets, answer)?;
-        match self.commit(alloc, disk, batch) {
+        match self.commit(alloc, disk, batches) {
             Ok(()) => Ok(reply),
             Err(end) => Err(end),
         }
     }
 
-    fn commit<D: Disk>(&mut self, alloc: Global, disk: &mut D, batch: Batch) -> Result<(), StepEnd>
+    fn commit<D: Disk>(
+        &mut self,
+        alloc: Global,
+        disk: &mut D,
+        batches: Vec<Batch>,
+    ) -> Result<(), StepEnd>
         requires whole { self.old.engine.journal.broken ≡ false }
-        requires unmarked { EachFits IsUnmarked batch.entries }
+        requires unmarked { AreUnmarked batches.items }
         ensures carried { MatchResult result
-            (λ _. Puts D.tells (scene D.story D.faults (self.old, disk.old)) (scene D.story D.faults (self.new, disk.new)) batch)
-            (λ end. Stops D.tells (scene D.story D.faults (self.old, disk.old)) (scene D.story D.faults (self.new, disk.new)) batch end) }
+            (λ _. Puts D.tells (scene D.story D.faults (self.old, disk.old)) (scene D.story D.faults (self.new, disk.new)) batches.items)
+            (λ end. Stops D.tells (scene D.story D.faults (self.old, disk.old)) (scene D.story D.faults (self.new, disk.new)) batches.items end) }
         ensures on { OnOk result (self.new.engine.journal.broken ≡ false) }
     {
-        match self.engine.commit(alloc, disk, batch) {
+        match self.engine.commit(alloc, disk, batches) {
             Ok(()) => Ok(()),
             Err(fault) => Err(stopped(fault)),
         }
