@@ -21,7 +21,7 @@ use Rattle.carte_state.proofs.Applies.{kept_leaves}
 use Rattle.carte_compact.specs.Rewriting.{Renewed, Rewrites, step_again}
 use Rattle.carte_compact.proofs.Behind.{kept_throughout}
 use Rattle.carte_compact.proofs.Room.{due_has_room}
-use Rattle.carte_engine.specs.Committing.{Breaks, Commits, Follows, HasPassed, IsBase, IsDue, IsNotDue, Lacks, Readies, Unreadied, behind, seen, step_begun, steps_once, steps_ready, until}
+use Rattle.carte_engine.specs.Committing.{Commits, Follows, HasPassed, IsBase, IsDue, Readies, Unreadied, behind, seen, step_begun, steps_once, steps_ready, until}
 use Rattle.carte_engine.proofs.Steps.{EndsWell, again_made, batch_calls, batch_last, begun_made, begun_passed, begun_through, both_calls, both_made, both_passed, both_through, none_through, passed_since}
 
 -- ---- disks by what is told of them

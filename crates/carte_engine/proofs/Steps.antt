@@ -1,5 +1,5 @@
 -- Stretches of steps, one behind the other.
-use Rattle.std.proofs.Common.{◌≡◌, ◌⊎◌, ℕ, ◌+◌, ◌<◌, ◌≤◌, Bool, true, false, cond, if◌then◌else◌, List, [], ◌∷◌, ◌++◌, Some, None, Result, Ok, Err, refl, sym, ◌∙◌, ap, subst, inl, inr, arith, append-nil}
+use Rattle.std.proofs.Common.{◌≡◌, ◌⊎◌, ℕ, ◌+◌, ◌<◌, ◌≤◌, Bool, true, false, cond, if◌then◌else◌, List, [], ◌∷◌, ◌++◌, Some, None, Result, Ok, Err, sym, ◌∙◌, ap, subst, inl, inr, arith, append-nil}
 use Rattle.carte_io.specs.Disk.{CountsUp, Story, moments}
 use Rattle.carte_io.specs.Stations.{Step, StepsThrough, calls_in, last_of}
 use Rattle.carte_io.proofs.Acknowledged.{AreMade, calls_in-append, last_of-append, steps_none, steps_then}
