@@ -1,11 +1,9 @@
 -- A session that nothing hinders is done, or memory runs out.
-use Rattle.std.proofs.Common.{◌≡◌, ℕ, ◌+◌, ◌<◌, ◌≤◌, true, false, List, [], ◌∷◌, ◌++◌, length, Result, Ok, Err, refl, sym, ◌∙◌, ap, subst, inl, inr, ◌⊎◌, arith}
+use Rattle.std.proofs.Common.{◌≡◌, ℕ, ◌+◌, true, List, [], ◌∷◌, ◌++◌, length, Ok, Err, refl, sym, ◌∙◌, ap, subst, inl, inr, arith}
 use Rattle.carte_io.specs.Causes.{Rose}
-use Rattle.carte_io.specs.Streams.{SinkState, SourceState}
 use Rattle.carte_record.specs.declared.batch.Batch.{Batch}
 use Rattle.carte_session.specs.Lines.{IsNext, lines_of}
-use Rattle.carte_session.specs.Session.{Goes, IsSession}
-use Rattle.carte_session.specs.declared.end.SessionEnd.{SessionEnd}
+use Rattle.carte_session.specs.Session.{Goes}
 use Rattle.carte_session.specs.declared.end.SessionEnd.TheVariants.{Machine, NoMemory, ReadFault, TooLong, WriteFault}
 use Rattle.carte_session.specs.declared.end.StepEnd.{StepEnd}
 use Rattle.carte_session.specs.declared.end.StepEnd.TheVariants as line_end
@@ -19,7 +17,7 @@ use Rattle.carte_engine.specs.Committing.{FitAll}
 use Rattle.carte_engine.proofs.Several.{fit_not_full, puts_faults, stops_rose}
 use Rattle.carte_shell.specs.Answers.{Answers, Brings, Ends, Obeys}
 use Rattle.carte_shell.specs.Commits.{Stops, disk_between}
-use Rattle.carte_shell.specs.Lasting.{AllFit, IsDoneOrShort, NoneFailed, SessionIsDone}
+use Rattle.carte_shell.specs.Lasting.{IsDoneOrShort, SessionIsDone}
 use Rattle.carte_shell.specs.Replies.{Said}
 use Rattle.carte_shell.specs.Scenes.{Scene}
 

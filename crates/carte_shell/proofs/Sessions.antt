@@ -1,5 +1,5 @@
 -- Whatever end a session comes to, it leaves the state sound.
-use Rattle.std.proofs.Common.{◌≡◌, ℕ, ◌+◌, List, [], ◌∷◌, ◌++◌, length, Result, Ok, Err, refl, sym, ◌∙◌, ap, subst, inl, inr, ◌⊎◌, arith, append_assoc, append-nil}
+use Rattle.std.proofs.Common.{◌≡◌, ℕ, ◌+◌, List, [], ◌∷◌, ◌++◌, length, Result, Ok, Err, refl, sym, ◌∙◌, ap, subst, inl, inr, ◌⊎◌, append_assoc, append-nil}
 use Rattle.carte_io.specs.Disk.{LeavesOnly}
 use Rattle.carte_io.proofs.Images.{leaves_more, leaves_then}
 use Rattle.carte_book.specs.Book.{Book}
@@ -15,7 +15,7 @@ use Rattle.carte_sound.proofs.Begins.{behind_sound, front_distinct}
 use Rattle.carte_shell.specs.Answers.{Answers, Ends}
 use Rattle.carte_shell.specs.Books.{AreBooks, IsBookAt}
 use Rattle.carte_shell.specs.Scenes.{Scene}
-use Rattle.carte_shell.specs.Sound.{KeepsSound, LeavesSound, SessionStaysSound, StandsSound, StaysSound}
+use Rattle.carte_shell.specs.Sound.{KeepsSound, LeavesSound, SessionStaysSound, StaysSound}
 use Rattle.carte_shell.proofs.Sounding.{end_sound, lines_sound}
 
 -- one line more

@@ -1,5 +1,5 @@
 -- Lines leave the state sound, whatever crash comes.
-use Rattle.std.proofs.Common.{◌≡◌, ℕ, ◌+◌, Bool, true, false, if◌then◌else◌, List, [], ◌∷◌, ◌++◌, Result, Ok, Err, refl, sym, ◌∙◌, ap, subst, inl, inr, ◌⊎◌, arith, append_assoc, append-nil}
+use Rattle.std.proofs.Common.{◌≡◌, ℕ, ◌+◌, true, List, [], ◌∷◌, ◌++◌, Result, Ok, Err, refl, sym, ◌∙◌, ap, subst, inl, inr, ◌⊎◌, arith, append_assoc, append-nil}
 use Rattle.carte_io.specs.Disk.{LeavesOnly, Story}
 use Rattle.carte_io.proofs.Images.{leaves_more, leaves_none, leaves_then}
 use Rattle.carte_value.specs.declared.value.Value.{Value}
@@ -14,9 +14,7 @@ use Rattle.carte_engine.proofs.Emptying.{clearing_empties}
 use Rattle.carte_engine.proofs.Keeping.{plan_sound}
 use Rattle.carte_engine.proofs.Several.{all_leaves, puts_kept, puts_limit, puts_rest}
 use Rattle.carte_record.specs.declared.batch.Batch.{Batch}
-use Rattle.carte_record.specs.Folds.{apply}
-use Rattle.carte_record.specs.Kept.{SomeKept, nothing_kept}
-use Rattle.carte_session.specs.Session.{Goes}
+use Rattle.carte_record.specs.Kept.{SomeKept}
 use Rattle.carte_session.specs.declared.end.StepEnd.{StepEnd}
 use Rattle.carte_sound.specs.Base.{HasDistinctDigests}
 use Rattle.carte_sound.specs.Parts.{applied}
@@ -30,8 +28,8 @@ use Rattle.carte_state.proofs.Applies.{kept_leaves}
 use Rattle.carte_words.specs.Lines.{Means}
 use Rattle.carte_words.specs.declared.line.Line.{Line}
 use Rattle.carte_words.specs.declared.line.Line.TheVariants as line
-use Rattle.carte_shell.specs.Answers.{Answers, Brings, Ends, Obeys, Plans, SetsInput}
-use Rattle.carte_shell.specs.Books.{AreBooks, Edits, IsBookAt, LooksAt}
+use Rattle.carte_shell.specs.Answers.{Answers, Brings, Obeys, Plans}
+use Rattle.carte_shell.specs.Books.{Edits, IsBookAt}
 use Rattle.carte_shell.specs.Chosen.{how_of, scheduler_of}
 use Rattle.carte_shell.specs.Commits.{Commits, Puts, Stops, disk_between}
 use Rattle.carte_shell.specs.Replies.{Said}
@@ -94,14 +92,18 @@ built_sound m targets a Bs plans H sound distinct some rest are =
     let h = how_of m.choices.rebuilder in
     plan_sound s h (kept_in m.stand) H m.book targets a some rest sound distinct (subst (Leads s h (kept_in m.stand) m.book targets a) are (plans H sound distinct).leads)
 
-emptied : (m : Scene) (B : Batch) → B ≡ clearing m.stand → apply B (kept_in m.stand) ≡ nothing_kept
-emptied m B is = ap (λ (C : Batch). apply C (kept_in m.stand)) is ∙ clearing_empties m.stand
+-- the front of a list with one item has none, or it alone
+one_front : (C : Batch) (some rest : List Batch) → C ∷ [] ≡ some ++ rest → (some ≡ []) ⊎ (some ≡ C ∷ [])
+one_front C [] rest are = inl refl
+one_front C (B ∷ []) rest are = inr cc
+one_front C (B ∷ D ∷ some) rest are = cc
 
 cleaned_sound : (m : Scene) (Bs : List Batch) → Bs ≡ clearing m.stand ∷ [] → (H : List Book) → IsSound (kept_in m.stand) H → HasDistinctDigests (H ++ [])
     → (some rest : List Batch) → Bs ≡ some ++ rest → IsSound (applied (kept_in m.stand) some) (H ++ [])
-cleaned_sound m Bs is H sound distinct [] rest are = behind_sound (kept_in m.stand) H [] sound
-cleaned_sound m Bs is H sound distinct (B ∷ []) rest are = subst (λ (L : SomeKept). IsSound L (H ++ [])) (sym (emptied m B cc)) (nothing_sound (H ++ []))
-cleaned_sound m Bs is H sound distinct (B ∷ C ∷ some) rest are = cc
+cleaned_sound m Bs is H sound distinct some rest are = elim (one_front (clearing m.stand) some rest (sym is ∙ are)) [
+  | inl none ↦ subst (λ (Cs : List Batch). IsSound (applied (kept_in m.stand) Cs) (H ++ [])) (sym none) (behind_sound (kept_in m.stand) H [] sound)
+  | inr one ↦ subst (λ (Cs : List Batch). IsSound (applied (kept_in m.stand) Cs) (H ++ [])) (sym one) (subst (λ (L : SomeKept). IsSound L (H ++ [])) (sym (clearing_empties m.stand)) (nothing_sound (H ++ [])))
+]
 
 -- ---- edits
 

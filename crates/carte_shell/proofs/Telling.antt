@@ -1,6 +1,5 @@
 -- The lines of an explanation.
-use Rattle.std.proofs.Common.{◌≡◌, ℕ, ◌+◌, ◌<◌, List, [], ◌∷◌, ◌++◌, map, take, get_or, length, Result, Ok, Err, refl, sym, ◌∙◌, ap, subst, inl, inr, append-nil}
-use Rattle.std.specs.Prelude.{flat_map}
+use Rattle.std.proofs.Common.{◌≡◌, ℕ, ◌+◌, ◌<◌, List, [], ◌∷◌, ◌++◌, map, take, get_or, length, Result, Err, refl, sym, ◌∙◌, ap, subst, inl, inr, append-nil}
 use Rattle.std.proofs.lemmas.Grind.{flat_map-append}
 use Rattle.std.proofs.lemmas.List.{map-append, take_more}
 use Rattle.carte_value.specs.Truths.{Among}
