@@ -1,27 +1,28 @@
 -- The status that is due of a build over a book that is had in some way: each cause of another one contradicts it.
-use Rattle.std.proofs.Common.{◌≡◌, ℕ, ◌<◌, false, List, [], ◌∷◌, ◌++◌, refl, sym, ap, ◌∙◌, inl, inr, ◌⊎◌, subst, arith}
+use Rattle.std.proofs.Common.{◌≡◌, ℕ, List, [], ◌∷◌, ◌++◌, Result, Ok, Err, refl, sym, ap, ◌∙◌, inl, inr, ◌⊎◌, subst}
 use Rattle.carte_book.specs.Book.{Book}
 use Rattle.carte_book.specs.declared.reason.Reason.{Reason}
-use Rattle.carte_record.specs.Empty.{is_empty}
 use Rattle.carte_record.specs.Kept.{SomeKept}
 use Rattle.carte_record.specs.declared.batch.Batch.{Batch}
 use Rattle.carte_sound.specs.Base.{HasDistinctDigests}
 use Rattle.carte_sound.specs.Sound.{IsSound}
 use Rattle.carte_state.specs.Folding.{Keeps}
-use Rattle.carte_state.specs.States.{HasRoom, Stand, needs_for}
+use Rattle.carte_state.specs.declared.fault.ApplyFault.{ApplyFault}
+use Rattle.carte_state.specs.declared.fault.ApplyFault.TheVariants as applying
 use Rattle.carte_state.proofs.Folds.{bad_at_one, keeps_one, keeps_or_bad}
 use Rattle.carte_words.specs.declared.words.Words.{Words as Asked}
+use Rattle.carte_engine.specs.Committing.{behind as onwards}
 use Rattle.carte_engine.specs.Schedulers.{IsServed, IsRefusedFor}
 use Rattle.carte_engine.specs.declared.answer.Answer.{Answer}
 use Rattle.carte_engine.specs.declared.answer.Answer.TheVariants as answer
+use Rattle.carte_engine.proofs.Several.{fit_not_full, overfilled}
 use Rattle.carte_report.specs.declared.status.Status.{Status}
 use Rattle.carte_report.specs.declared.status.Status.TheVariants.{Done, BookRefused, Usage, BuildRefused, ReadFault, WriteFault, DiskFault, BadState, StateFull, NoMemory, ScriptTooLong}
 use Rattle.carte_top.specs.Around.{OverDisk, OverSink, TakesAll}
 use Rattle.carte_top.specs.Chosen.{scheduler_of}
-use Rattle.carte_top.specs.Due.{AllFit, AllOver, IsBadNow, IsDueOver, IsFound, IsHindered, IsKept, IsPlanned}
-use Rattle.carte_top.specs.Found.{Commits, Found, IsOver, IsPut, Overfills, Replies, behind}
+use Rattle.carte_top.specs.Due.{AllFit, AllOver, IsBadNow, IsDueOver, IsFound, IsFull, IsFullOver, IsHindered, IsKept, IsPlanned, NoneFit}
+use Rattle.carte_top.specs.Found.{ArePut, Commits, Found, IsStopped, Overfills, Replies, behind}
 use Rattle.carte_top.specs.Outcome.{BuiltOver, IsBad}
-use Rattle.carte_top.proofs.Putting.{base_limit, base_of}
 use Rattle.carte_top.proofs.Unique.{one_refusal, served_or_refused}
 
 -- ---- the state and its room
@@ -41,25 +42,46 @@ module _ (limit : ℕ) (d : OverDisk) where
 pub bad_one : (limit : ℕ) (d : OverDisk) (at offset : ℕ) → IsBadNow limit d at → IsBad limit d offset → BadState offset ≡ BadState at
 bad_one limit d at offset is bad = ap BadState (bad_at_one limit d.old.now.reads offset at (bad is.0).0 is.1)
 
-fits_or_over : (limit : ℕ) (base : Stand) (B : Batch) (needed : ℕ) → HasRoom base B → base.journal.limit ≡ limit → is_empty B ≡ false → needed ≡ needs_for base B → limit < needed → ⊥
-fits_or_over limit base B needed (inl empty) same filled is over = cc
-fits_or_over limit base B needed (inr fits) same filled is over = omega (arith, fits, same, is, over)
+-- what a commit that passed, or one that was too much, says of room and needs
+abbrev Passed : Result (Unit {0}) ApplyFault
+Passed = Ok tt
 
--- what such a batch says of a limit, against what all of them say
-module _ (limit : ℕ) (d : OverDisk) (May : Batch → Type 0) (K : SomeKept) (B : Batch) (may : May B) (told : d.tells) where
-  pub all_fit : AllFit limit d May → (needed most : ℕ) → is_empty B ≡ false → IsOver limit d K B needed most → ⊥
-  all_fit fit needed most filled over =
-      fits_or_over limit over.from.base B needed (fit B may over.from.base (base_of limit d K B over.from told)) (base_limit limit d K B over.from) filled over.needed_is over.over
+never_passed : (needed most : ℕ) → (Passed ≡ Err (applying.Full needed most)) ⊎ (Passed ≡ Err applying.DiskFault) ⊎ (Passed ≡ Err applying.NoMemory) → ⊥
+never_passed needed most (inl is) = cc
+never_passed needed most (inr (inl is)) = cc
+never_passed needed most (inr (inr is)) = cc
 
-  pub all_over : (needed most : ℕ) → AllOver limit d needed most May → IsPut limit d K B → ⊥
-  all_over needed most all put =
-      let is = all.2 B may in
-      fits_or_over limit put.from.base B needed put.room (base_limit limit d K B put.from) is.0 (is.1 put.from.base (base_of limit d K B put.from told)) all.1
+abbrev TooMuch : ℕ → ℕ → Result (Unit {0}) ApplyFault
+TooMuch needed most = Err (applying.Full needed most)
 
-  pub over_same : (needed most n m : ℕ) → AllOver limit d needed most May → IsOver limit d K B n m → StateFull n m ≡ StateFull needed most
-  over_same needed most n m all over =
-      let numbers : n ≡ needed = over.needed_is ∙ sym ((all.2 B may).1 over.from.base (base_of limit d K B over.from told)) in
-      let limits : m ≡ most = over.most_is ∙ sym all.0 in
+same_needed : (n m needed most : ℕ) → (TooMuch n m ≡ TooMuch needed most) ⊎ (TooMuch n m ≡ Err applying.DiskFault) ⊎ (TooMuch n m ≡ Err applying.NoMemory) → n ≡ needed
+same_needed n m needed most (inl is) = cc
+same_needed n m needed most (inr (inl is)) = cc
+same_needed n m needed most (inr (inr is)) = cc
+
+pub none_fit : (limit : ℕ) (d : OverDisk) (May : List Batch → Type 0) (needed most : ℕ) → AllOver limit d needed most May → NoneFit limit d May
+none_fit limit d May needed most all Bs may = (needed, all.2 Bs may)
+
+-- what such batches say of a limit, against what all of them say
+module _ (limit : ℕ) (d : OverDisk) (May : List Batch → Type 0) (K : SomeKept) (Bs : List Batch) (may : May Bs) (told : d.tells) where
+  pub all_fit : AllFit limit d May → (needed most : ℕ) → IsStopped limit d K Bs (applying.Full needed most) → ⊥
+  all_fit fit needed most stopped =
+      let found = stopped.found in
+      fit_not_full (onwards d found.story) found.stand stopped.last Bs needed most stopped.stops (fit Bs may found.stand (found.loaded told) found.limit_is)
+
+  pub no_room : NoneFit limit d May → ArePut limit d K Bs → ⊥
+  no_room none put =
+      let found = put.found in
+      let over = none Bs may in
+      never_passed over.0 found.stand.journal.limit
+      (overfilled (onwards d found.story) found.stand put.last Bs Passed over.0 put.puts (over.1 found.stand (found.loaded told) found.limit_is))
+
+  pub over_same : (needed most n m : ℕ) → AllOver limit d needed most May → IsStopped limit d K Bs (applying.Full n m) → m ≡ limit → StateFull n m ≡ StateFull needed most
+  over_same needed most n m all stopped most_is =
+      let found = stopped.found in
+      let numbers : n ≡ needed = same_needed n m needed found.stand.journal.limit
+      (overfilled (onwards d found.story) found.stand stopped.last Bs (TooMuch n m) needed stopped.stops (all.2 Bs may found.stand (found.loaded told) found.limit_is)) in
+      let limits : m ≡ most = most_is ∙ sym all.0 in
       cc
 
 -- ---- a build
@@ -109,7 +131,7 @@ module _ (limit : ℕ) (d : OverDisk) (Is Has : (Book → Type 0) → Type 0) (o
     abbrev Replied : Book → SomeKept → Type 0
     Replied = Replies limit w d k (behind front TakesAll)
 
-    -- where there is room for each batch that it may commit
+    -- where there is room for all batches that it may commit
     module _ (X : Book → Type 0) (is : Is (λ b. X b × IsFound limit d b (λ K. AllFit limit d (IsPlanned w b K)))) where
       abbrev Fits : Book → SomeKept → Type 0
       Fits b K = AllFit limit d (IsPlanned w b K)
@@ -120,7 +142,7 @@ module _ (limit : ℕ) (d : OverDisk) (Is Has : (Book → Type 0) → Type 0) (o
       not_full : (needed most : ℕ) → Has (λ b. Found limit d (Overfills limit w d needed most b)) → ⊥
       not_full needed most did =
           let m = meets (λ b. Overfills limit w d needed most b) did in
-          all_fit limit d (IsPlanned w m.book m.kept) m.kept m.did.batch (m.did.answer, m.did.answers m.history m.sound m.distinct) m.told m.room needed most m.did.filled m.did.over
+          all_fit limit d (IsPlanned w m.book m.kept) m.kept m.did.halts.batches (m.did.halts.answer, m.did.halts.answers m.history m.sound m.distinct) m.told m.room needed most m.did.halts.stopped
 
       refused : (reason : Reason) → Has (λ b. Found limit d (λ K. Commits limit w d b K (answer.Refused reason))) → (b : Book) × X b × IsRefusedFor (scheduler_of w.scheduler) b w.targets reason
       refused reason did =
@@ -136,15 +158,12 @@ module _ (limit : ℕ) (d : OverDisk) (Is Has : (Book → Type 0) → Type 0) (o
       not_bad has offset bad = never_bad (λ b. X b × IsFound limit d b (Fits b)) X Fits (λ b part. part) is has offset bad
 
     -- where there is room for none
-    module _ (needed most : ℕ) (is : Is (λ b. IsFound limit d b (λ K. AllOver limit d needed most (IsPlanned w b K)))) where
-      abbrev Over : Book → SomeKept → Type 0
-      Over b K = AllOver limit d needed most (IsPlanned w b K)
-
+    module _ (Over : Book → SomeKept → Type 0) (none : (b : Book) (K : SomeKept) → Over b K → NoneFit limit d (IsPlanned w b K)) (is : Is (λ b. IsFound limit d b (Over b))) where
       meets_over : (Q : Book → SomeKept → Type 0) → Has (λ b. Found limit d (Q b)) → Meets limit d (λ b. Unit {0}) Over Q
       meets_over Q did = meet (λ b. IsFound limit d b (Over b)) (λ b. Unit {0}) Over Q (λ b part. (tt, part)) is did
 
       not_committed : (b : Book) (K : SomeKept) (H : List Book) (a : Answer) → d.tells → IsSound K H → HasDistinctDigests (H ++ b ∷ []) → Over b K → Commits limit w d b K a → ⊥
-      not_committed b K H a told sound distinct all did = all_over limit d (IsPlanned w b K) K did.batch (a, did.answers H sound distinct) told needed most all did.put
+      not_committed b K H a told sound distinct over did = no_room limit d (IsPlanned w b K) K did.batches (a, did.answers H sound distinct) told (none b K over) did.put
 
       not_done : Has (λ b. Found limit d (Replied b)) → ⊥
       not_done did =
@@ -156,13 +175,34 @@ module _ (limit : ℕ) (d : OverDisk) (Is Has : (Book → Type 0) → Type 0) (o
           let m = meets_over (λ b K. Commits limit w d b K (answer.Refused reason)) did in
           not_committed m.book m.kept m.history (answer.Refused reason) m.told m.sound m.distinct m.room m.did
 
-      as_full : (n most_told : ℕ) → Has (λ b. Found limit d (Overfills limit w d n most_told b)) → StateFull n most_told ≡ StateFull needed most
-      as_full n most_told did =
-          let m = meets_over (λ b. Overfills limit w d n most_told b) did in
-          over_same limit d (IsPlanned w m.book m.kept) m.kept m.did.batch (m.did.answer, m.did.answers m.history m.sound m.distinct) m.told needed most n most_told m.room m.did.over
-
       not_bad_over : Has (λ b. Unit {0}) → (offset : ℕ) → IsBad limit d offset → ⊥
       not_bad_over has offset bad = never_bad (λ b. IsFound limit d b (Over b)) (λ b. Unit {0}) Over (λ b part. (tt, part)) is has offset bad
+
+    pub full_due : (status : Status) → BuiltOver Has limit w front d k status → IsFullOver Is limit w d → IsFull status ⊎ IsHindered status
+    full_due WriteFault did is = inr tt
+    full_due DiskFault did is = inr tt
+    full_due NoMemory did is = inr tt
+    full_due ReadFault did is = absurd did
+    full_due (BookRefused fault) did is = absurd did
+    full_due (Usage fault) did is = absurd did
+    full_due ScriptTooLong did is = absurd did
+    full_due (StateFull n m) did is = inl tt
+    full_due Done did is = absurd (not_done (λ b K. NoneFit limit d (IsPlanned w b K)) (λ b K none. none) is did)
+    full_due (BuildRefused r) did is = absurd (not_kept (λ b K. NoneFit limit d (IsPlanned w b K)) (λ b K none. none) is r did.0)
+    full_due (BadState at) did is = absurd (not_bad_over (λ b K. NoneFit limit d (IsPlanned w b K)) (λ b K none. none) is did.0 at did.1)
+
+    -- and each needs as many bytes
+    module _ (needed most : ℕ) where
+      abbrev Over : Book → SomeKept → Type 0
+      Over b K = AllOver limit d needed most (IsPlanned w b K)
+
+      over_none : (b : Book) (K : SomeKept) → Over b K → NoneFit limit d (IsPlanned w b K)
+      over_none b K all = none_fit limit d (IsPlanned w b K) needed most all
+
+      as_full : Is (λ b. IsFound limit d b (Over b)) → (n most_told : ℕ) → Has (λ b. Found limit d (Overfills limit w d n most_told b)) → StateFull n most_told ≡ StateFull needed most
+      as_full is n most_told did =
+          let m = meets_over Over over_none is (λ b. Overfills limit w d n most_told b) did in
+          over_same limit d (IsPlanned w m.book m.kept) m.kept m.did.halts.batches (m.did.halts.answer, m.did.halts.answers m.history m.sound m.distinct) m.told needed most n most_told m.room m.did.halts.stopped m.did.most_is
 
     abbrev IsServedBy : Book → Type 0
     IsServedBy b = IsServed (scheduler_of w.scheduler) b w.targets
@@ -188,15 +228,15 @@ module _ (limit : ℕ) (d : OverDisk) (Is Has : (Book → Type 0) → Type 0) (o
     over_due Done Done did is = inl refl
     over_due Done (BuildRefused r) did is = let at = served (IsRefusedBy r) is did in absurd (served_or_refused (scheduler_of w.scheduler) at.0 w.targets r at.2 at.1)
     over_due Done (BadState at) did is = absurd (not_found Replied at is did)
-    over_due Done (StateFull n m) did is = absurd (not_done n m is did)
+    over_due Done (StateFull n m) did is = absurd (not_done (Over n m) (over_none n m) is did)
     over_due (BuildRefused r) Done did is = let at = refused IsServedBy is r did.0 in absurd (served_or_refused (scheduler_of w.scheduler) at.0 w.targets r at.1 at.2)
     over_due (BuildRefused r) (BuildRefused q) did is = let at = refused (IsRefusedBy q) is r did.0 in inl (ap BuildRefused (one_refusal (scheduler_of w.scheduler) at.0 w.targets r q at.2 at.1))
     over_due (BuildRefused r) (BadState at) did is = absurd (not_found (λ b K. Commits limit w d b K (answer.Refused r)) at is did.0)
-    over_due (BuildRefused r) (StateFull n m) did is = absurd (not_kept n m is r did.0)
+    over_due (BuildRefused r) (StateFull n m) did is = absurd (not_kept (Over n m) (over_none n m) is r did.0)
     over_due (BadState at) Done did is = absurd (not_bad IsServedBy is did.0 at did.1)
     over_due (BadState at) (BuildRefused r) did is = absurd (not_bad (IsRefusedBy r) is did.0 at did.1)
     over_due (BadState at) (BadState offset) did is = inl (bad_one limit d offset at (one (λ b. IsBadNow limit d offset) (λ b. Unit {0}) is did.0).1 did.1)
-    over_due (BadState at) (StateFull n m) did is = absurd (not_bad_over n m is did.0 at did.1)
+    over_due (BadState at) (StateFull n m) did is = absurd (not_bad_over (Over n m) (over_none n m) is did.0 at did.1)
     over_due (StateFull n m) Done did is = absurd (not_full IsServedBy is n m did.0)
     over_due (StateFull n m) (BuildRefused r) did is = absurd (not_full (IsRefusedBy r) is n m did.0)
     over_due (StateFull n m) (BadState at) did is = absurd (not_found (λ b. Overfills limit w d n m b) at is did.0)

@@ -23,10 +23,10 @@ use Rattle.carte_report.specs.declared.status.Status.{Status}
 use Rattle.carte_report.specs.declared.status.Status.TheVariants.{Done, BookRefused, Usage, BuildRefused, ReadFault, WriteFault, DiskFault, BadState, StateFull, NoMemory, ScriptTooLong}
 use Rattle.carte_top.specs.Around.{OverSource, OverDisk, OverSink, TakesAll}
 use Rattle.carte_top.specs.Chosen.{scheduler_of, BookOfKind}
-use Rattle.carte_top.specs.Due.{AllFit, AllOver, IsBadNow, IsBook, IsBuildDue, IsCleanDue, IsDue, IsDueFor, IsDueOver, IsExplainDue, IsFound, IsGenerateDue, IsHindered, IsPlanned, IsSessionDue}
-use Rattle.carte_top.specs.Found.{Clears, ClearsNot, Commits, Found, Holds, IsClearing, Makes, Overfills, Refuses, Replies, Explains, Carries, for_last, front_of}
+use Rattle.carte_top.specs.Due.{AllFit, AllOver, IsBadNow, IsBook, IsBuildDue, IsCleanDue, IsDue, IsDueFor, IsDueOver, IsExplainDue, IsFound, IsFull, IsFullDue, IsFullFor, IsFullOver, IsGenerateDue, IsHindered, IsPlanned, IsSessionDue, NoneFit}
+use Rattle.carte_top.specs.Found.{Clears, ClearsTooMuch, Commits, Found, Holds, AreClearing, Makes, Overfills, Refuses, Replies, Explains, Carries, for_last, front_of}
 use Rattle.carte_top.specs.Outcome.{Asks, Built, Cleaned, ComesTo, Does, Explained, Generated, IsBad, Lacks, Ran, Sat}
-use Rattle.carte_top.proofs.BuildsDue.{all_fit, all_over, bad_one, found_one, found_or_bad, kept_or_bad, meet, over_due, over_same}
+use Rattle.carte_top.proofs.BuildsDue.{all_fit, bad_one, found_one, found_or_bad, full_due, kept_or_bad, meet, no_room, none_fit, over_due, over_same}
 use Rattle.carte_top.proofs.Unique.{one_generated, one_meant, one_of_kind, one_outcome}
 
 -- ---- the book
@@ -101,6 +101,11 @@ module _ (limit : ℕ) (w : Asked) (s : OverSource) (d : OverDisk) (k : OverSink
   built_due (StateFull n m) (BookRefused f) did is = absurd (is_none w.kind s (λ b. Found limit d (Overfills limit w d n m b)) f is.0 is.1 did.0)
   built_due status due did is = over_due limit d (IsBook w.kind s) (Holds w.kind s) (over_one w.kind s) w [] k status due did is
 
+  built_full : (status : Status) → Built limit w s d k status → IsFullOver (IsBook w.kind s) limit w d → IsFull status ⊎ IsHindered status
+  built_full ReadFault did is = inr tt
+  built_full (BookRefused f) did is = absurd (is_book w.kind s (λ b. IsFound limit d b (λ K. NoneFit limit d (IsPlanned w b K))) f is did.0)
+  built_full status did is = full_due limit d (IsBook w.kind s) (Holds w.kind s) (over_one w.kind s) w [] k status did is
+
 -- ---- a generated book
 
 -- it is one book
@@ -114,7 +119,7 @@ made_due limit w d k status due did is = over_due limit d (Makes w) (Makes w) (o
 
 module _ (limit : ℕ) (d : OverDisk) (k : OverSink) where
   abbrev Fits : SomeKept → Type 0
-  Fits K = AllFit limit d (IsClearing K)
+  Fits K = AllFit limit d (AreClearing K)
 
   cleaned_due : (status due : Status) → Cleaned limit d k status → IsCleanDue limit d due → (status ≡ due) ⊎ IsHindered status
   cleaned_due ReadFault due did is = inr tt
@@ -136,18 +141,20 @@ module _ (limit : ℕ) (d : OverDisk) (k : OverSink) where
   cleaned_due Done Done did is = inl refl
   cleaned_due Done (BadState at) did is = absurd (found_or_bad limit d (Clears limit d k TakesAll) at is did)
   cleaned_due Done (StateFull n m) did is =
-      let at = found_one limit d (λ K. AllOver limit d n m (IsClearing K)) (Clears limit d k TakesAll) is did in
-      absurd (all_over limit d (IsClearing at.0) at.0 at.3.batch at.3.clearing is.0 n m at.2 at.3.put)
+      let at = found_one limit d (λ K. AllOver limit d n m (AreClearing K)) (Clears limit d k TakesAll) is did in
+      absurd (no_room limit d (AreClearing at.0) at.0 (at.3.batch ∷ []) (at.3.batch, at.3.clearing, refl) is.0 (none_fit limit d (AreClearing at.0) n m at.2) at.3.put)
   cleaned_due (BadState at) Done did is = absurd (kept_or_bad limit d Fits at is did.0)
   cleaned_due (BadState at) (BadState offset) did is = inl (bad_one limit d offset at is did.0)
-  cleaned_due (BadState at) (StateFull n m) did is = absurd (kept_or_bad limit d (λ K. AllOver limit d n m (IsClearing K)) at is did.0)
+  cleaned_due (BadState at) (StateFull n m) did is = absurd (kept_or_bad limit d (λ K. AllOver limit d n m (AreClearing K)) at is did.0)
   cleaned_due (StateFull n m) Done did is =
-      let at = found_one limit d Fits (ClearsNot limit d n m) is did.0 in
-      absurd (all_fit limit d (IsClearing at.0) at.0 at.3.batch at.3.clearing is.0 at.2 n m at.3.filled at.3.over)
-  cleaned_due (StateFull n m) (BadState at) did is = absurd (found_or_bad limit d (ClearsNot limit d n m) at is did.0)
+      let at = found_one limit d Fits (ClearsTooMuch limit d n m) is did.0 in
+      let clears = at.3.clears_not in
+      absurd (all_fit limit d (AreClearing at.0) at.0 (clears.batch ∷ []) (clears.batch, clears.clearing, refl) is.0 at.2 n m clears.stopped)
+  cleaned_due (StateFull n m) (BadState at) did is = absurd (found_or_bad limit d (ClearsTooMuch limit d n m) at is did.0)
   cleaned_due (StateFull n m) (StateFull needed most) did is =
-      let at = found_one limit d (λ K. AllOver limit d needed most (IsClearing K)) (ClearsNot limit d n m) is did.0 in
-      inl (over_same limit d (IsClearing at.0) at.0 at.3.batch at.3.clearing is.0 needed most n m at.2 at.3.over)
+      let at = found_one limit d (λ K. AllOver limit d needed most (AreClearing K)) (ClearsTooMuch limit d n m) is did.0 in
+      let clears = at.3.clears_not in
+      inl (over_same limit d (AreClearing at.0) at.0 (clears.batch ∷ []) (clears.batch, clears.clearing, refl) is.0 needed most n m at.2 clears.stopped at.3.most_is)
 
 -- ---- an explanation
 
@@ -266,6 +273,23 @@ module _ (limit : ℕ) (words : List (List ℕ)) (s c : OverSource) (d : OverDis
   asked_due status due did is =
       let same : did.0 ≡ is.0 = one_meant words did.0 is.0 did.1 is.1 in
       by_command is.0.command is.0 status due (subst (λ (w : Asked). Does w.command limit w s c d k status) same did.2) is.2
+
+  full_by : (to : Command) (w : Asked) (status : Status) → Does to limit w s c d k status → IsFullFor to limit s d w → IsFull status ⊎ IsHindered status
+  full_by command.Build w status did is = built_full limit w s d k status did is
+  full_by command.Generate w status did is = full_due limit d (Makes w) (Makes w) (one_made w) (for_last w) (front_of w) k status did.1 is
+  full_by command.Session w status did is = absurd is
+  full_by command.Explain w status did is = absurd is
+  full_by command.Clean w status did is = absurd is
+
+  asked_full : (status : Status) → Asks words (λ w. Does w.command limit w s c d k status) → IsFullDue limit words s d → IsFull status ⊎ IsHindered status
+  asked_full status did is =
+      let same : did.0 ≡ is.0 = one_meant words did.0 is.0 did.1 is.1 in
+      full_by is.0.command is.0 status (subst (λ (w : Asked). Does w.command limit w s c d k status) same did.2) is.2
+
+  pub comes_full : (status : Status) → Ran limit words s c d k status → IsFullDue limit words s d → IsFull status ⊎ IsHindered status
+  comes_full NoMemory ran is = inr tt
+  comes_full (Usage f) ran is = let e = ran.0 in let g = is.1 in cc
+  comes_full status ran is = asked_full status ran is
 
   pub comes : (status due : Status) → Ran limit words s c d k status → IsDue limit words s d due → (status ≡ due) ⊎ IsHindered status
   comes NoMemory due ran is = inr tt

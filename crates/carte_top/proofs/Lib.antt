@@ -5,6 +5,7 @@ pub mod Clearing
 pub mod Books
 pub mod Lacking
 pub mod Serving
+pub mod Between
 pub mod Requesting
 pub mod Sounds
 pub mod BuildsDue

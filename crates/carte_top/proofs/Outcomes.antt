@@ -1,8 +1,5 @@
 -- The whole of a run, from what was done and what was said.
 use Rattle.std.proofs.Common.{◌≡◌, ℕ, true, false, List, Result, Ok, Err, refl, sym, subst, inl, inr, ◌⊎◌}
-use Rattle.carte_record.specs.Kept.{SomeKept}
-use Rattle.carte_record.specs.declared.batch.Batch.{Batch}
-use Rattle.carte_state.specs.Folding.{Keeps}
 use Rattle.carte_words.specs.Words.{words_of, IsCause}
 use Rattle.carte_words.specs.declared.fault.WordsFault.{WordsFault}
 use Rattle.carte_words.specs.declared.fault.WordsFault.TheVariants.{NoMemory as WordsNoMemory}
@@ -15,12 +12,11 @@ use Rattle.carte_session.specs.declared.end.StepEnd.TheVariants as line
 use Rattle.carte_report.specs.declared.status.Status.{Status}
 use Rattle.carte_report.specs.declared.status.Status.TheVariants.{Done, BookRefused, Usage, BuildRefused, ReadFault, WriteFault, DiskFault, BadState, StateFull, NoMemory, ScriptTooLong}
 use Rattle.carte_top.specs.Around.{OverSource, OverDisk, OverSink, Around, IsUnread, IsUnvisited, IsUntouched}
-use Rattle.carte_top.specs.Found.{IsOver}
 use Rattle.carte_top.specs.Sound.{KeepsOn}
-use Rattle.carte_top.specs.Outcome.{Asks, ComesTo, Does, Ended, EndsShort, IsLeftSo, IsShort, IsSpared, KeepsRefused, Ran, Sat, TellsEither, TellsSources, status_of}
+use Rattle.carte_top.specs.Outcome.{Asks, ComesTo, Does, Ended, EndsShort, IsShort, IsSpared, KeepsRefused, Ran, Sat, StopsShort, TellsEither, TellsSources, status_of}
 use Rattle.carte_top.specs.Running.{IsRun, ReadsEnough, Reports, Runs, is_brief, is_spoken, usage_of}
 use Rattle.carte_top.specs.Whole.{IsOutcome}
-use Rattle.carte_top.proofs.Completing.{comes}
+use Rattle.carte_top.proofs.Completing.{comes, comes_full}
 use Rattle.carte_top.proofs.Sounds.{sound_run}
 
 -- its line may want memory, or it is the want of it
@@ -45,23 +41,22 @@ module _ (limit : ℕ) (w : Asked) (s c : OverSource) (d : OverDisk) (k : OverSi
 
   -- what holds of a run whose status is want of memory
   abbrev Short : Type 0
-  Short = (IsUntouched k × (IsLeftSo limit d ⊎ KeepsRefused limit s d w)) ⊎ EndsShort limit s c d k w
+  Short = (IsUntouched k × (IsSpared d ⊎ StopsShort w.command limit s d w ⊎ KeepsRefused limit s d w)) ⊎ EndsShort limit s c d k w
 
   spared : IsUntouched k × IsSpared d → Short
-  spared both = inl (both.0, inl (inl both.1))
+  spared both = inl (both.0, inl both.1)
 
-  left_so : IsUntouched k × IsLeftSo limit d → Short
-  left_so both = inl (both.0, inl both.1)
+  stopped : (to : Command) → w.command ≡ to → IsUntouched k → StopsShort to limit s d w → Short
+  stopped to is untouched stops = inl (untouched, inr (inl (subst (λ (c : Command). StopsShort c limit s d w) (sym is) stops)))
 
-  -- a batch was too much for the file that was made ready for it
-  too_much : IsUntouched k → (K : SomeKept) (B : Batch) (needed most : ℕ) → (d.tells → Keeps limit K d.old.now.reads) → IsOver limit d K B needed most → Short
-  too_much untouched K B needed most keeps over = left_so (untouched, inr (K, keeps, (B, over.from, over.story)))
+  kept : IsUntouched k → KeepsRefused limit s d w → Short
+  kept untouched keeps = inl (untouched, inr (inr keeps))
 
   of_session : (status : Status) → w.command ≡ command.Session → IsLate status → Sat limit w s c d k status → Short
-  of_session status is late (inl (lacks, spared, untouched, unread)) = inl (untouched, inl (inl spared))
+  of_session status is late (inl (lacks, spared, untouched, unread)) = inl (untouched, inl spared)
   of_session status is late (inr (end, told, comes)) = inr (is, short_of end status told late comes)
 
-  -- the statuses whose line may want memory leave the reply unwritten, and all but one the state as it was; but for sessions
+  -- the statuses whose line may want memory leave the reply unwritten, and all but two the state as it was; but for sessions
   of_book : (to : Command) (fault : _) → w.command ≡ to → Does to limit w s c d k (BookRefused fault) → Short
   of_book command.Build fault is did = spared (did.2, λ told. did.1.story)
   of_book command.Session fault is did = of_session (BookRefused fault) is tt did
@@ -73,14 +68,14 @@ module _ (limit : ℕ) (w : Asked) (s c : OverSource) (d : OverDisk) (k : OverSi
   of_build command.Build reason is did =
       let holds = did.0 in
       let found = holds.4 in
-      inl (did.1, inr (inl (is, (holds.0, holds.1, holds.2, holds.3, (found.0, found.1, (reason, found.2))))))
+      kept did.1 (inl (is, (holds.0, holds.1, holds.2, holds.3, (found.0, found.1, (reason, found.2)))))
   of_build command.Session reason is did = of_session (BuildRefused reason) is tt did
   of_build command.Explain reason is did = spared (did.0.1, did.1)
   of_build command.Clean reason is did = absurd did.1
   of_build command.Generate reason is did =
       let makes = did.1.0 in
       let found = makes.2 in
-      inl (did.1.1, inr (inr (is, (makes.0, makes.1, (found.0, found.1, (reason, found.2))))))
+      kept did.1.1 (inr (is, (makes.0, makes.1, (found.0, found.1, (reason, found.2)))))
 
   of_bad : (to : Command) (offset : ℕ) → w.command ≡ to → Does to limit w s c d k (BadState offset) → Short
   of_bad command.Build offset is did = spared (did.2, λ told. (did.1 told).1)
@@ -90,11 +85,11 @@ module _ (limit : ℕ) (w : Asked) (s c : OverSource) (d : OverDisk) (k : OverSi
   of_bad command.Generate offset is did = spared (did.1.2, λ told. (did.1.1 told).1)
 
   of_full : (to : Command) (needed most : ℕ) → w.command ≡ to → Does to limit w s c d k (StateFull needed most) → Short
-  of_full command.Build needed most is did = too_much did.1 did.0.4.0 did.0.4.2.batch needed most did.0.4.1 did.0.4.2.over
+  of_full command.Build needed most is did = let holds = did.0 in stopped command.Build is did.1 (holds.0, holds.1, holds.2, holds.3, inr (needed, most, holds.4))
   of_full command.Session needed most is did = of_session (StateFull needed most) is tt did
   of_full command.Explain needed most is did = absurd did.0.0
-  of_full command.Clean needed most is did = too_much did.1.1 did.1.0.0 did.1.0.2.batch needed most did.1.0.1 did.1.0.2.over
-  of_full command.Generate needed most is did = too_much did.1.1 did.1.0.2.0 did.1.0.2.2.batch needed most did.1.0.2.1 did.1.0.2.2.over
+  of_full command.Clean needed most is did = stopped command.Clean is did.1.1 (inr (needed, most, did.1.0))
+  of_full command.Generate needed most is did = let makes = did.1.0 in stopped command.Generate is did.1.1 (makes.0, makes.1, inr (needed, most, makes.2))
 
   of_long : (to : Command) → w.command ≡ to → Does to limit w s c d k ScriptTooLong → Short
   of_long command.Build is did = absurd did
@@ -104,11 +99,14 @@ module _ (limit : ℕ) (w : Asked) (s c : OverSource) (d : OverDisk) (k : OverSi
   of_long command.Generate is did = absurd did.1
 
   of_memory : (to : Command) → w.command ≡ to → Does to limit w s c d k NoMemory → Short
-  of_memory command.Build is did = left_so did
+  of_memory command.Build is (untouched, inl same) = spared (untouched, same)
+  of_memory command.Build is (untouched, inr (bytes, was, b, book, halts)) = stopped command.Build is untouched (bytes, was, b, book, inl halts)
   of_memory command.Session is did = of_session NoMemory is tt did
   of_memory command.Explain is did = spared (did.0.1, did.1)
-  of_memory command.Clean is did = left_so did.1
-  of_memory command.Generate is did = left_so did.1
+  of_memory command.Clean is (unread, (untouched, inl same)) = spared (untouched, same)
+  of_memory command.Clean is (unread, (untouched, inr clears)) = stopped command.Clean is untouched (inl clears)
+  of_memory command.Generate is (unread, (untouched, inl same)) = spared (untouched, same)
+  of_memory command.Generate is (unread, (untouched, inr (b, made, halts))) = stopped command.Generate is untouched (b, made, inl halts)
 
   never_usage : (end : Result (Unit {0}) SessionEnd) (fault : _) → Usage fault ≡ status_of end → ⊥
   never_usage (Ok done) fault is = cc
@@ -132,8 +130,9 @@ module _ (limit : ℕ) (w : Asked) (s c : OverSource) (d : OverDisk) (k : OverSi
   of_usage command.Generate fault did = did.1
 
   pub as_memory : (words : List (List ℕ)) → words_of words ≡ Ok w → Short → Ran limit words s c d k NoMemory
-  as_memory words asked (inl (untouched, inl left)) = inl (untouched, inl left)
-  as_memory words asked (inl (untouched, inr kept)) = inl (untouched, inr (w, asked, kept))
+  as_memory words asked (inl (untouched, inl same)) = inl (untouched, inl same)
+  as_memory words asked (inl (untouched, inr (inl stops))) = inl (untouched, inr (inl (w, asked, stops)))
+  as_memory words asked (inl (untouched, inr (inr keeps))) = inl (untouched, inr (inr (w, asked, keeps)))
   as_memory words asked (inr short) = inr (w, asked, short)
 
 -- what the words ask for was done
@@ -158,7 +157,7 @@ ran_so limit words w s c d k status asked runs =
 pub unasked : (limit : ℕ) (words : List (List ℕ)) (s c : OverSource) (d : OverDisk) (k : OverSink) (fault : WordsFault) → (IsCause fault → words_of words ≡ Err fault) → IsUnread s → IsUnread c → IsUnvisited d → IsUntouched k → ReadsEnough s
     → IsRun limit words s c d k (usage_of fault)
 unasked limit words s c d k WordsNoMemory why unread still unvisited untouched read =
-    record { did = inl (untouched, inl (inl (λ told. unvisited.story))); read = read; visits = inl unvisited; source = inl (unread.1, still); disk = unvisited.faults; sink = untouched.2 }
+    record { did = inl (untouched, inl (λ told. unvisited.story)); read = read; visits = inl unvisited; source = inl (unread.1, still); disk = unvisited.faults; sink = untouched.2 }
 unasked limit words s c d k fault why unread still unvisited untouched read =
     record { did = (why tt, unread, unvisited, untouched); read = read; visits = inl unvisited; source = inl (unread.1, still); disk = unvisited.faults; sink = untouched.2 }
 
@@ -181,7 +180,7 @@ module _ (limit : ℕ) (words : List (List ℕ)) (s c : OverSource) (d : OverDis
   lost (BookRefused fault) spoken long run =
       let w = run.did.0 in
       lost_by (BookRefused fault) tt (as_memory limit w s c d k words run.did.1 (of_book limit w s c d k w.command fault refl run.did.2)) run run.disk run.sink
-  lost (Usage fault) spoken long run = lost_by (Usage fault) tt (inl (run.did.3, inl (inl (λ told. run.did.2.story)))) run run.disk run.sink
+  lost (Usage fault) spoken long run = lost_by (Usage fault) tt (inl (run.did.3, inl (λ told. run.did.2.story))) run run.disk run.sink
   lost (BuildRefused reason) spoken long run =
       let w = run.did.0 in
       lost_by (BuildRefused reason) tt (as_memory limit w s c d k words run.did.1 (of_build limit w s c d k w.command reason refl run.did.2)) run run.disk run.sink
@@ -212,4 +211,5 @@ outcome limit a old new was reports ended =
       sink = run.sink;
       ended = ended;
       complete = λ due is. comes limit a.words a.book a.script a.state a.out new due run.did is;
+      full = λ is. comes_full limit a.words a.book a.script a.state a.out new run.did is;
     }

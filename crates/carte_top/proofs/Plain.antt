@@ -21,19 +21,20 @@ use Rattle.carte_book.specs.Needs.{IsRule}
 use Rattle.carte_book.specs.Reason.{AllClean}
 use Rattle.carte_book.proofs.Books.{item_put}
 use Rattle.carte_record.specs.declared.batch.Batch.{Batch}
-use Rattle.carte_record.specs.Empty.{is_empty}
 use Rattle.carte_record.specs.Kept.{SomeKept, nothing_kept}
 use Rattle.carte_rules.specs.Reading.{BookOf}
 use Rattle.carte_sound.specs.Base.{HasDistinctDigests, SameRules}
 use Rattle.carte_sound.specs.Held.{How}
-use Rattle.carte_sound.specs.LeadsTo.{Chaining, LeadsTo, chain_behind, chain_stays, empty_batch}
+use Rattle.carte_sound.specs.LeadsTo.{Chaining, chain_behind, chain_stays, empty_batch}
 use Rattle.carte_sound.specs.Left.{Finishes, keys_of}
+use Rattle.carte_sound.specs.Parts.{PartsTo}
 use Rattle.carte_sound.specs.Treated as treated
 use Rattle.carte_sound.specs.Treated.{IsDoneInOrder, IsDoneRestarting, IsDoneSuspending, IsTreated, IsTreatedRestarting}
 use Rattle.carte_sound.proofs.Histories.{nothing_sound}
 use Rattle.carte_state.specs.Folding.{Keeps}
 use Rattle.carte_words.specs.declared.words.Command.{Command}
 use Rattle.carte_engine.specs.Answers.{Leads}
+use Rattle.carte_engine.specs.Committing.{FitAll}
 use Rattle.carte_engine.specs.Schedulers.{IsServed}
 use Rattle.carte_engine.specs.declared.answer.Answer.{Answer}
 use Rattle.carte_engine.specs.declared.answer.Answer.TheVariants as answer
@@ -73,15 +74,15 @@ module _ (b : Book) (none : (k : List ℕ) → ¬ (IsRule b k)) where
   nothing_finished [] only = refl
   nothing_finished (f ∷ fs) only = absurd (only f.0 (inl refl))
 
-  brings_nothing : (h : How) (done : SomeKept → List ℕ → Type 0) (chained : Chaining) (B : Batch) → ((M : SomeKept) (k : List ℕ) → ¬ (done M k)) → LeadsTo h done chained nothing_kept b B → B ≡ empty_batch
-  brings_nothing h done chained B never (inl brings) = absurd (brings.something refl (nothing_finished brings.finished (λ k among. never _ k (brings.order.only k among))))
-  brings_nothing h done chained B never (inr nothing) = nothing.empty
+  brings_nothing : (h : How) (done : SomeKept → List ℕ → Type 0) (chained : Chaining) (Bs : List Batch) → ((M : SomeKept) (k : List ℕ) → ¬ (done M k)) → PartsTo h done chained nothing_kept b Bs → Bs ≡ empty_batch ∷ []
+  brings_nothing h done chained Bs never (inl brings) = absurd (brings.something refl (nothing_finished brings.finished (λ k among. never _ k (brings.order.only k among))))
+  brings_nothing h done chained Bs never (inr nothing) = nothing.one ∙ ap (λ (B : Batch). B ∷ []) nothing.nothing.empty
 
-  pub plain_leads : (s : Scheduler) (h : How) (targets : List (List ℕ)) (a : Answer) (B : Batch) → Leads s h nothing_kept b targets a B → B ≡ empty_batch
-  plain_leads Topological h targets (answer.Built built) B leads = brings_nothing h (λ M k. IsDoneInOrder b targets k) chain_stays B (λ M k done. none k done.0.0) leads
-  plain_leads Topological h targets (answer.Refused reason) B leads = brings_nothing h (λ M k. ⊥) chain_stays B (λ M k never. never) leads
-  plain_leads Restarting h targets a B leads = brings_nothing h (λ M k. IsDoneRestarting h M b targets k) chain_behind B (λ M k done. none_restarted h M targets k done.0) leads
-  plain_leads Suspending h targets a B leads = brings_nothing h (λ M k. IsDoneSuspending h M b targets k) chain_stays B (λ M k done. none_treated h M targets k done.0) leads
+  pub plain_leads : (s : Scheduler) (h : How) (targets : List (List ℕ)) (a : Answer) (Bs : List Batch) → Leads s h nothing_kept b targets a Bs → Bs ≡ empty_batch ∷ []
+  plain_leads Topological h targets (answer.Built built) Bs leads = brings_nothing h (λ M k. IsDoneInOrder b targets k) chain_stays Bs (λ M k done. none k done.0.0) leads
+  plain_leads Topological h targets (answer.Refused reason) Bs leads = brings_nothing h (λ M k. ⊥) chain_stays Bs (λ M k never. never) leads
+  plain_leads Restarting h targets a Bs leads = brings_nothing h (λ M k. IsDoneRestarting h M b targets k) chain_behind Bs (λ M k done. none_restarted h M targets k done.0) leads
+  plain_leads Suspending h targets a Bs leads = brings_nothing h (λ M k. IsDoneSuspending h M b targets k) chain_stays Bs (λ M k done. none_treated h M targets k done.0) leads
 
 -- ---- the book with one input
 
@@ -145,7 +146,9 @@ module _ (limit : ℕ) (words : List (List ℕ)) (state : Story) (asks : AsksPla
   served = plain_served plain_book no_rule (scheduler_of asks.asked.scheduler) asks.asked.targets (subst (AllClean plain_book) (sym asks.targets) all_clean)
 
   fits : AllFit limit (told_disk state) (IsPlanned asks.asked plain_book nothing_kept)
-  fits B (a, plan) base of_file = inl (ap is_empty (plain_leads plain_book no_rule (scheduler_of asks.asked.scheduler) (how_of asks.asked.rebuilder) asks.asked.targets a B plan.leads))
+  fits Bs (a, plan) s loaded limit_is =
+      subst (FitAll true s) (sym (plain_leads plain_book no_rule (scheduler_of asks.asked.scheduler) (how_of asks.asked.rebuilder) asks.asked.targets a Bs plan.leads))
+      (λ base of_file. (inl refl, λ mid after. tt))
 
   found : IsFound limit (told_disk state) plain_book (λ K. AllFit limit (told_disk state) (IsPlanned asks.asked plain_book K))
   found = (tt, nothing_kept, subst (Keeps limit nothing_kept) (sym empty_file) (record { gate = 8; bodies = []; reads = refl; folded = refl }), ([], nothing_sound [], plain_distinct, fits))

@@ -1,5 +1,5 @@
 -- What a session has done, from its loop over a shell.
-use Rattle.std.proofs.Common.{◌≡◌, ℕ, ◌+◌, List, [], ◌∷◌, ◌++◌, length, Result, Ok, Err, refl, sym, ◌∙◌, ap, subst, inl, inr, ◌⊎◌, append_assoc, append-nil, arith}
+use Rattle.std.proofs.Common.{◌≡◌, ℕ, ◌+◌, true, List, [], ◌∷◌, ◌++◌, length, Result, Ok, Err, refl, sym, ◌∙◌, ap, subst, inl, inr, ◌⊎◌, append_assoc, append-nil, arith}
 use Rattle.carte_io.specs.Causes.{HasCauseOf, Rose}
 use Rattle.carte_io.specs.Disk.{LeavesOnly, Story}
 use Rattle.carte_io.proofs.Images.{leaves_more, leaves_then}
@@ -15,7 +15,7 @@ use Rattle.carte_session.proofs.LineLemmas.{lines_of-all, lines_of-front, next_i
 use Rattle.carte_session.proofs.SessionLemmas.{goes_more}
 use Rattle.carte_record.specs.declared.batch.Batch.{Batch}
 use Rattle.carte_engine.specs.Clearing.{clearing}
-use Rattle.carte_engine.proofs.Committing.{failed_commit, full_faults, has_put, short_faults}
+use Rattle.carte_engine.proofs.Several.{puts_faults, stops_faults, stops_rose}
 use Rattle.carte_shell.specs.Answers.{Answers, Breaks, Ends, Obeys}
 use Rattle.carte_shell.specs.Commits.{Stops, disk_between}
 use Rattle.carte_shell.specs.Books.{AreBooks, IsBookAt}
@@ -27,6 +27,7 @@ use Rattle.carte_sound.specs.Base.{HasDistinctDigests}
 use Rattle.carte_sound.specs.Sound.{IsSound}
 use Rattle.carte_sound.proofs.Begins.{behind_sound, front_distinct}
 use Rattle.carte_state.specs.Folding.{Keeps}
+use Rattle.carte_state.specs.declared.fault.ApplyFault.TheVariants.{Full, NoMemory as ShortOfMemory}
 use Rattle.carte_state.specs.States.{IsKeptOn, kept_in}
 use Rattle.carte_state.proofs.Folds.{keeps_one}
 use Rattle.carte_words.specs.declared.line.Line.{Line}
@@ -66,9 +67,9 @@ module _ (tells : Type 0) where
   pub obeyed_faults : (m m' : Scene) (l : Line) (reply : Said) → Obeys tells m l reply m' → m'.faults ≡ m.faults
   obeyed_faults m m' meaning.Nothing reply does = ap (λ (x : Scene). x.faults) does.1
   obeyed_faults m m' (meaning.Set k v) reply does = ap (λ (x : Scene). x.faults) does.1
-  obeyed_faults m m' (meaning.Build targets) reply does = (has_put (disk_between tells m m') m.stand m'.stand does.1 does.4.commits).faults
+  obeyed_faults m m' (meaning.Build targets) reply does = puts_faults true (disk_between tells m m') m.stand does.1 m'.stand does.4.commits
   obeyed_faults m m' (meaning.Explain targets) reply does = ap (λ (x : Scene). x.faults) does.1
-  obeyed_faults m m' meaning.Clean reply does = (has_put (disk_between tells m m') m.stand m'.stand (clearing m.stand) does.1.commits).faults
+  obeyed_faults m m' meaning.Clean reply does = puts_faults true (disk_between tells m m') m.stand (clearing m.stand ∷ []) m'.stand does.1.commits
 
   answered_faults : (m m' : Scene) (n : ℕ) (bytes text : List ℕ) → Answers tells m n bytes text m' → m'.faults ≡ m.faults
   answered_faults m m' n bytes text (inl stray) = ap (λ (x : Scene). x.faults) stray.2
@@ -83,17 +84,17 @@ module _ (tells : Type 0) where
   Counts line.DiskFault before after = Rose before after
   Counts end before after = after ≡ before
 
-  stopped_faults : (m m' : Scene) (B : Batch) (end : StepEnd) → Stops tells m m' B end → Counts end m.faults m'.faults
-  stopped_faults m m' B line.DiskFault stops = failed_commit (disk_between tells m m') m.stand m'.stand B stops.commits
-  stopped_faults m m' B (line.StateFull needed most) stops = full_faults (disk_between tells m m') m.stand m'.stand B needed most stops.commits
-  stopped_faults m m' B line.NoMemory stops = short_faults (disk_between tells m m') m.stand m'.stand B stops.commits
+  stopped_faults : (m m' : Scene) (Bs : List Batch) (end : StepEnd) → Stops tells m m' Bs end → Counts end m.faults m'.faults
+  stopped_faults m m' Bs line.DiskFault stops = stops_rose (disk_between tells m m') m.stand Bs m'.stand stops.commits
+  stopped_faults m m' Bs (line.StateFull needed most) stops = stops_faults (disk_between tells m m') m.stand Bs m'.stand (Full needed most) stops.commits (λ is. cc)
+  stopped_faults m m' Bs line.NoMemory stops = stops_faults (disk_between tells m m') m.stand Bs m'.stand ShortOfMemory stops.commits (λ is. cc)
 
   same_count : (m m' : Scene) (end : StepEnd) → end ≡ line.NoMemory → m' ≡ m → Counts end m.faults m'.faults
   same_count m m' end is same = subst (λ (e : StepEnd). Counts e m.faults m'.faults) (sym is) (ap (λ (x : Scene). x.faults) same)
 
   pub broken_faults : (m m' : Scene) (l : Line) (end : StepEnd) → Breaks tells m l end m' → Counts end m.faults m'.faults
   broken_faults m m' l end (inl (is, same)) = same_count m m' end is same
-  broken_faults m m' l end (inr (B, brings, stops)) = stopped_faults m m' B end stops
+  broken_faults m m' l end (inr (Bs, brings, stops)) = stopped_faults m m' Bs end stops
 
   ended_faults : (m m' : Scene) (n : ℕ) (bytes : List ℕ) (end : StepEnd) → Ends tells m n bytes end m' → Counts end m.faults m'.faults
   ended_faults m m' n bytes end (inl (is, same)) = same_count m m' end is same

@@ -1,10 +1,9 @@
--- Which status is due, where bytes are told: by the words first, then by the book, the state, the room for a batch, and last by what a build answers.
-use Rattle.std.specs.Prelude.{ℕ, ◌≡◌, ◌<◌, false, List, [], ◌∷◌, ◌++◌, Ok, Err}
+-- Which status is due, where bytes are told: by the words first, then by the book, the state, the room for the batches, and last by what a build answers.
+use Rattle.std.specs.Prelude.{ℕ, ◌≡◌, ◌<◌, List, [], ◌∷◌, ◌++◌, Ok, Err}
 use Rattle.carte_name.specs.declared.kind.Kind.{Kind}
 use Rattle.carte_book.specs.Book.{Book}
 use Rattle.carte_book.specs.Reason.{AllClean, IsReason}
 use Rattle.carte_record.specs.declared.batch.Batch.{Batch}
-use Rattle.carte_record.specs.Empty.{is_empty}
 use Rattle.carte_record.specs.Kept.{SomeKept}
 use Rattle.carte_sound.specs.Base.{HasDistinctDigests}
 use Rattle.carte_sound.specs.Sound.{IsSound}
@@ -20,7 +19,7 @@ use Rattle.carte_report.specs.declared.status.Status.{Status}
 use Rattle.carte_report.specs.declared.status.Status.TheVariants.{Done, BookRefused, Usage, BuildRefused, ReadFault, WriteFault, DiskFault, BadState, StateFull, NoMemory}
 use Rattle.carte_top.specs.Around.{OverSource, OverDisk}
 use Rattle.carte_top.specs.Chosen.{scheduler_of, how_of, BookOfKind}
-use Rattle.carte_top.specs.Found.{FitsIn, IsNeeded, IsClearing, Makes, for_last}
+use Rattle.carte_top.specs.Found.{AreClearing, FitsIn, IsNeeded, Makes, for_last}
 use Rattle.carte_top.specs.Outcome.{Asks}
 
 -- ---- what is there
@@ -44,13 +43,13 @@ IsBadNow limit d at = d.tells × IsBadState limit d.old.now.reads at
 
 -- the batches are those of a right plan
 abbrev pub IsPlanned : Asked → Book → SomeKept → List Batch → Type 0
-IsPlanned w b K Bs = (a : Answer) × IsPlan (scheduler_of w.scheduler) (how_of w.rebuilder) K b w.targets (record { batches = Bs; answer = a })
+IsPlanned w b K Bs = (a : Answer) × IsPlan (scheduler_of w.scheduler) (how_of w.rebuilder) K b w.targets Bs a
 
 -- there is room for all such batches
 abbrev pub AllFit : ℕ → OverDisk → (List Batch → Type 0) → Type 0
 AllFit limit d May = (Bs : List Batch) → May Bs → FitsIn limit d.old.now.reads Bs
 
--- among all such batches there is one with which the file needs just so many bytes, which are more than the limit
+-- wherever there are such batches, there is one of them with which the file needs just so many bytes, which are more than the limit
 abbrev pub AllOver : ℕ → OverDisk → ℕ → ℕ → (List Batch → Type 0) → Type 0
 AllOver limit d needed most May = (most ≡ limit) × (limit < needed) × ((Bs : List Batch) → May Bs → IsNeeded limit d.old.now.reads Bs needed)
 
@@ -100,6 +99,29 @@ IsDueFor command.Generate limit w s d due = IsGenerateDue limit w d due
 abbrev pub IsDue : ℕ → List (List ℕ) → OverSource → OverDisk → Status → Type 0
 IsDue limit words s d (Usage fault) = words_of words ≡ Err fault
 IsDue limit words s d due = Asks words (λ w. IsDueFor w.command limit w s d due)
+
+-- ---- no room
+
+-- there is room for no list of such batches; how many bytes the file would need may hang on the order in which their keys were finished
+abbrev pub NoneFit : ℕ → OverDisk → (List Batch → Type 0) → Type 0
+NoneFit limit d May = (Bs : List Batch) → May Bs → (needed : ℕ) × IsNeeded limit d.old.now.reads Bs needed
+
+-- so it is for a build over a book that is there so
+abbrev pub IsFullOver : ((Book → Type 0) → Type 0) → ℕ → Asked → OverDisk → Type 0
+IsFullOver Is limit w d = Is (λ b. IsFound limit d b (λ K. NoneFit limit d (IsPlanned w b K)))
+
+abbrev pub IsFullFor : Command → ℕ → OverSource → OverDisk → Asked → Type 0
+IsFullFor command.Build limit s d w = IsFullOver (IsBook w.kind s) limit w d
+IsFullFor command.Generate limit s d w = IsFullOver (Makes w) limit (for_last w) d
+IsFullFor _ limit s d w = ⊥
+
+abbrev pub IsFullDue : ℕ → List (List ℕ) → OverSource → OverDisk → Type 0
+IsFullDue limit words s d = Asks words (λ w. IsFullFor w.command limit s d w)
+
+-- and it is told, with some number of bytes
+abbrev pub IsFull : Status → Type 0
+IsFull (StateFull needed most) = Unit {0}
+IsFull _ = ⊥
 
 -- a device failed, or memory ran out
 abbrev pub IsHindered : Status → Type 0

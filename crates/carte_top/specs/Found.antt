@@ -1,9 +1,9 @@
 -- What a run has found, and what a build has made of it.
-use Rattle.std.specs.Prelude.{ℕ, ◌≡◌, ◌⊎◌, ◌+◌, ◌<◌, ◌≤◌, true, false, List, [], ◌∷◌, ◌++◌, codes, length, map, Result, Ok, Err, if◌then◌else◌}
+use Rattle.std.specs.Prelude.{ℕ, ◌≡◌, ◌⊎◌, ◌+◌, ◌<◌, Bool, true, false, List, [], ◌∷◌, ◌++◌, codes, length, map, Result, Ok, Err, if◌then◌else◌}
+use Rattle.std.proofs.Common.{inl, inr}
 use Rattle.carte_io.specs.Disk.{IsSettled, Moment, Story}
-use Rattle.carte_io.specs.Stations.{StepsThrough}
+use Rattle.carte_io.specs.Stations.{StepsThrough, calls_in}
 use Rattle.carte_journal.specs.Frames.{BodyAt, Ends, end_of, reading}
-use Rattle.carte_journal.specs.Regions.{calls_to_turn}
 use Rattle.carte_name.specs.declared.kind.Kind.{Kind}
 use Rattle.carte_book.specs.Book.{Book}
 use Rattle.carte_book.specs.Reason.{AllClean}
@@ -16,17 +16,20 @@ use Rattle.carte_record.specs.Empty.{is_empty}
 use Rattle.carte_record.specs.Folds.{apply}
 use Rattle.carte_record.specs.Kept.{SomeKept, nothing_kept}
 use Rattle.carte_sound.specs.LeadsTo.{empty_batch}
+use Rattle.carte_sound.specs.Parts.{applied}
 use Rattle.carte_session.specs.Session.{IsSession}
 use Rattle.carte_session.specs.declared.end.SessionEnd.{SessionEnd}
 use Rattle.carte_state.specs.Folding.{Keeps}
-use Rattle.carte_state.specs.States.{HasRoom, IsLoaded, Stand, calls_for, kept_in, needs_for, step_for}
+use Rattle.carte_state.specs.States.{IsLoaded, Stand, kept_in}
+use Rattle.carte_state.specs.declared.fault.ApplyFault.{ApplyFault}
+use Rattle.carte_state.specs.declared.fault.ApplyFault.TheVariants.{Full}
 use Rattle.carte_words.specs.declared.words.Words.{Words as Asked}
 use Rattle.carte_generate.specs.Generated.{IsGenerated, inputs_of, target_of}
 use Rattle.carte_engine.specs.declared.answer.Answer.{Answer}
 use Rattle.carte_engine.specs.declared.answer.Answer.TheVariants as answer
 use Rattle.carte_engine.specs.declared.answer.Built.{Built}
 use Rattle.carte_engine.specs.Answers.{IsPlan, Under}
-use Rattle.carte_engine.specs.Committing.{IsBase, IsDue, Readies, steps_ready, until}
+use Rattle.carte_engine.specs.Committing.{FitAll, HasPassed, Overfill, PutsAll, StopsAt, behind as onwards, steps_put, steps_stopped, until}
 use Rattle.carte_engine.specs.Schedulers.{KeepsBy}
 use Rattle.carte_explain.specs.declared.why.Why.{Why}
 use Rattle.carte_report.specs.Lines.{why_lines}
@@ -74,7 +77,7 @@ pub record EndsWith (limit : ℕ) (K : SomeKept) (m : Moment) : Type 0 where
   pub settled : IsSettled m
   pub keeps : Keeps limit K m.reads
 
--- with these batches one after another there is one for which the file would need so many bytes, which are more than the limit
+-- of these batches there is one with which the file would need so many bytes, which are more than the limit; there is room for those in front of it
 abbrev pub IsNeeded : ℕ → List ℕ → List Batch → ℕ → Type 0
 IsNeeded limit file Bs needed = (s : Stand) → IsLoaded s file → s.journal.limit ≡ limit → Overfill needed true s Bs
 
@@ -89,9 +92,11 @@ GrowsBy limit B file after = (gate : ℕ) (bodies : List BodyAt) → reading lim
 
 -- ---- the commit
 
--- the state that was found: where the disk tells what it reads, this is loaded from it
+-- the state that was found, and the disk's story behind its reading: where the disk tells what it reads, this is loaded from it, and nothing was written yet
 pub record IsFoundAs (limit : ℕ) (d : OverDisk) (K : SomeKept) : Type 0 where
   pub stand : Stand
+  pub story : Story
+  pub unwritten : d.tells → story ≡ d.old
   pub loaded : d.tells → IsLoaded stand d.old.now.reads
   pub limit_is : stand.journal.limit ≡ limit
   pub keeps : kept_in stand ≡ K
@@ -99,7 +104,7 @@ pub record IsFoundAs (limit : ℕ) (d : OverDisk) (K : SomeKept) : Type 0 where
 -- of each batch that was put, the frames have grown by just its own, from the file on as it stood then
 abbrev pub GrowsAlong : (limit : ℕ) (first : Bool) (d : OverDisk) (old : Stand) (Bs : List Batch) (new : Stand) → PutsAll first d old Bs new → Type 0
 GrowsAlong limit first d old [] new none = Unit {0}
-GrowsAlong limit first d old (B ∷ Bs) new (mid, between, inl f, puts) = GrowsBy limit B f.between.now.reads between.now.reads × GrowsAlong limit false (behind d between) mid Bs new puts
+GrowsAlong limit first d old (B ∷ Bs) new (mid, between, inl f, puts) = GrowsBy limit B f.between.now.reads between.now.reads × GrowsAlong limit false (onwards d between) mid Bs new puts
 GrowsAlong limit first d old (B ∷ Bs) new (mid, between, inr unready, puts) = ⊥
 
 -- The batches were put into what was kept, one after another, each once and nothing besides. Under a crash at any later moment the file keeps them all. Each makes no
@@ -108,26 +113,28 @@ GrowsAlong limit first d old (B ∷ Bs) new (mid, between, inr unready, puts) = 
 pub record ArePut (limit : ℕ) (d : OverDisk) (K : SomeKept) (Bs : List Batch) : Type 0 where
   pub found : IsFoundAs limit d K
   pub last : Stand
-  pub puts : PutsAll true d found.stand Bs last
+  pub puts : PutsAll true (onwards d found.story) found.stand Bs last
   pub ends : d.tells → IsSettled d.old.now → EndsWith limit (applied K Bs) d.new.now
-  pub grows : d.tells → IsSettled d.old.now → GrowsAlong limit true d found.stand Bs last puts
-  pub calls : d.tells → d.new.now.passed ≡ d.old.now.passed + calls_in (steps_put true d found.stand Bs last puts)
-  pub stands : d.tells → IsSettled d.old.now → StepsThrough (Keeps limit) (kept_in found.stand) (steps_put true d found.stand Bs last puts) d.old d.new
+  pub grows : d.tells → IsSettled d.old.now → GrowsAlong limit true (onwards d found.story) found.stand Bs last puts
+  pub calls : d.tells → d.new.now.passed ≡ d.old.now.passed + calls_in (steps_put true (onwards d found.story) found.stand Bs last puts)
+  pub stands : d.tells → IsSettled d.old.now → StepsThrough (Keeps limit) (kept_in found.stand) (steps_put true (onwards d found.story) found.stand Bs last puts) d.old d.new
 
--- Those in front were put, and the next one was not, for this reason: with it the file would need so many bytes, which are more than the limit; or the disk failed while
--- it was put, or while the file was rewritten before it; or there was no memory for it.
+-- Those in front were put so, and the next one was not, for this reason: with it the file would need so many bytes, which are more than the limit; or the disk failed
+-- while it was put, or while the file was rewritten before it; or there was no memory for it.
 pub record IsStopped (limit : ℕ) (d : OverDisk) (K : SomeKept) (Bs : List Batch) (fault : ApplyFault) : Type 0 where
   pub found : IsFoundAs limit d K
   pub last : Stand
-  pub stops : StopsAt d found.stand Bs last fault
-  pub calls : d.tells → HasPassed d stops.between (steps_stopped d found.stand Bs last fault stops) fault
-  pub stands : d.tells → IsSettled d.old.now → StepsThrough (Keeps limit) (kept_in found.stand) (steps_stopped d found.stand Bs last fault stops) d.old d.new
+  pub stops : StopsAt (onwards d found.story) found.stand Bs last fault
+  pub ends : d.tells → IsSettled d.old.now → EndsWith limit (applied K stops.front) stops.between.now
+  pub grows : d.tells → IsSettled d.old.now → GrowsAlong limit true (until (onwards d found.story) stops.between) found.stand stops.front stops.mid stops.puts
+  pub calls : d.tells → HasPassed d stops.between (steps_stopped (onwards d found.story) found.stand Bs last fault stops) fault
+  pub stands : d.tells → IsSettled d.old.now → StepsThrough (Keeps limit) (kept_in found.stand) (steps_stopped (onwards d found.story) found.stand Bs last fault stops) d.old d.new
 
 -- ---- the build
 
 -- a build of the words' targets answers so, rightly, and may commit the batches
 abbrev pub Answers : Asked → Book → SomeKept → Answer → List Batch → Type 0
-Answers w b K a Bs = Under K b (IsPlan (scheduler_of w.scheduler) (how_of w.rebuilder) K b w.targets (record { batches = Bs; answer = a }))
+Answers w b K a Bs = Under K b (IsPlan (scheduler_of w.scheduler) (how_of w.rebuilder) K b w.targets Bs a)
 
 -- it answered so, and committed its batches
 pub record Commits (limit : ℕ) (w : Asked) (d : OverDisk) (b : Book) (K : SomeKept) (a : Answer) : Type 0 where
@@ -163,7 +170,7 @@ pub record Halts (limit : ℕ) (w : Asked) (d : OverDisk) (fault : ApplyFault) (
   pub answers : Answers w b K answer batches
   pub stopped : IsStopped limit d K batches fault
 
--- it is too much
+-- since the file would need so many bytes, which are more than the limit
 pub record Overfills (limit : ℕ) (w : Asked) (d : OverDisk) (needed most : ℕ) (b : Book) (K : SomeKept) : Type 0 where
   pub halts : Halts limit w d (Full needed most) b K
   pub most_is : most ≡ limit
@@ -193,7 +200,7 @@ pub record ClearsNot (limit : ℕ) (d : OverDisk) (fault : ApplyFault) (K : Some
   pub clearing : IsClearing K batch
   pub stopped : IsStopped limit d K (batch ∷ []) fault
 
--- something is kept, and the batch is too much
+-- so it is where something is kept, and the batch is too much
 pub record ClearsTooMuch (limit : ℕ) (d : OverDisk) (needed most : ℕ) (K : SomeKept) : Type 0 where
   pub clears_not : ClearsNot limit d (Full needed most) K
   pub most_is : most ≡ limit

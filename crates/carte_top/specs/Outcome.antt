@@ -8,6 +8,7 @@ use Rattle.carte_session.specs.declared.end.SessionEnd.{SessionEnd}
 use Rattle.carte_session.specs.declared.end.SessionEnd.TheVariants as session
 use Rattle.carte_session.specs.declared.end.StepEnd.TheVariants as line
 use Rattle.carte_state.specs.Folding.{IsBadState}
+use Rattle.carte_state.specs.declared.fault.ApplyFault.TheVariants as applying
 use Rattle.carte_words.specs.Words.{words_of}
 use Rattle.carte_words.specs.declared.words.Command.{Command}
 use Rattle.carte_words.specs.declared.words.Command.TheVariants as command
@@ -18,7 +19,7 @@ use Rattle.carte_report.specs.declared.status.Status.{Status}
 use Rattle.carte_report.specs.declared.status.Status.TheVariants.{Done, BookRefused, Usage, BuildRefused, ReadFault, WriteFault, DiskFault, BadState, StateFull, NoMemory, ScriptTooLong}
 use Rattle.carte_report.specs.Texts.{error_line}
 use Rattle.carte_top.specs.Around.{OverSource, OverDisk, OverSink, IsUnread, IsUnvisited, IsUntouched, TakesAll, TakesFront, Says}
-use Rattle.carte_top.specs.Found.{Holds, HasBook, Makes, Refuses, Found, Commits, Replies, Overfills, Halts, Clears, ClearsNot, ClearsInPart, Explains, Carries, IsReadiedAlone, behind, for_last, front_of}
+use Rattle.carte_top.specs.Found.{Holds, HasBook, Makes, Refuses, Found, Commits, Replies, Overfills, Halts, Clears, ClearsNot, ClearsTooMuch, Explains, Carries, behind, for_last, front_of}
 
 -- the words ask for something that is so
 abbrev pub Asks : List (List ℕ) → (Asked → Type 0) → Type 0
@@ -37,10 +38,10 @@ abbrev pub BuiltOver : ((Book → Type 0) → Type 0) → ℕ → Asked → List
 BuiltOver Has limit w front d k Done = Has (λ b. Found limit d (Replies limit w d k (behind front TakesAll) b))
 BuiltOver Has limit w front d k (BuildRefused reason) = Has (λ b. Found limit d (λ K. Commits limit w d b K (answer.Refused reason))) × IsUntouched k
 BuiltOver Has limit w front d k WriteFault = Has (λ b. Found limit d (Replies limit w d k (behind front TakesFront) b))
-BuiltOver Has limit w front d k DiskFault = ((Has (λ b. Unit {0}) × IsSpared d) ⊎ Has (λ b. Found limit d (Halts limit w d ApplyFault.DiskFault b))) × IsUntouched k
+BuiltOver Has limit w front d k DiskFault = ((Has (λ b. Unit {0}) × IsSpared d) ⊎ Has (λ b. Found limit d (Halts limit w d applying.DiskFault b))) × IsUntouched k
 BuiltOver Has limit w front d k (BadState offset) = Has (λ b. Unit {0}) × IsBad limit d offset × IsUntouched k
 BuiltOver Has limit w front d k (StateFull needed most) = Has (λ b. Found limit d (Overfills limit w d needed most b)) × IsUntouched k
-BuiltOver Has limit w front d k NoMemory = IsUntouched k × (IsSpared d ⊎ Has (λ b. Found limit d (Halts limit w d ApplyFault.NoMemory b)))
+BuiltOver Has limit w front d k NoMemory = IsUntouched k × (IsSpared d ⊎ Has (λ b. Found limit d (Halts limit w d applying.NoMemory b)))
 BuiltOver Has limit w front d k _ = ⊥
 
 -- what a build has done: over the book that was read, or there is none
@@ -57,10 +58,10 @@ Generated limit w d k status = BuiltOver (Makes w) limit (for_last w) (front_of 
 abbrev pub Cleaned : ℕ → OverDisk → OverSink → Status → Type 0
 Cleaned limit d k Done = Found limit d (Clears limit d k TakesAll)
 Cleaned limit d k WriteFault = Found limit d (Clears limit d k TakesFront)
-Cleaned limit d k DiskFault = (IsSpared d ⊎ Found limit d (ClearsNot limit d ApplyFault.DiskFault)) × IsUntouched k
+Cleaned limit d k DiskFault = (IsSpared d ⊎ Found limit d (ClearsNot limit d applying.DiskFault)) × IsUntouched k
 Cleaned limit d k (BadState offset) = IsBad limit d offset × IsUntouched k
 Cleaned limit d k (StateFull needed most) = Found limit d (ClearsTooMuch limit d needed most) × IsUntouched k
-Cleaned limit d k NoMemory = IsUntouched k × (IsSpared d ⊎ Found limit d (ClearsNot limit d ApplyFault.NoMemory))
+Cleaned limit d k NoMemory = IsUntouched k × (IsSpared d ⊎ Found limit d (ClearsNot limit d applying.NoMemory))
 Cleaned limit d k _ = ⊥
 
 -- there is no book, or no state, to look at
@@ -114,12 +115,19 @@ CommitsRefused limit w d b = Found limit d (λ K. (reason : Reason) × Commits l
 abbrev pub KeepsRefused : ℕ → OverSource → OverDisk → Asked → Type 0
 KeepsRefused limit s d w = ((w.command ≡ command.Build) × Holds w.kind s (CommitsRefused limit w d)) ⊎ ((w.command ≡ command.Generate) × Makes w (CommitsRefused limit (for_last w) d))
 
--- there was no memory for a batch of a build, or for that of a clearing
-abbrev pub StopsShort : Command → ℕ → Asked → OverSource → OverDisk → Type 0
-StopsShort command.Build limit w s d = Holds w.kind s (λ b. Found limit d (Halts limit w d ApplyFault.NoMemory b))
-StopsShort command.Generate limit w s d = Makes w (λ b. Found limit d (Halts limit (for_last w) d ApplyFault.NoMemory b))
-StopsShort command.Clean limit w s d = Found limit d (ClearsNot limit d ApplyFault.NoMemory)
-StopsShort _ limit w s d = ⊥
+-- there was no memory for a batch of a build; or one was too much, and there was none for the line that tells so
+abbrev pub HaltsShort : ℕ → Asked → OverDisk → Book → Type 0
+HaltsShort limit w d b = Found limit d (Halts limit w d applying.NoMemory b) ⊎ ((needed most : ℕ) × Found limit d (Overfills limit w d needed most b))
+
+-- so it was with that of a clearing
+abbrev pub ClearsShort : ℕ → OverDisk → Type 0
+ClearsShort limit d = Found limit d (ClearsNot limit d applying.NoMemory) ⊎ ((needed most : ℕ) × Found limit d (ClearsTooMuch limit d needed most))
+
+abbrev pub StopsShort : Command → ℕ → OverSource → OverDisk → Asked → Type 0
+StopsShort command.Build limit s d w = Holds w.kind s (HaltsShort limit w d)
+StopsShort command.Generate limit s d w = Makes w (HaltsShort limit (for_last w) d)
+StopsShort command.Clean limit s d w = ClearsShort limit d
+StopsShort _ limit s d w = ⊥
 
 -- a session came to an end behind which memory is wanted for the error line
 abbrev pub IsShort : SessionEnd → Type 0
@@ -132,10 +140,10 @@ IsShort _ = ⊥
 abbrev pub EndsShort : ℕ → OverSource → OverSource → OverDisk → OverSink → Asked → Type 0
 EndsShort limit s c d k w = (w.command ≡ command.Session) × ((end : SessionEnd) × IsShort end × ComesTo limit w s c d k (Err end))
 
--- First the words are read: what holds but for the error line. Behind a commit memory is wanted for that line alone, and for lines of a session.
+-- First the words are read: what holds but for the error line. Behind the commits of a request memory is wanted for that line alone; it may run out between them, and between the lines of a session.
 abbrev pub Ran : ℕ → List (List ℕ) → OverSource → OverSource → OverDisk → OverSink → Status → Type 0
 Ran limit words s c d k (Usage fault) = (words_of words ≡ Err fault) × IsUnread s × IsUnvisited d × IsUntouched k
-Ran limit words s c d k NoMemory = (IsUntouched k × (IsSpared d ⊎ Asks words (λ w. StopsShort w.command limit w s d) ⊎ Asks words (KeepsRefused limit s d))) ⊎ Asks words (EndsShort limit s c d k)
+Ran limit words s c d k NoMemory = (IsUntouched k × (IsSpared d ⊎ Asks words (λ w. StopsShort w.command limit s d w) ⊎ Asks words (KeepsRefused limit s d))) ⊎ Asks words (EndsShort limit s c d k)
 Ran limit words s c d k status = Asks words (λ w. Does w.command limit w s c d k status)
 
 -- and the error line

@@ -32,7 +32,7 @@ use Rattle.carte_report.specs.declared.status.Status.{Status}
 use Rattle.carte_report.specs.declared.status.Status.TheVariants.{Done, BookRefused, Usage, BuildRefused, ReadFault, WriteFault, DiskFault, BadState, NoMemory}
 use Rattle.carte_top.specs.Around.{OverSource, OverDisk, OverSink, IsUnread, IsUnvisited, IsUntouched, TakesAll, TakesFront}
 use Rattle.carte_top.specs.Chosen.{BookOfKind}
-use Rattle.carte_top.specs.Found.{Holds, Makes, Refuses, Found, IsClearing, HasBook, Carries, for_last}
+use Rattle.carte_top.specs.Found.{Holds, Makes, Refuses, Found, AreClearing, HasBook, Carries, for_last}
 use Rattle.carte_top.specs.Outcome.{Asks, Explained, IsBad, IsSpared, Built, Cleaned, Does, Generated, Ran, Sat, TellsEither, TellsSource, TellsSources, TellsDisk, TellsSink, status_of}
 use Rattle.carte_top.specs.Sound.{AreFirst, StaysAt, StaysSound, MayBuild, KeepsOn, SessionStays}
 
@@ -177,7 +177,7 @@ pub record RunAlone (Did Visited : Type 0) (d : OverDisk) (k : OverSink) (status
   pub sink : TellsSink k status
 
 abbrev pub Cleans : ℕ → OverDisk → OverSink → Status → Type 0
-Cleans limit d k status = RunAlone (Cleaned limit d k status) (StaysAt limit IsClearing d) d k status
+Cleans limit d k status = RunAlone (Cleaned limit d k status) (StaysAt limit AreClearing d) d k status
 
 abbrev pub Generates : ℕ → Asked → OverDisk → OverSink → Status → Type 0
 Generates limit w d k status = RunAlone (Generated limit w d k status) (Makes w (λ b. StaysAt limit (MayBuild (for_last w) b) d)) d k status

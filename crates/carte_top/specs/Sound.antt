@@ -3,9 +3,9 @@ use Rattle.std.specs.Prelude.{ℕ, ◌≡◌, ◌⊎◌, List, [], ◌∷◌, �
 use Rattle.carte_io.specs.Disk.{IsSettled, LeavesOnly}
 use Rattle.carte_book.specs.Book.{Book}
 use Rattle.carte_record.specs.declared.batch.Batch.{Batch}
-use Rattle.carte_record.specs.Folds.{apply}
 use Rattle.carte_record.specs.Kept.{SomeKept}
 use Rattle.carte_sound.specs.Base.{HasDistinctDigests}
+use Rattle.carte_sound.specs.Parts.{applied}
 use Rattle.carte_session.specs.Lines.{lines_of}
 use Rattle.carte_state.specs.Folding.{Keeps}
 use Rattle.carte_words.specs.declared.words.Command.{Command}
@@ -16,7 +16,7 @@ use Rattle.carte_engine.specs.Answers.{IsPlan, Under}
 use Rattle.carte_shell.specs.Books.{AreBooks as AreBooksAt}
 use Rattle.carte_top.specs.Around.{OverSource, OverDisk, IsUnvisited}
 use Rattle.carte_top.specs.Chosen.{scheduler_of, how_of}
-use Rattle.carte_top.specs.Found.{Holds, HasBook, Makes, IsClearing, for_last}
+use Rattle.carte_top.specs.Found.{AreClearing, Holds, HasBook, Makes, for_last}
 use Rattle.carte_top.specs.Outcome.{Asks, IsSpared}
 pub use Rattle.carte_shell.specs.Sound.{KeepsSound}
 
@@ -30,7 +30,7 @@ StaysAt limit May d = d.tells → IsSettled d.old.now → (K : SomeKept) → Kee
 
 -- the batches are those that a build with a right answer may commit
 abbrev pub MayBuild : Asked → Book → SomeKept → List Batch → Type 0
-MayBuild w b K Bs = Under K b ((a : Answer) × IsPlan (scheduler_of w.scheduler) (how_of w.rebuilder) K b w.targets (record { batches = Bs; answer = a }))
+MayBuild w b K Bs = Under K b ((a : Answer) × IsPlan (scheduler_of w.scheduler) (how_of w.rebuilder) K b w.targets Bs a)
 
 -- ---- soundness
 

@@ -14,9 +14,10 @@
 //! for want of memory and failing devices. It follows from the causes, since each excludes the others; a reader needn't
 //! see that.
 //!
-//! The reply is made as one text before the build's batch is committed, so want of memory never comes behind a commit
-//! that succeeded. The error line is made as a text too; where there is no memory for it, that is the status. The lines
-//! of devices' faults need none: so such a fault is never told as want of memory.
+//! A build commits several batches, one after another. Where it stops between them, for a device's fault, want of room or
+//! of memory, those in front stand, and the next build goes on from them. The reply is made as one text before the first
+//! commit, so want of memory never comes behind the last. The error line is made as a text too; where there is no memory
+//! for it, that is the status. The lines of devices' faults need none: so such a fault is never told as want of memory.
 //!
 //! A build is told over a book that is had in some way (`BuiltOver`): read, or generated of a seed and a count. So the build of
 //! a generated book is carried out and told as any other, with one line in front of its reply.

@@ -3,7 +3,7 @@ use Rattle.carte_book.specs.Book.{Book, book_view}
 use Rattle.carte_shell.specs.Answers.{NamesInput}
 use Rattle.carte_shell.specs.Scenes.{scene}
 use Rattle.carte_top.specs.Around.{over_disk}
-use Rattle.carte_top.proofs.Requesting.{opened_on}
+use Rattle.carte_top.proofs.Between.{opened_on}
 use Rattle.carte_top.proofs.one.one.Goals as goal
 
 pub request-status-requires-clause-whole : goal.request-status-requires-clause-whole
