@@ -365,31 +365,34 @@ def load(trims, state):
     return counted[0] - counted[1]
 
 
+def session(trims, keys, rebuilder, edits):
+    """A session of these edits, each with a build, whose values are right; how many were built, which is fewer where the state is full."""
+    trims.runs.put("keys.toml", keys.book())
+    script, told = b"", []
+    for name, value in edits:
+        keys.now[name] = value
+        script += b"set %s %d\nbuild %s\n" % (name.encode(), value, keys.last.encode())
+        told += [f"set {name}", f"{keys.last} = {keys.value()}"]
+    status, out, err = run(trims.runs, ["session", "keys.toml", "state", "--rebuilder", rebuilder], script)
+    got = [line for line in out.decode().splitlines() if not line.startswith("ran ")]
+    is_full = err.startswith(b"carte: state full: ")
+    trims.runs.same(f"{rebuilder}: values", (status, got == told[: len(got)], len(got) == len(told)), (8 if is_full else 0, True, not is_full))
+    return len(got) // 2
+
+
 def hundred(trims, keys, rebuilder, chance, times):
-    """A session of so many edits, each with a build, whose values are right. Where the state is full in between, it is trimmed, and the rest goes on."""
-    while times:
-        trims.runs.put("keys.toml", keys.book())
-        script, told, behind = b"", [], []
-        for _ in range(times):
-            name, value = chance.choice(keys.inputs), chance.randint(0, 999)
-            keys.now[name] = value
-            script += b"set %s %d\nbuild %s\n" % (name.encode(), value, keys.last.encode())
-            told += [f"set {name}", f"{keys.last} = {keys.value()}"]
-            behind.append(dict(keys.now))
-        status, out, err = run(trims.runs, ["session", "keys.toml", "state", "--rebuilder", rebuilder], script)
-        got = [line for line in out.decode().splitlines() if not line.startswith("ran ")]
-        done = got.count("") + sum(line.startswith(keys.last) for line in got)
-        is_full = err.startswith(b"carte: state full: ")
-        trims.runs.same(f"{rebuilder}: values", (status, got == told[: len(got)]), (8 if is_full else 0, True))
-        if is_full:
-            keys.now = behind[done]
+    """So many edits, each with a build. Where the state is full, it is trimmed, and the rest goes on; how often that was."""
+    edits, full_ones = [(chance.choice(keys.inputs), chance.randint(0, 999)) for _ in range(times)], 0
+    while edits:
+        before = dict(keys.now)
+        done = session(trims, keys, rebuilder, edits)
+        if done < len(edits):
+            keys.now = before | dict(edits[:done])
             trims.runs.same(f"{rebuilder}: a full state", trims.trim("state", "new", COUNT)[0], 0)
             os.replace(trims.folder / "new", trims.folder / "state")
-            done += 1
-            times -= done - 1 if done > 1 else 0
-            yield "full"
-            continue
-        times -= done
+            full_ones += 1
+        edits = edits[done:]
+    return full_ones
 
 
 def edits(trims, times):
@@ -399,7 +402,7 @@ def edits(trims, times):
         (trims.folder / "state").unlink(missing_ok=True)
         keys, chance, full_ones = Keys(KEYS), random.Random(f"edits/{rebuilder}"), 0
         for part in range(times // 100):
-            full_ones += len(list(hundred(trims, keys, rebuilder, chance, 100)))
+            full_ones += hundred(trims, keys, rebuilder, chance, 100)
             before = trims.read("state")
             if part in (0, times // 100 - 1):
                 trims.renewed(f"{rebuilder}, part {part}", COUNT)

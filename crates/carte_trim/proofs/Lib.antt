@@ -7,3 +7,4 @@ mod Files
 mod Running
 mod Due
 mod Digits
+mod HistoryTrims

@@ -8,3 +8,4 @@ pub mod New
 pub mod Outcome
 pub mod Parts
 pub mod Whole
+pub mod Histories

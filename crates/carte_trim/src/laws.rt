@@ -1,4 +1,5 @@
 // Laws of what is trimmed, each as the contract of a function that does nothing.
+ghost use Rattle.carte_trim.specs.Histories.{TrimsBetween};
 ghost use Rattle.carte_trim.specs.Laws.{HeldAsBefore, NoneNewlyHeld, OneTrimmed, TrimmedBegins, TrimmedIsSound};
 
 /// There is one trimmed information at most.
@@ -24,4 +25,10 @@ pub fn held_as_before()
 /// No key is held that wasn't.
 pub fn none_newly_held()
     ensures { NoneNewlyHeld }
+{}
+
+/// However many runs of `carte` follow one another over one state, from an empty file on, with trims between them after which
+/// NEW stands in STATE's place, and wherever each is cut off by a crash: the file keeps what is sound for the books so far.
+pub fn trims_between()
+    ensures { TrimsBetween }
 {}
