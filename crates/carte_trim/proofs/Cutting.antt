@@ -1,20 +1,17 @@
 -- What the cut batches make is what is kept, trimmed.
-use Rattle.std.proofs.Common.{◌≡◌, ◌⊎◌, ℕ, ◌+◌, Bool, true, false, List, [], ◌∷◌, Option, Some, None, refl, ap, sym, ◌∙◌, subst, take, length, inl, inr}
+use Rattle.std.proofs.Common.{◌≡◌, ◌⊎◌, ℕ, Bool, true, false, List, [], ◌∷◌, Option, Some, None, refl, ap, sym, ◌∙◌, subst, inl, inr}
 use Rattle.std.specs.Prelude.{◌||◌, if◌then◌else◌, option_map, unwrap_or}
 use Rattle.std.specs.List.{list_any}
 use Rattle.std.specs.Option.{option_or}
-use Rattle.carte_name.specs.Names.{name_eq}
 use Rattle.carte_value.specs.declared.digest.Digest.{Digest}
 use Rattle.carte_value.specs.declared.value.Value.{Value}
 use Rattle.carte_value.specs.Lists.{Has}
-use Rattle.carte_value.specs.Truths.{Among, IsListOf}
 use Rattle.carte_table.specs.Lookups.{digest_eq, find_last, first_value, link_in}
 use Rattle.carte_table.proofs.Found.{or_none}
 use Rattle.carte_table.proofs.Names.{name_eq_is}
 use Rattle.carte_record.specs.declared.batch.Batch.{Batch}
 use Rattle.carte_record.specs.declared.entry.Entry.{Entry}
 use Rattle.carte_record.specs.declared.kept.Kept.{Kept}
-use Rattle.carte_record.specs.declared.start.Start.{Start}
 use Rattle.carte_record.specs.declared.trace.Trace.{Trace}
 use Rattle.carte_record.specs.declared.way.Way.{Way}
 use Rattle.carte_record.specs.declared.way.Way.TheVariants.{Verifying, Constructive, Deep}
@@ -27,13 +24,12 @@ use Rattle.carte_record.proofs.Looked.{digest_eq_is, digest_eq_self, find_passes
 use Rattle.carte_record.proofs.Marks.{none_marked}
 use Rattle.carte_sound.specs.Lists.{EachOnce}
 use Rattle.carte_state.specs.Runs.{applied}
-use Rattle.carte_record.specs.Latest.{last_ones}
-use Rattle.carte_compact.specs.Live.{IsAllOf, IsLive, IsSomeLive, and_marks, entry_at, found_at, keys_of, marks_of, put, stale_at, start_for}
+use Rattle.carte_compact.specs.Live.{IsLive, IsSomeLive, and_marks, entry_at, found_at, marks_of, put, stale_at, start_for}
 use Rattle.carte_compact.proofs.Found.{each_found, unlisted}
 use Rattle.carte_compact.proofs.Living.{is_kept, kept_again}
 use Rattle.carte_trim.specs.declared.cut.Counts.{Counts}
-use Rattle.carte_trim.specs.Lists.{AreCut, HasThose, IsCut, in_batch, in_entries, in_traces, newest_of, number_in}
-use Rattle.carte_trim.specs.Trimmed.{IsListed, IsNamed, IsNumberOf, IsTrimmed, by_entry, by_trace}
+use Rattle.carte_trim.specs.Lists.{AreCut, IsCut, in_batch, in_entries, in_traces, newest_of, number_in}
+use Rattle.carte_trim.specs.Trimmed.{IsNamed, IsNumberOf, IsTrimmed, by_entry, by_trace}
 use Rattle.carte_trim.proofs.Once.{is_there, last_once, newest_once, newest_taken, was_there}
 use Rattle.carte_trim.proofs.Trims.{marked_trimmed, nothing_trimmed}
 

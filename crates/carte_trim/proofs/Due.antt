@@ -1,14 +1,13 @@
 -- A whole run, and that the status that is due comes.
-use Rattle.std.proofs.Common.{◌≡◌, ◌⊎◌, ℕ, ◌<◌, ◌≤◌, true, List, length, Option, Some, None, Result, Ok, Err, refl, ap, sym, ◌∙◌, subst, inl, inr, arith}
-use Rattle.carte_record.specs.Kept.{SomeKept, nothing_kept}
+use Rattle.std.proofs.Common.{◌≡◌, ◌⊎◌, ℕ, true, List, Some, None, Ok, Err, refl, ap, sym, ◌∙◌, subst, inl, inr, arith}
+use Rattle.carte_record.specs.Kept.{SomeKept}
 use Rattle.carte_state.specs.Folding.{IsBadState, Keeps}
 use Rattle.carte_state.specs.States.{Stand, kept_in}
 use Rattle.carte_state.proofs.Folds.{bad_at_one, keeps_one, keeps_or_bad}
 use Rattle.carte_trim.specs.Around.{OverDisk, OverSink, IsUntouched, IsUnvisited}
-use Rattle.carte_trim.specs.Outcome.{Asks, Did, Found, HasRoomFor, IsRun, IsSpared, Made, MadeLeaves, MadeOf, Ran, Reports, TellsNew, TellsSink, TellsState}
+use Rattle.carte_trim.specs.Outcome.{Asks, Did, Found, HasRoomFor, IsRun, IsSpared, Made, MadeLeaves, MadeOf, Ran, Reports, TellsState}
 use Rattle.carte_trim.specs.Parts.{LoadsState, RunsFor, RunsOver}
 use Rattle.carte_trim.specs.Texts.{is_long}
-use Rattle.carte_trim.specs.New.{IsNeeded}
 use Rattle.carte_trim.specs.Trimmed.{IsTrimmed}
 use Rattle.carte_trim.specs.Whole.{IsDue, IsHindered, Overfills}
 use Rattle.carte_trim.specs.Words.{count_of}

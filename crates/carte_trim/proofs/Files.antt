@@ -1,14 +1,14 @@
 -- What a new file keeps, before and while it is written.
-use Rattle.std.proofs.Common.{◌≡◌, ◌⊎◌, ℕ, ◌+◌, ◌-◌, ◌≤◌, true, false, Bool, List, [], ◌∷◌, ◌++◌, length, take, refl, ap, sym, ◌∙◌, subst, inl, inr, arith}
-use Rattle.std.specs.Prelude.{if◌then◌else◌, nat_le, None, ◌&&◌, ◌==◌, is_none}
+use Rattle.std.proofs.Common.{◌≡◌, ◌⊎◌, ℕ, ◌+◌, ◌-◌, ◌≤◌, true, false, List, [], ◌∷◌, ◌++◌, length, take, refl, ap, sym, ◌∙◌, subst, inl, inr, arith}
+use Rattle.std.specs.Prelude.{if◌then◌else◌, None, ◌&&◌, ◌==◌, is_none}
 use Rattle.std.specs.Str.{bytes_eq}
 use Rattle.std.proofs.lemmas.Bool.{le-leb}
-use Rattle.carte_io.specs.Disk.{CountsUp, IsImage, LeavesOnly, Story, moments}
+use Rattle.carte_io.specs.Disk.{CountsUp, LeavesOnly, Story, moments}
 use Rattle.carte_io.specs.Stations.{IsAtOneOf, StepsThrough}
 use Rattle.carte_io.proofs.Acknowledged.{steps_leave}
 use Rattle.carte_io.proofs.Images.{leaves_more, leaves_none, settled_image}
 use Rattle.carte_bank.specs.Roots.{Known}
-use Rattle.carte_journal.specs.Frames.{Bad, BodyAt, Ends, bank_in, end_of, header, reading, reading_in}
+use Rattle.carte_journal.specs.Frames.{Bad, BodyAt, Ends, end_of, header, reading, reading_in}
 use Rattle.carte_bank.specs.Roots.{bank_at}
 use Rattle.carte_journal.specs.Journals.{IsAtRest, IsRead, IsReadAs, Standing, committed, needed_for, step_of}
 use Rattle.carte_journal.specs.Regions.{IsPlannedOn, IsRewritable, bytes_of, gate_of, placed_at, region_end, rewritten, step_to, written_from}

@@ -1,5 +1,5 @@
 -- The state stays sound over a history of runs and trims.
-use Rattle.std.proofs.Common.{◌≡◌, ◌⊎◌, ℕ, List, [], ◌∷◌, ◌++◌, refl, sym, ◌∙◌, ap, subst, inl, inr, append_assoc, append-nil}
+use Rattle.std.proofs.Common.{◌≡◌, ℕ, List, [], ◌∷◌, ◌++◌, refl, sym, ◌∙◌, ap, subst, inl, inr, append_assoc, append-nil}
 use Rattle.std.proofs.lemmas.List.{append_cancel_right}
 use Rattle.carte_io.specs.Disk.{EachMoment, Leaves, LeavesOnly, Moment, Story, moments}
 use Rattle.carte_io.proofs.Images.{leaves_more, leaves_none, settled_image}
@@ -12,13 +12,12 @@ use Rattle.carte_sound.proofs.Begins.{front_distinct}
 use Rattle.carte_sound.proofs.Histories.{nothing_sound}
 use Rattle.carte_state.specs.Folding.{Keeps}
 use Rattle.carte_state.proofs.Folds.{keeps_one}
-use Rattle.carte_top.specs.Histories.{AreBooks, IsLeft, IsRunFrom, Run}
+use Rattle.carte_top.specs.Histories.{IsLeft}
 use Rattle.carte_top.specs.Sound.{KeepsSound}
 use Rattle.carte_top.proofs.HistoryRuns.{histories}
 use Rattle.carte_trim.specs.Histories.{AreSteps, IsTrimFrom, Runs, Step, Trim, Trims, TrimsBetween, around_of}
 use Rattle.carte_trim.specs.New.{KeepsEither}
-use Rattle.carte_trim.specs.Outcome.{Asks, Found, IsSpared, Leaves as TrimLeaves, MadeLeaves}
-use Rattle.carte_trim.specs.Trimmed.{IsTrimmed}
+use Rattle.carte_trim.specs.Outcome.{IsSpared, Leaves as TrimLeaves, MadeLeaves}
 use Rattle.carte_trim.proofs.Files.{new_keeps}
 use Rattle.carte_trim.proofs.Trims.{sound}
 

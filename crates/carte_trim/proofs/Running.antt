@@ -1,13 +1,11 @@
 -- A run, put together of its parts.
-use Rattle.std.proofs.Common.{◌≡◌, ◌⊎◌, ℕ, ◌<◌, ◌≤◌, List, length, Option, Some, None, Result, Ok, Err, refl, ap, sym, ◌∙◌, subst, inl, inr}
+use Rattle.std.proofs.Common.{◌≡◌, ℕ, ◌<◌, ◌≤◌, List, length, Result, Ok, Err, ap, sym, ◌∙◌, subst, inl, inr}
 use Rattle.carte_io.specs.Causes.{Rose}
 use Rattle.carte_io.specs.Disk.{LeavesOnly, Story}
-use Rattle.carte_record.specs.Kept.{SomeKept, nothing_kept}
-use Rattle.carte_state.specs.Folding.{Keeps}
-use Rattle.carte_state.specs.States.{Stand, kept_in}
+use Rattle.carte_record.specs.Kept.{SomeKept}
 use Rattle.carte_trim.specs.Around.{OverDisk, OverSink, IsUntouched, TakesAll, TakesFront}
-use Rattle.carte_trim.specs.New.{IsNeeded, IsNew, KeepsEither}
-use Rattle.carte_trim.specs.Outcome.{HasRoomFor, IsMade, IsOver, IsShort, IsSpared, Left, Made, MadeLeaves, Prints, Replies, TellsNew, TellsSink}
+use Rattle.carte_trim.specs.New.{IsNew, KeepsEither}
+use Rattle.carte_trim.specs.Outcome.{HasRoomFor, IsMade, IsShort, IsSpared, Made, MadeLeaves, Replies, TellsNew, TellsSink}
 use Rattle.carte_trim.specs.Parts.{Answers, LengthOr, Makes, RunsOver}
 use Rattle.carte_trim.specs.Texts.{reply}
 use Rattle.carte_trim.specs.Trimmed.{IsNumberOf, IsTrimmed}

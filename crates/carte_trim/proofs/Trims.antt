@@ -15,8 +15,8 @@ use Rattle.carte_record.specs.declared.way.Way.TheVariants.{Verifying, Construct
 use Rattle.carte_record.specs.Folds.{is_among, with_marks}
 use Rattle.carte_record.specs.Kept.{SomeKept, nothing_kept, staled}
 use Rattle.carte_record.proofs.Growing.{kept_same}
-use Rattle.carte_sound.specs.Begun.{AreMarks, begin, has_rules_of, is_digest}
-use Rattle.carte_sound.specs.Held.{How, IsHeld, IsHeldBy, IsTrusted, dirty, tracing}
+use Rattle.carte_sound.specs.Begun.{begin, has_rules_of, is_digest}
+use Rattle.carte_sound.specs.Held.{IsTrusted, dirty, tracing}
 use Rattle.carte_sound.specs.Marks.{IsChanged, IsFresh, IsMarked, Leads, need, on}
 use Rattle.carte_sound.specs.Sound.{IsEntryOfSome, IsFreshIn, IsSeen, IsSound, IsStored, IsTraceOfSome, Stood}
 use Rattle.carte_trim.specs.Laws.{HeldAsBefore, NoneNewlyHeld, OneTrimmed, TrimmedBegins, TrimmedIsSound}

@@ -1,6 +1,6 @@
 -- Trims between runs of `carte` over one state, each of which a crash may cut off at any moment.
 use Rattle.std.specs.Prelude.{ℕ, ◌≡◌, ◌⊎◌, List, [], ◌∷◌, ◌++◌}
-use Rattle.carte_io.specs.Disk.{IsSettled, Story}
+use Rattle.carte_io.specs.Disk.{Story}
 use Rattle.carte_io.specs.Streams.{SinkState}
 use Rattle.carte_book.specs.Book.{Book}
 use Rattle.carte_sound.specs.Base.{HasDistinctDigests}

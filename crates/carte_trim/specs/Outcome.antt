@@ -4,9 +4,9 @@ use Rattle.carte_io.specs.Causes.{Rose}
 use Rattle.carte_io.specs.Disk.{LeavesOnly}
 use Rattle.carte_record.specs.Kept.{SomeKept, nothing_kept}
 use Rattle.carte_state.specs.Folding.{IsBadState, Keeps}
-use Rattle.carte_trim.specs.Around.{Around, OverDisk, OverSink, IsUnvisited, IsUntouched, Says, TakesAll, TakesFront}
+use Rattle.carte_trim.specs.Around.{OverDisk, OverSink, IsUnvisited, IsUntouched, Says, TakesAll, TakesFront}
 use Rattle.carte_trim.specs.New.{IsNeeded, IsNew, KeepsEither}
-use Rattle.carte_trim.specs.Texts.{error_line, is_done, is_long, reply}
+use Rattle.carte_trim.specs.Texts.{error_line, is_long, reply}
 use Rattle.carte_trim.specs.Trimmed.{IsNumberOf, IsTrimmed}
 use Rattle.carte_trim.specs.Words.{count_of}
 use Rattle.carte_trim.specs.declared.status.Status.{Status}

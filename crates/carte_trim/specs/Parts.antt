@@ -1,5 +1,5 @@
 -- What the parts of a run have done.
-use Rattle.std.specs.Prelude.{ℕ, ◌≡◌, ◌⊎◌, ◌≤◌, ◌<◌, false, List, length, Result, Ok, Err}
+use Rattle.std.specs.Prelude.{ℕ, ◌≡◌, ◌⊎◌, List, length, Result, Ok, Err}
 use Rattle.carte_io.specs.Causes.{Rose}
 use Rattle.carte_io.specs.Disk.{LeavesOnly, Story}
 use Rattle.carte_journal.specs.declared.faults.LoadFault.{LoadFault}
@@ -9,7 +9,7 @@ use Rattle.carte_state.specs.Folding.{IsBadState, Keeps}
 use Rattle.carte_state.specs.States.{Stand, kept_in}
 use Rattle.carte_trim.specs.Around.{OverDisk, OverSink, IsUntouched}
 use Rattle.carte_trim.specs.New.{IsNew, KeepsEither}
-use Rattle.carte_trim.specs.Outcome.{IsMade, IsOver, IsSpared, Leaves, Made, MadeLeaves, MadeOf, Did, Prints, TellsNew, TellsSink, TellsState, Asks, Found}
+use Rattle.carte_trim.specs.Outcome.{IsMade, IsOver, IsSpared, Made, MadeLeaves, Did, Prints, TellsNew, TellsSink, TellsState, Found}
 use Rattle.carte_trim.specs.declared.status.Status.{Status}
 use Rattle.carte_trim.specs.declared.status.Status.TheVariants.{StateFault, BadState, Full, NoMemory, NewFault}
 

@@ -1,7 +1,6 @@
-use Rattle.std.proofs.Common.{◌≡◌, ◌+◌, ◌<◌, Bool, List, length, take, ap, sym, ◌∙◌, rules}
+use Rattle.std.proofs.Common.{◌+◌, ◌<◌, length, take, ap, sym, ◌∙◌, rules}
 use Rattle.std.specs.Prelude.{◌||◌}
 use Rattle.carte_table.specs.Lookups.{digest_eq}
-use Rattle.carte_value.specs.declared.digest.Digest.{Digest}
 use Rattle.carte_record.proofs.Links.{item_more}
 use Rattle.carte_trim.specs.Lists.{in_traces}
 use Rattle.carte_trim.proofs.Steps.{any_end, or_assoc, those_same}

@@ -1,4 +1,4 @@
-use Rattle.std.proofs.Common.{◌≡◌, Bool, false, refl, ap}
+use Rattle.std.proofs.Common.{false, refl, ap}
 use Rattle.carte_table.specs.Lookups.{first_value}
 use Rattle.carte_value.specs.declared.digest.Digest.{Digest}
 use Rattle.carte_trim.specs.Lists.{in_batch}

@@ -1,4 +1,4 @@
-use Rattle.std.proofs.Common.{◌≡◌, ◌++◌, List, ◌∷◌, [], Some, ap, sym, subst, ◌∙◌, rules}
+use Rattle.std.proofs.Common.{◌≡◌, ◌++◌, List, ◌∷◌, [], Some, sym, subst, rules}
 use Rattle.std.specs.Prelude.{◌||◌}
 use Rattle.carte_table.specs.Lookups.{digest_eq, first_value}
 use Rattle.carte_value.specs.declared.value.Value.{Value}

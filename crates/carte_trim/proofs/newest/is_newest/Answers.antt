@@ -1,9 +1,6 @@
-use Rattle.std.proofs.Common.{◌≡◌, ◌<◌, true, length, sym, ap, subst, rules, arith}
-use Rattle.std.specs.Prelude.{nat_le, nat_lt, get_or, drop, ◌-◌, ◌+◌}
+use Rattle.std.proofs.Common.{length, ap, arith}
 use Rattle.carte_table.proofs.Names.{name_eq_self}
-use Rattle.carte_table.specs.Places.{places}
 use Rattle.carte_record.specs.Lookups.{is_trace_of}
-use Rattle.carte_trim.specs.Lists.{count_of}
 use Rattle.carte_trim.proofs.Ranks.{by_place, few_behind}
 use Rattle.carte_trim.proofs.newest.is_newest.Goals as goal
 

@@ -1,4 +1,4 @@
-use Rattle.std.proofs.Common.{[], sym, subst}
+use Rattle.std.proofs.Common.{sym, subst}
 use Rattle.carte_codec.specs.Each.{EachFits}
 use Rattle.carte_record.specs.Bodies.{IsUnmarked}
 use Rattle.carte_trim.proofs.Files.{no_entries}

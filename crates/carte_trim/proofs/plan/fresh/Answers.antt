@@ -1,4 +1,4 @@
-use Rattle.std.proofs.Common.{[], subst, sym}
+use Rattle.std.proofs.Common.{subst}
 use Rattle.carte_io.specs.MemDisks.{story_of}
 use Rattle.carte_journal.specs.Journals.{IsRead}
 use Rattle.carte_trim.proofs.Files.{read_fresh}
