@@ -17,7 +17,7 @@ use std::alloc::Global;
 
 impl Engine {
     /// What a build of the targets would do where keys wait for what they need. Nothing is changed and nothing committed:
-    /// it takes the work of such a build, and leaves out the batch. Refused where a target has no value.
+    /// it takes the work of such a build, and leaves out the batches. Refused where a target has no value.
     pub fn preview<R: Rebuilder>(
         &mut self,
         alloc: Global,
