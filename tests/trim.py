@@ -1,11 +1,11 @@
 #!/usr/bin/env python3
-"""Drives the built program that trims: trim.py [PROGRAM [TRIM]] [--seed S] [--histories N] [--edits N] [--only PART]
+"""Drives the built program that trims: trim.py [PROGRAM [TRIM]] [--seed S] [--histories N] [--edits N] [--rebuilders NAME..] [--only PART]
 
 PROGRAM is `carte`, TRIM `carte_trim_main`. What a trim has to leave, byte for byte, is worked out by a second reading of state files
 (`states.py`) that shares no code with either. By hand: the small state, marks, a chain, values that nobody names. Faults of words and of
 files. Random histories of sessions, with a trim between them, beside the second reading of builds (`engine.py`). A new file that can't
-grow, and each writing call of a trim with what a crash may leave. A full state. And a thousand edits of one input each over 8,192 keys
-under each rebuilder, with a trim to 4 every hundred. Each part prints how many of its checks passed; a check that fails is printed, and
+grow, and each writing call of a trim with what a crash may leave. A full state. And a thousand edits of one input each over 8,192 keys,
+under deep traces 1,024, with a trim to 4 every hundred. Each part prints how many of its checks passed; a check that fails is printed, and
 the end is 1 then.
 """
 import argparse
@@ -39,7 +39,8 @@ STATE_FAULT = (6, b"", b"carte_trim: the state's device failed\n")
 NOT_NEW = (17, b"", b"carte_trim: NEW isn't new\n")
 NEW_FAULT = (18, b"", b"carte_trim: NEW's device failed\n")
 EMPTY = batches.spell((("go on",), [], [], [], [], [], [], [], None))
-KEYS, COUNT = 8_192, 4
+# Deep traces of 8,192 keys take 76 MB a build, so under that rebuilder the book is smaller.
+KEYS, COUNT = {"deep": 1_024}, 4
 
 
 # The second reading
@@ -395,12 +396,12 @@ def hundred(trims, keys, rebuilder, chance, times):
     return full_ones
 
 
-def edits(trims, times):
+def edits(trims, times, rebuilders):
     """Edits of one input each, with a trim every hundred: how large the state is at the end, beside that of one build, and what loading it takes."""
     print("| Rebuilder | before the last trim | behind it | State of one build | Load |", "|---|---|---|---|---|", sep="\n")
-    for rebuilder in REBUILDERS:
+    for rebuilder in rebuilders:
         (trims.folder / "state").unlink(missing_ok=True)
-        keys, chance, full_ones = Keys(KEYS), random.Random(f"edits/{rebuilder}"), 0
+        keys, chance, full_ones = Keys(KEYS.get(rebuilder, 8_192)), random.Random(f"edits/{rebuilder}"), 0
         for part in range(times // 100):
             full_ones += hundred(trims, keys, rebuilder, chance, 100)
             before = trims.read("state")
@@ -427,11 +428,12 @@ def main():
     said.add_argument("--seed", default="1")
     said.add_argument("--histories", default=400, type=int)
     said.add_argument("--edits", default=1_000, type=int)
+    said.add_argument("--rebuilders", default=REBUILDERS, nargs="+")
     said.add_argument("--only")
     said = said.parse_args()
     parts = [
         ("by hand", by_hand), ("words", words), ("files", files), ("histories", lambda trims: histories(trims, said.histories, said.seed)),
-        ("cut off", cut_off), ("each writing call", each_call), ("full", full), ("too large", too_large), ("edits", lambda trims: edits(trims, said.edits)),
+        ("cut off", cut_off), ("each writing call", each_call), ("full", full), ("too large", too_large), ("edits", lambda trims: edits(trims, said.edits, said.rebuilders)),
     ]
     failed = 0
     for name, part in parts:
