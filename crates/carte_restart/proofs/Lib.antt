@@ -11,4 +11,3 @@ pub mod Taking
 pub mod Right
 pub mod Restarted
 pub mod Built
-pub mod Totalling

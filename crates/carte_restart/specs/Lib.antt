@@ -4,4 +4,3 @@ pub mod Straight
 pub mod Led
 pub mod Chained
 pub mod Ending
-pub mod Totals

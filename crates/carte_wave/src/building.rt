@@ -17,7 +17,6 @@ use crate::laws::fits_on;
 use crate::waves::wave;
 use carte_bench::Bench;
 use carte_book::Book;
-use carte_effect::Digests;
 use carte_progress::{first_reason, open};
 use carte_rebuild::{Rebuilder, Work, WorkEnd};
 use carte_record::Kept;
@@ -56,19 +55,8 @@ pub fn build<R: Rebuilder, G: Gate, T: Threads + Sync>(
         &mut front,
         targets.as_slice(),
     )?;
-    let mut digests = Digests::new(alloc, book.hasher());
     wave_on(
-        rt,
-        alloc,
-        rebuilder,
-        kept,
-        book,
-        &mut bench,
-        &mut work,
-        &mut front,
-        &mut digests,
-        workers,
-        gate,
+        rt, alloc, rebuilder, kept, book, &mut bench, &mut work, &mut front, workers, gate,
     )?;
     match first_reason(alloc, &bench, targets.as_slice())? {
         None => Ok(WorkEnd::All(work)),
@@ -130,7 +118,6 @@ fn wave_on<R: Rebuilder, G: Gate, T: Threads + Sync>(
     bench: &mut Bench<'_, R::Job>,
     work: &mut Work,
     front: &mut Front,
-    digests: &mut Digests,
     workers: usize,
     gate: &G,
 ) -> Result<(), NoMemory>
@@ -145,7 +132,7 @@ fn wave_on<R: Rebuilder, G: Gate, T: Threads + Sync>(
 {
     'waves: while front.goes_on() {
         wave(
-            rt, alloc, rebuilder, kept, book, bench, work, front, digests, workers, gate,
+            rt, alloc, rebuilder, kept, book, bench, work, front, workers, gate,
         )?;
     }
     Ok(())
