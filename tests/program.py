@@ -286,8 +286,8 @@ def chain(length, start):
 
 
 def killed(runs, kills, seed):
-    """Runs that are killed at any moment: the next one finds what was kept before, or what that run computed."""
-    chance, length, kept = random.Random(f"{seed}/kills"), 300, Kept()
+    """Runs of one part that are killed at any moment: the next one finds what was kept before, or what that run computed."""
+    chance, length, kept = random.Random(f"{seed}/kills"), 250, Kept()
     cut = collections.Counter()
     runs.put("chain.toml", chain(length, -1))
     began = time.monotonic()
