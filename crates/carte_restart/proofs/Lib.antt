@@ -11,3 +11,4 @@ pub mod Taking
 pub mod Right
 pub mod Restarted
 pub mod Built
+pub mod Totalling

@@ -4,3 +4,4 @@ pub mod Straight
 pub mod Led
 pub mod Chained
 pub mod Ending
+pub mod Totals

@@ -23,6 +23,8 @@
 mod building;
 mod chains;
 mod first;
+mod laws;
 mod turns;
 
 pub use building::build;
+pub use laws::starts_in_vain_in_all;

@@ -1,6 +1,6 @@
 -- What the steps of reading answer.
 use Rattle.std.specs.Prelude.{ℕ, ◌≡◌, ◌+◌, ⊤, List, Option, Some, None, Result, Ok, Err}
-use Rattle.std.specs.FinMap.{insert}
+use Rattle.std.specs.FinMap.{empty, insert}
 use Rattle.csv.specs.declared.error.ErrorKind.{ErrorKind}
 use Rattle.csv.specs.declared.error.ErrorKind.TheVariants as kind
 use Rattle.carte_name.specs.declared.NoMemory.{NoMemory as NoValueMemory}
@@ -10,7 +10,7 @@ use Rattle.carte_book.specs.Book.{Item, Book, book_view}
 use Rattle.carte_book.specs.declared.book.Book.{Book as CodeBook}
 use Rattle.carte_book.specs.declared.fault.BookFault.{BookFault}
 use Rattle.carte_book.specs.declared.fault.BookFault.TheVariants.{Formula, NoMemory}
-use Rattle.carte_sheet.specs.Reading.{Content, ValueAt, IsTooLong, FilledInto, FieldInto, RowInto}
+use Rattle.carte_sheet.specs.Reading.{Content, ValueAt, IsTooLong, FilledInto, FieldInto, RowInto, RowsInto}
 use Rattle.carte_sheet.specs.Places.{IsAbove, IsBefore}
 use Rattle.carte_sheet.specs.Drafts.{Holds}
 use Rattle.carte_sheet.specs.declared.draft.Draft.{Draft}
@@ -60,6 +60,11 @@ LeavesField r c field m d (Err fault) = IsCause fault → FieldInto r c field m 
 abbrev pub LeavesRow : ℕ → List (List ℕ) → Content → Draft → Result (Unit {0}) BookFault → Type 0
 LeavesRow r fields m d (Ok u) = (n : Content) × RowInto r fields m (Ok n) × Holds d n × IsAbove n (r + 1)
 LeavesRow r fields m d (Err fault) = IsCause fault → RowInto r fields m (Err fault)
+
+-- and what all rows give
+abbrev pub LeavesRows : List (List (List ℕ)) → Draft → Result (Unit {0}) BookFault → Type 0
+LeavesRows rows d (Ok u) = (m : Content) × RowsInto 1 rows empty (Ok m) × Holds d m
+LeavesRows rows d (Err fault) = IsCause fault → RowsInto 1 rows empty (Err fault)
 
 -- an error that no record's length or bytes give
 abbrev pub EndsRecords : ErrorKind → Type 0

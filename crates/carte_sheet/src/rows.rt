@@ -5,7 +5,8 @@ ghost use Rattle.std.specs.List.{slice_index_or};
 ghost use Rattle.csv.specs.Records.{fields_of};
 ghost use Rattle.carte_sheet.specs.Drafts.{Holds};
 ghost use Rattle.carte_sheet.specs.Reading.{Content, InRows, records_of};
-ghost use Rattle.carte_sheet.specs.Steps.{Answers, LeavesRow, LeavesField, EndsRecords};
+ghost use Rattle.carte_sheet.specs.Steps.{Answers, LeavesRow, LeavesRows, LeavesField, EndsRecords};
+ghost use Rattle.std.specs.FinMap.{empty};
 ghost use Rattle.carte_sheet.specs.Places.{IsAbove, IsBefore};
 
 use crate::cell::read_field;
@@ -20,17 +21,33 @@ use std::alloc::Global;
 pub(crate) fn read_records(alloc: Global, text: &[u8], hasher: Seeded) -> Result<Book, BookFault>
     ensures { Answers (InRows (records_of text.now)) result }
 {
+    let mut room = Room::new(alloc);
+    let mut draft = Draft::new(alloc, hasher);
+    match read_rows(alloc, &mut room, text, &mut draft) {
+        Ok(()) => draft.finish(),
+        Err(fault) => Err(fault),
+    }
+}
+
+// Puts what all records hold into a draft without cells.
+fn read_rows(
+    alloc: Global,
+    room: &mut Room,
+    text: &[u8],
+    draft: &mut Draft,
+) -> Result<(), BookFault>
+    requires { Holds draft.old empty }
+    ensures { LeavesRows (records_of text.now) draft.new result }
+{
     let reader = ReaderBuilder::new()
         .has_headers(false)
         .flexible(true)
         .from_reader(alloc, text);
-    let mut room = Room::new(alloc);
-    let mut draft = Draft::new(alloc, hasher);
     let mut row: usize = 1;
     for found in reader.into_byte_records() {
         match found {
             Ok(fields) => {
-                if let Err(fault) = read_row(alloc, &mut room, row, &fields, &mut draft) {
+                if let Err(fault) = read_row(alloc, room, row, &fields, draft) {
                     return Err(fault);
                 }
             }
@@ -42,7 +59,7 @@ pub(crate) fn read_records(alloc: Global, text: &[u8], hasher: Seeded) -> Result
         };
         row = next;
     }
-    draft.finish()
+    Ok(())
 }
 
 // A text in memory has no device that fails, and records may have any length.

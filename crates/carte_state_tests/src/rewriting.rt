@@ -49,8 +49,12 @@ fn measured(alloc: Global, state: &State) -> Result<(usize, usize, u64), NoMemor
 fn live_of(alloc: Global, file: &[u8], stale: &Names) -> Result<(usize, usize, u64), Fail> {
     let mut disk = MemDisk::of(alloc, file, &[])?;
     let mut state = loaded(alloc, &mut disk, 437)?;
+    marked(alloc, &mut state, stale)
+}
+
+fn marked(alloc: Global, state: &mut State, stale: &Names) -> Result<(usize, usize, u64), Fail> {
     state.mark(stale);
-    Ok(measured(alloc, &state)?)
+    Ok(measured(alloc, state)?)
 }
 
 /// A region has 5 bytes beside each body, and a gate byte. The body that marks b1 has 34 bytes.

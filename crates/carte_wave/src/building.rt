@@ -17,6 +17,7 @@ use crate::laws::fits_on;
 use crate::waves::wave;
 use carte_bench::Bench;
 use carte_book::Book;
+use carte_effect::Digests;
 use carte_progress::{first_reason, open};
 use carte_rebuild::{Rebuilder, Work, WorkEnd};
 use carte_record::Kept;
@@ -55,8 +56,19 @@ pub fn build<R: Rebuilder, G: Gate, T: Threads + Sync>(
         &mut front,
         targets.as_slice(),
     )?;
+    let mut digests = Digests::new(alloc, book.hasher());
     wave_on(
-        rt, alloc, rebuilder, kept, book, &mut bench, &mut work, &mut front, workers, gate,
+        rt,
+        alloc,
+        rebuilder,
+        kept,
+        book,
+        &mut bench,
+        &mut work,
+        &mut front,
+        &mut digests,
+        workers,
+        gate,
     )?;
     match first_reason(alloc, &bench, targets.as_slice())? {
         None => Ok(WorkEnd::All(work)),
@@ -118,6 +130,7 @@ fn wave_on<R: Rebuilder, G: Gate, T: Threads + Sync>(
     bench: &mut Bench<'_, R::Job>,
     work: &mut Work,
     front: &mut Front,
+    digests: &mut Digests,
     workers: usize,
     gate: &G,
 ) -> Result<(), NoMemory>
@@ -132,7 +145,7 @@ fn wave_on<R: Rebuilder, G: Gate, T: Threads + Sync>(
 {
     'waves: while front.goes_on() {
         wave(
-            rt, alloc, rebuilder, kept, book, bench, work, front, workers, gate,
+            rt, alloc, rebuilder, kept, book, bench, work, front, digests, workers, gate,
         )?;
     }
     Ok(())

@@ -63,14 +63,28 @@ pub(crate) fn drive_part<J: Job + Drop, L: Look, G: Gate>(
 ) -> Result<Wave<J>, NoMemory>
     ensures { IfOk result (λ w. DroveAll J.name J.started J.gives (L.sight look.now) part.jobs.items w.driven.items no_runs w.runs) }
 {
-    let Part { number, mut jobs } = part;
-    let mut wave = Wave::new(alloc);
+    let Part { number, jobs } = part;
     let mut digests = Digests::new(alloc, hasher);
+    drive_jobs(alloc, number, jobs, look, &mut digests, gate)
+}
+
+/// Drives each of these jobs once, one after another, as the part with this number. Digests that were taken before spare work.
+pub(crate) fn drive_jobs<J: Job + Drop, L: Look, G: Gate>(
+    alloc: Global,
+    number: usize,
+    mut jobs: Jobs<J>,
+    look: &L,
+    digests: &mut Digests,
+    gate: &G,
+) -> Result<Wave<J>, NoMemory>
+    ensures { IfOk result (λ w. DroveAll J.name J.started J.gives (L.sight look.now) jobs.items w.driven.items no_runs w.runs) }
+{
+    let mut wave = Wave::new(alloc);
     if !jobs.is_empty() {
         gate.enter(number);
     }
     'jobs: while let Some(job) = jobs.pop_front() {
-        wave.drive_one(alloc, job, look, &mut digests)?;
+        wave.drive_one(alloc, job, look, digests)?;
     }
     Ok(wave)
 }

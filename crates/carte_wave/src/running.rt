@@ -34,8 +34,8 @@ pub fn run_wave<J: Job + Send + Drop, L: Look + Sync, G: Gate, T: Threads + Sync
     gather(alloc, waves)
 }
 
-// How many parts so many jobs have: no more than there are workers, and one where they are few and the gate doesn't ask.
-fn part_count(jobs: usize, workers: usize, all: bool) -> usize
+/// How many parts so many jobs have: no more than there are workers, and one where they are few and the gate doesn't ask.
+pub(crate) fn part_count(jobs: usize, workers: usize, all: bool) -> usize
     ensures some { 0 < result }
     ensures most { 0 < workers → result ≤ workers }
     ensures few { all ≡ false → jobs < 128 → result ≡ 1 }

@@ -13,11 +13,13 @@ ghost use Rattle.carte_wave.specs.Standing.{IsLined, AreWanted, waves_left};
 ghost use Rattle.carte_wave.specs.Waves.{IsWave};
 
 use crate::front::Front;
+use crate::parts::drive_jobs;
+use crate::running::part_count;
 use crate::settle::settle_all;
 use crate::{Gate, Jobs, Wave, run_wave};
 use carte_bench::Bench;
 use carte_book::Book;
-use carte_effect::Job;
+use carte_effect::{Digests, Job};
 use carte_rebuild::{Rebuilder, Work};
 use carte_record::Kept;
 use carte_value::{Name, NoMemory, Seeded};
@@ -36,6 +38,7 @@ pub(crate) fn wave<R: Rebuilder, G: Gate, T: Threads + Sync>(
     bench: &mut Bench<'_, R::Job>,
     work: &mut Work,
     front: &mut Front,
+    digests: &mut Digests,
     workers: usize,
     gate: &G,
 ) -> Result<(), NoMemory>
@@ -52,7 +55,16 @@ pub(crate) fn wave<R: Rebuilder, G: Gate, T: Threads + Sync>(
 {
     let keys = front.take(alloc);
     let jobs = take_all(alloc, bench, keys)?;
-    let came = drive_all(rt, alloc, jobs, bench, book.hasher(), workers, gate)?;
+    let came = drive_all(
+        rt,
+        alloc,
+        jobs,
+        bench,
+        book.hasher(),
+        digests,
+        workers,
+        gate,
+    )?;
     let Wave { driven, runs } = came;
     work.runs.append(runs)?;
     settle_all(alloc, rebuilder, kept, book, bench, work, front, driven)
@@ -94,17 +106,21 @@ fn take_one<J: Job + Drop>(
     }
 }
 
-// Drives jobs over a bench, each once.
+// Drives jobs over a bench, each once. Where they are one part, no thread is started, and digests of earlier waves are at hand.
 fn drive_all<J: Job + Drop + Send + Sync, G: Gate, T: Threads + Sync>(
     rt: &T,
     alloc: Global,
     jobs: Jobs<J>,
     bench: &Bench<'_, J>,
     hasher: Seeded,
+    digests: &mut Digests,
     workers: usize,
     gate: &G,
 ) -> Result<Wave<J>, NoMemory>
     ensures { IfOk result (λ w. DroveAll J.name J.started J.gives (sight_in (book_of bench.now) (spots_of bench.now)) jobs.items w.driven.items no_runs w.runs) }
 {
+    if part_count(jobs.len(), workers, gate.wants_all()) == 1 {
+        return drive_jobs(alloc, 0, jobs, bench, digests, gate);
+    }
     run_wave(rt, alloc, jobs, bench, hasher, workers, gate)
 }

@@ -7,7 +7,7 @@ use Rattle.carte_sheet.specs.Drafts.{Holds}
 use Rattle.carte_sheet.specs.Reading.{Content, RowsInto, records_of}
 use Rattle.carte_sheet.specs.Places.{IsAbove}
 use Rattle.carte_sheet.proofs.Records.{IsBetween, rest_from}
-use Rattle.carte_sheet.proofs.rows.read_records.Given as goal
+use Rattle.carte_sheet.proofs.rows.read_rows.Given as goal
 
 abbrev pub invariant-loop-found : goal.invariant-loop-found
 invariant-loop-found l = (l.found-iterator.rdr.trim ≡ trim.None) × Ready l.found-iterator.rdr × (0 < l.found-iterator.left) × (l.found-iterator.rdr.config ≡ default_config)
