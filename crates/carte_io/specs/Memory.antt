@@ -3,9 +3,10 @@ use Rattle.std.specs.Prelude.{◌==◌, ℕ, List, Bool, ◌++◌, drop, length}
 use Rattle.std.specs.List.{list_any}
 use Rattle.carte_io.specs.Causes.{counted}
 
--- the bytes left, the numbers of the calls that fail, how many bytes the last call moved that passed, and how many calls and failures there were
+-- the bytes left, the most that a call gives, the numbers of the calls that fail, how many bytes the last call moved that passed, and how many calls and failures there were
 pub record MemoryOfSource : Type 0 where
   pub left : List ℕ
+  pub most : ℕ
   pub failing : List ℕ
   pub last : ℕ
   pub calls : ℕ
@@ -19,6 +20,10 @@ pub record MemoryOfSink : Type 0 where
   pub failing : List ℕ
   pub calls : ℕ
   pub faults : ℕ
+
+-- a source of these bytes, before any call
+abbrev pub holding : List ℕ → ℕ → List ℕ → MemoryOfSource
+holding bytes most failing = record { left = bytes; most = most; failing = failing; last = 0; calls = 0; faults = 0 }
 
 -- the call after so many is one of the list
 abbrev pub is_failing : List ℕ → ℕ → Bool

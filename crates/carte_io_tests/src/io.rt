@@ -1,7 +1,8 @@
 //! Sources, sinks and files: what they pass on, and where they fail.
 
 use carte_io::{
-    Disk, FileDisk, MemSink, MemSource, ReadEnd, ReadSource, Sink, WriteSink, read_whole, write_all,
+    Disk, FileDisk, MemSink, MemSource, ReadEnd, ReadSource, Sink, Source, WriteSink, read_whole,
+    write_all,
 };
 use std::fs::OpenOptions;
 use std::io::{self, ErrorKind, Write};
@@ -41,6 +42,13 @@ fn a_source_is_read_whole(rt: HostRuntime) -> Result<(), Fail> {
     let mut pieces = MemSource::of(rt.alloc(), &long, &[])?;
     let bytes = read_whole(rt.alloc(), &mut pieces, 20000)?;
     assert_eq!(rt; bytes.as_slice(), long.as_slice(), "by three pieces");
+    let mut slow = MemSource::slow(rt.alloc(), b"abcde", 2, &[2])?;
+    let mut into = [b'.'; 4];
+    assert_eq!(rt; slow.read(&mut into).ok(), Some(2));
+    assert!(rt; slow.read(&mut into).is_err(), "it moves nothing");
+    assert_eq!(rt; into, *b"ab..");
+    let bytes = read_whole(rt.alloc(), &mut slow, 3)?;
+    assert_eq!(rt; bytes.as_slice(), b"cde".as_slice());
     let mut slice = ReadSource::of(b"xyz".as_slice());
     let bytes = read_whole(rt.alloc(), &mut slice, 100)?;
     assert_eq!(rt; bytes.as_slice(), b"xyz".as_slice());
