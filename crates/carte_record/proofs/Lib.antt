@@ -5,4 +5,3 @@ pub mod Empties
 pub mod Looked
 pub mod Unmarking
 pub mod Links
-pub mod Latest

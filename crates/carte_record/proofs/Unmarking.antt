@@ -1,5 +1,5 @@
 -- Marks that are put on and taken off again leave all as it was.
-use Rattle.std.proofs.Common.{◌≡◌, ℕ, Bool, true, false, cond, List, [], ◌∷◌, ◌++◌, ◌||◌, Option, Some, None, find, refl, ap, sym, ◌∙◌, inl, inr}
+use Rattle.std.proofs.Common.{◌≡◌, ◌<◌, ℕ, Bool, true, false, cond, List, [], ◌∷◌, ◌||◌, length, Option, Some, None, find, refl, ap, sym, subst, ◌∙◌, inl, inr}
 use Rattle.std.specs.Prelude.{if◌then◌else◌, option_map}
 use Rattle.carte_name.specs.Names.{name_eq}
 use Rattle.carte_value.specs.Truths.{Among, NoneTwice}
@@ -10,11 +10,15 @@ use Rattle.carte_record.specs.declared.way.Way.TheVariants.{Verifying, Construct
 use Rattle.carte_table.specs.Changes.{change_first}
 use Rattle.carte_record.specs.Folds.{is_among, with_marks}
 use Rattle.carte_record.specs.Kept.{kept_traces, kept_view, staled, traces_in}
-use Rattle.carte_record.specs.Lookups.{first_entry, is_entry_of}
+use Rattle.carte_table.specs.Steps.{replaced_by, TakesIn}
+use Rattle.carte_record.specs.Growth.{TakesEntries}
+use Rattle.carte_record.specs.Lookups.{entry_in, first_entry, is_entry_of}
 use Rattle.carte_record.specs.Marked.{CanBeMarked, all_marked, lists_marked, marked_as}
 use Rattle.carte_record.proofs.Growing.{kept_same}
 use Rattle.carte_record.proofs.Marks.{marked_more, none_marked}
+use Rattle.carte_table.proofs.Changed.{all_long}
 use Rattle.carte_table.proofs.Names.{name_eq_is}
+use Rattle.carte_table.proofs.Onces.{empty_list}
 
 -- changes of items that are apart come in either order
 swapped : {A : Type 0} (p q : A → Bool) (f g : A → A) (xs : List A) → ((y : A) → p y ≡ true → q y ≡ false) → ((y : A) → p (g y) ≡ p y) → ((y : A) → q (f y) ≡ q y)
@@ -70,11 +74,6 @@ marked_back old new lists ks can is step =
     step ∙ (ap (λ (K : Kept). record K { entries = all_marked false K.entries ks }) is
     ∙ ap (λ es. record lists { entries = es }) (all_back lists.entries ks can.once can.unmarked))
 
--- names that grow at their end
-pub marked_end : (b : Bool) (es : List Entry) (ks : List (List ℕ)) (k : List ℕ) → all_marked b es (ks ++ k ∷ []) ≡ change_first (is_entry_of k) (marked_as b) (all_marked b es ks)
-marked_end b es [] k = refl
-marked_end b es (j ∷ js) k = marked_end b (change_first (is_entry_of j) (marked_as b) es) js k
-
 -- what is found of each key
 pub marked_found : (es : List Entry) (ks : List (List ℕ)) (k : List ℕ) → first_entry (all_marked true es ks) k ≡ option_map (staled (is_among ks k)) (first_entry es k)
 marked_found es [] k = none_marked (first_entry es k)
@@ -89,6 +88,15 @@ marked_found es (j ∷ js) k =
     both (Some e) true false = refl
     both (Some e) false true = refl
     both (Some e) false false = refl
+
+-- later entries that are taken in over marks
+pub taken_over_marks : (old mid new es : List Entry) (ks : List (List ℕ)) → mid ≡ all_marked true old ks → TakesIn is_entry_of es mid new → TakesEntries ks es old new
+taken_over_marks old mid new es ks is (inl (none, same)) = inl (empty_list old (sym (all_long is_entry_of (marked_as true) old ks) ∙ ap length (sym is ∙ none)), same)
+taken_over_marks old mid new es ks is (inr (some, puts)) =
+    inr (
+      subst (λ n. 0 < n) (ap length is ∙ all_long is_entry_of (marked_as true) old ks) some,
+      λ k. puts k ∙ ap (λ o. replaced_by o (entry_in es k)) (ap (λ xs. first_entry xs k) is ∙ marked_found old ks k),
+    )
 
 pub marked_view : (K L : Kept) (ks : List (List ℕ)) → L ≡ lists_marked K ks → kept_view L ≡ with_marks (kept_view K) ks
 marked_view K L ks is =

@@ -7,3 +7,4 @@ pub mod Empty
 pub mod Growth
 pub mod Marked
 pub mod Latest
+pub mod Alike

@@ -1,9 +1,9 @@
 -- Entries that are marked where they stand, and marks that are taken off again.
-use Rattle.std.specs.Prelude.{ℕ, ◌≡◌, Bool, true, false, List, [], ◌∷◌, Some}
+use Rattle.std.specs.Prelude.{ℕ, ◌≡◌, Bool, true, false, List, Some}
 use Rattle.carte_value.specs.Truths.{Among, NoneTwice}
 use Rattle.carte_record.specs.declared.entry.Entry.{Entry}
 use Rattle.carte_record.specs.declared.kept.Kept.{Kept}
-use Rattle.carte_table.specs.Changes.{change_first}
+use Rattle.carte_table.specs.Changes.{all_changed}
 use Rattle.carte_record.specs.Lookups.{first_entry, is_entry_of}
 
 abbrev pub marked_as : Bool → Entry → Entry
@@ -11,8 +11,7 @@ marked_as b e = record e { stale = b }
 
 -- the first entry of each of these keys, one after the other, with the mark or without
 abbrev pub all_marked : Bool → List Entry → List (List ℕ) → List Entry
-all_marked b es [] = es
-all_marked b es (k ∷ ks) = all_marked b (change_first (is_entry_of k) (marked_as b) es) ks
+all_marked b = all_changed is_entry_of (marked_as b)
 
 -- what is kept with these marks, list for list
 abbrev pub lists_marked : Kept → List (List ℕ) → Kept

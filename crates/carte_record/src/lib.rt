@@ -22,6 +22,7 @@ mod codec;
 mod entries;
 mod entry;
 mod kept;
+mod keyed;
 mod laws;
 mod lengths;
 mod measured;

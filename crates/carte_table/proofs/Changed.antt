@@ -1,8 +1,9 @@
 -- Lists with one item changed.
-use Rattle.std.proofs.Common.{◌≡◌, ℕ, suc, Bool, true, false, cond, List, [], ◌∷◌, length, Option, Some, None, refl, ap, subst, set, slice_get}
+use Rattle.std.proofs.Common.{◌≡◌, ℕ, suc, Bool, true, false, cond, List, [], ◌∷◌, ◌++◌, length, Option, Some, None, refl, ap, ◌∙◌, subst, set, slice_get}
 use Rattle.std.specs.Prelude.{option_map, find, if◌then◌else◌}
 use Rattle.carte_table.specs.Places.{first_place}
-use Rattle.carte_table.specs.Changes.{change_first}
+use Rattle.std.specs.List.{flat_map}
+use Rattle.carte_table.specs.Changes.{all_changed, change_first}
 
 -- where none passes
 pub change_none : {A : Type 0} (p : A → Bool) (f : A → A) (xs : List A) → first_place p xs ≡ None → change_first p f xs ≡ xs
@@ -68,3 +69,21 @@ length_changed {A = A} p f (x ∷ xs) = on (p x) (length_changed p f xs)
     on : (b : Bool) → length (change_first p f xs) ≡ length xs → length (if b then f x ∷ xs else x ∷ change_first p f xs) ≡ suc (length xs)
     on true is = refl
     on false is = ap suc is
+
+-- its bytes stay, where a change keeps those of each item
+pub changed_spelling : {A : Type 0} (spelled : A → List ℕ) (p : A → Bool) (f : A → A) → ((x : A) → spelled (f x) ≡ spelled x) → (xs : List A) → flat_map spelled (change_first p f xs) ≡ flat_map spelled xs
+changed_spelling spelled p f same [] = refl
+changed_spelling {A = A} spelled p f same (x ∷ xs) = on (p x) (changed_spelling spelled p f same xs)
+  where
+    on : (b : Bool) → flat_map spelled (change_first p f xs) ≡ flat_map spelled xs → flat_map spelled (if b then f x ∷ xs else x ∷ change_first p f xs) ≡ spelled x ++ flat_map spelled xs
+    on true rest = ap (λ bytes. bytes ++ flat_map spelled xs) (same x)
+    on false rest = ap (λ bytes. spelled x ++ bytes) rest
+
+-- keys that grow at their end
+pub changed_end : {K A : Type 0} (is_of : K → A → Bool) (f : A → A) (xs : List A) (ks : List K) (k : K) → all_changed is_of f xs (ks ++ k ∷ []) ≡ change_first (is_of k) f (all_changed is_of f xs ks)
+changed_end is_of f xs [] k = refl
+changed_end is_of f xs (j ∷ js) k = changed_end is_of f (change_first (is_of j) f xs) js k
+
+pub all_long : {K A : Type 0} (is_of : K → A → Bool) (f : A → A) (xs : List A) (ks : List K) → length (all_changed is_of f xs ks) ≡ length xs
+all_long is_of f xs [] = refl
+all_long is_of f xs (k ∷ ks) = all_long is_of f (change_first (is_of k) f xs) ks ∙ length_changed (is_of k) f xs

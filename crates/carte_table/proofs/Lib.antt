@@ -7,3 +7,4 @@ pub mod Steps
 pub mod Onces
 pub mod Changed
 pub mod Lengths
+pub mod Latest

@@ -3,7 +3,7 @@ use Rattle.std.proofs.Common.{◌≡◌, ℕ, ◌<◌, length, arith, cond, Bool
 use Rattle.std.specs.Prelude.{find, option_map, is_some, if◌then◌else◌}
 use Rattle.std.specs.Option.{option_or}
 use Rattle.carte_name.specs.Names.{name_eq}
-use Rattle.carte_table.specs.Lookups.{find_last}
+use Rattle.carte_table.specs.Lookups.{find_last, has_key}
 use Rattle.carte_table.specs.Changes.{change_first}
 use Rattle.carte_table.specs.Steps.{Begins, replaced_by, Replaces, HasRoomFor, HasRoom, IsReady, TakesIn}
 use Rattle.carte_table.proofs.Names.{name_eq_is, name_eq_self}
@@ -32,7 +32,7 @@ none_of_last {A = A} p (x ∷ xs) none = on (p x) (find_last p xs) (none_of_last
 
 module _ {A : Type 0} (key : A → List ℕ) where
   abbrev pub of_key : List ℕ → A → Bool
-  of_key k x = name_eq k (key x)
+  of_key = has_key key
 
   same_key : (k : List ℕ) (x y : A) → name_eq (key x) (key y) ≡ true → name_eq k (key x) ≡ name_eq k (key y)
   same_key k x y is = ap (name_eq k) (name_eq_is (key x) (key y) is)

@@ -9,3 +9,8 @@ change_first p f (x ∷ xs) = if p x then f x ∷ xs else x ∷ change_first p f
 -- all items but the last
 abbrev pub front : {A : Type 0} → List A → List A
 front xs = take (length xs - 1) xs
+
+-- the first item of each of these keys is changed, one after the other
+abbrev pub all_changed : {K A : Type 0} → (K → A → Bool) → (A → A) → List A → List K → List A
+all_changed is_of f xs [] = xs
+all_changed is_of f xs (k ∷ ks) = all_changed is_of f (change_first (is_of k) f xs) ks

@@ -4,3 +4,4 @@ pub mod Places
 pub mod DigestKeys
 pub mod Steps
 pub mod KeyPlaces
+pub mod Latest

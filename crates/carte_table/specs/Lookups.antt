@@ -12,6 +12,10 @@ abbrev pub find_last : {A : Type 0} → (A → Bool) → List A → Option A
 find_last p [] = None
 find_last p (x ∷ xs) = option_or (find_last p xs) (if p x then Some x else None)
 
+-- the item has this key
+abbrev pub has_key : {A : Type 0} → (A → List ℕ) → List ℕ → A → Bool
+has_key key k x = name_eq k (key x)
+
 abbrev pub digest_eq : Digest → Digest → Bool
 digest_eq c d = name_eq c.0 d.0
 

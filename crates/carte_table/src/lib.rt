@@ -17,12 +17,18 @@
 //! the caller.
 #![tactic(auto)]
 
+mod all;
 mod digest_key;
+mod firsts;
+mod keyed;
 mod places;
 mod seen;
 mod store;
 pub mod table;
 
+pub use all::All;
+pub use firsts::Firsts;
+pub use keyed::{Compared, Keyed, Marked};
 pub use places::Places;
 pub use seen::Seen;
 pub use store::Store;

@@ -1,0 +1,60 @@
+//! What lists with tables know of entries and traces.
+ghost use Rattle.std.specs.Prelude.{refl};
+ghost use Rattle.carte_record.specs.Lookups.{trace_eq};
+ghost use Rattle.carte_record.specs.Marked.{marked_as};
+ghost use Rattle.carte_record.specs.Alike.{trace_eq_is, trace_eq_self};
+
+use crate::{Entry, Trace};
+use carte_table::{Compared, Keyed, Marked};
+use carte_value::{Name, Names, NoMemory};
+use std::alloc::Global;
+
+impl Keyed for Entry {
+    ghost key_of = { λ e. e.key };
+
+    fn key(&self) -> &Name {
+        &self.key
+    }
+
+    fn place_holder(&self, alloc: Global) -> Result<Entry, NoMemory> {
+        Ok(Entry {
+            key: self.key.copy(alloc)?,
+            result: self.result,
+            needs: Names::new(alloc),
+            stale: false,
+            shallow: false,
+        })
+    }
+}
+
+impl Marked for Entry {
+    ghost marked = { marked_as };
+
+    fn mark(&mut self, is_marked: bool) {
+        self.stale = is_marked;
+    }
+
+    ghost key_stays = { λ b e. refl };
+
+    ghost spelling_stays = { λ b e. refl };
+}
+
+impl Keyed for Trace {
+    ghost key_of = { λ t. t.key };
+
+    fn key(&self) -> &Name {
+        &self.key
+    }
+}
+
+impl Compared for Trace {
+    ghost alike = { trace_eq };
+
+    fn is_alike(&self, other: &Trace) -> bool {
+        self.is_same(other)
+    }
+
+    ghost alike_is = { trace_eq_is };
+
+    ghost alike_self = { trace_eq_self };
+}
