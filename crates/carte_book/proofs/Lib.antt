@@ -12,3 +12,4 @@ pub mod Reasoned
 pub mod Named
 pub mod FirstDynamic
 pub mod Added
+pub mod Drafting

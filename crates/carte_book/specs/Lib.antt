@@ -10,3 +10,4 @@ pub mod Added
 pub mod Digest
 pub mod Stuck
 pub mod Order
+pub mod Drafts

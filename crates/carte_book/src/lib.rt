@@ -10,9 +10,8 @@
 //! two kinds would have doubled every layer above.
 //!
 //! Names are added, each by one look at the map, and inputs are set. Each call says exactly when each fault comes, and
-//! after one the book is as before. That there are 65,536 names at most is tested where one is added, so no reader of bytes
-//! tests it; those that count keys in advance have room made for them. The faults of the readers stand here too, since both
-//! share them.
+//! after one the book is as before. That there are 65,536 names at most is tested where one is added. Readers of bytes fill a
+//! `Draft`, which tells this last and has room made for the keys that were counted; their faults stand here too.
 //!
 //! The clean values are defined by rounds of evaluation, as many as there are rules and one more. That is
 //! a function without order, trace or file in it; that one more round changes nothing is proved once, and
@@ -32,6 +31,7 @@
 mod access;
 mod book;
 mod digest;
+mod draft;
 mod edits;
 mod fault;
 mod items;
@@ -42,6 +42,7 @@ mod order;
 mod reason;
 
 pub use book::{Book, Item, Looked};
+pub use draft::Draft;
 pub use fault::{AddFault, BookFault, SetFault, Which};
 pub use key_text::KeyText;
 pub use laws::{

@@ -1,6 +1,6 @@
 -- Which bytes are a rule file, and which book it is. Members stand in byte order of their keys.
-use Rattle.std.specs.Prelude.{ℕ, ◌≡◌, ◌≤◌, nat_le, nat_lt, List, length, Option, Some, None, is_some, Result, Ok, Err, if◌then◌else◌}
-use Rattle.std.specs.FinMap.{FinMap, get, insert, empty, entries}
+use Rattle.std.specs.Prelude.{ℕ, ◌≡◌, ◌≤◌, nat_le, List, length, Option, Some, None, is_some, Result, Ok, Err, if◌then◌else◌}
+use Rattle.std.specs.FinMap.{FinMap, get, insert, empty}
 use Rattle.toml.specs.Data.{Data, string, integer, Members, no_members, member, as_str}
 use Rattle.carte_name.specs.declared.kind.Kind.TheVariants.{Rules}
 use Rattle.carte_value.specs.declared.value.Value.{Value}
@@ -10,10 +10,10 @@ use Rattle.carte_tree.specs.Tree.{Tree}
 use Rattle.carte_tree.specs.declared.fault.FormulaFault.{FormulaFault}
 use Rattle.carte_formula.specs.Whole.{Reads, IsTold, reading}
 use Rattle.carte_book.specs.Book.{Item, input, rule, Book, book_view}
+use Rattle.carte_book.specs.Drafts as drafts
 use Rattle.carte_book.specs.declared.book.Book.{Book as CodeBook}
-use Rattle.carte_book.specs.declared.fault.Which.TheVariants.{Keys}
 use Rattle.carte_book.specs.declared.fault.BookFault.{BookFault}
-use Rattle.carte_book.specs.declared.fault.BookFault.TheVariants.{Limit, BadName, BadValue, Formula, Twice, NoMemory}
+use Rattle.carte_book.specs.declared.fault.BookFault.TheVariants.{BadName, BadValue, Formula, Twice, NoMemory}
 use Rattle.carte_rules.specs.Tables.{◌>>=◌, Tables, tables_of}
 
 abbrev pub Content : Type 0
@@ -70,7 +70,7 @@ RulesInto (member k d ms) m o = (r : Result Tree BookFault) × RuleAt k d m r ×
 
 -- at most 65,536 keys
 abbrev pub book_of : Content → Result Book BookFault
-book_of m = if nat_lt 65536 (length (entries m)) then Err (Limit Keys 65536) else Ok (record { kind = Rules; items = m })
+book_of m = drafts.book_of Rules m
 
 -- the rules come after all inputs, and the number of keys last
 abbrev pub WithRules : Members → Content → Result Book BookFault → Type 0

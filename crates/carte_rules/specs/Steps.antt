@@ -1,13 +1,11 @@
 -- What the steps of reading answer.
-use Rattle.std.specs.Prelude.{ℕ, ◌≡◌, true, List, None, is_some, Result, Ok, Err}
-use Rattle.std.specs.FinMap.{get, insert}
+use Rattle.std.specs.Prelude.{ℕ, ◌≡◌, List, Result, Ok, Err}
+use Rattle.std.specs.FinMap.{insert}
 use Rattle.toml.specs.Data.{Data, Members}
 use Rattle.carte_tree.specs.Tree.{Tree}
 use Rattle.carte_tree.specs.declared.fault.FormulaFault.TheVariants.{NoMemory as NoFormulaMemory}
-use Rattle.carte_book.specs.Book.{Item, rule, Book, book_view}
+use Rattle.carte_book.specs.Book.{rule, Book, book_view}
 use Rattle.carte_book.specs.declared.book.Book.{Book as CodeBook}
-use Rattle.carte_book.specs.declared.fault.AddFault.{AddFault}
-use Rattle.carte_book.specs.declared.fault.AddFault.TheVariants as add
 use Rattle.carte_book.specs.declared.fault.BookFault.{BookFault}
 use Rattle.carte_book.specs.declared.fault.BookFault.TheVariants.{Formula, NoMemory}
 use Rattle.carte_rules.specs.Reading.{Content, RuleAt, RulesInto}
@@ -34,13 +32,6 @@ Gives seen o (Err fault) = IsCause fault → o ≡ Err fault
 abbrev pub Leaves : Result Content BookFault → Draft → Result (Unit {0}) BookFault → Type 0
 Leaves o d (Ok u) = (m : Content) × (o ≡ Ok m) × Holds d m
 Leaves o d (Err fault) = IsCause fault → o ≡ Err fault
-
--- the draft holds the item too, at a name at which nothing stood
-abbrev pub LeavesItem : List ℕ → Item → Content → Draft → Result (Unit {0}) AddFault → Type 0
-LeavesItem k x m draft (Ok u) = (get m k ≡ None) × Holds draft (insert m k x)
-LeavesItem k x m draft (Err add.Twice) = is_some (get m k) ≡ true
-LeavesItem k x m draft (Err add.Limit) = ⊥
-LeavesItem k x m draft (Err add.NoMemory) = Unit {0}
 
 -- the draft holds what the value gives at the key, too
 abbrev pub LeavesRule : List ℕ → Data → Content → Draft → Result (Unit {0}) BookFault → Type 0

@@ -1,15 +1,10 @@
 ghost use Rattle.std.specs.Prelude.{◌≡◌};
 ghost use Rattle.carte_name.specs.declared.kind.Kind.TheVariants.{Rules};
-ghost use Rattle.carte_book.specs.Book.{book_view};
+ghost use Rattle.carte_book.specs.Drafts.{kind_of};
 
-use carte_book::Book;
-use carte_value::Name;
-use std::collections::BTreeSet;
-
-/// A book as far as it is read. Where it is full, a further key is kept by its name alone.
+/// The keys of a rule file as far as they are read.
 #[derive(Drop)]
 pub(crate) struct Draft {
-    pub(crate) book: Book,
-    pub(crate) beyond: BTreeSet<Name>,
-    ghost is_rules: { (book_view book).kind ≡ Rules },
+    pub(crate) keys: carte_book::Draft,
+    ghost is_rules: { kind_of keys ≡ Rules },
 }

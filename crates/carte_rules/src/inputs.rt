@@ -8,7 +8,7 @@ ghost use Rattle.carte_rules.specs.Steps.{Leaves};
 
 use crate::draft::Draft;
 use crate::names::name_of;
-use carte_book::BookFault;
+use carte_book::{AddFault, BookFault};
 use carte_value::{NoMemory, Text, Value};
 use std::alloc::Global;
 use toml::Table;
@@ -36,9 +36,11 @@ pub(crate) fn read_input(
 {
     match name_of(alloc, key) {
         Ok(name) => match value {
-            Ok(Some(value)) => match draft.add_input(name, value) {
+            Ok(Some(value)) => match draft.keys.add_input(name, value) {
                 Ok(()) => Ok(()),
-                Err(_) => Err(BookFault::NoMemory),
+                Err(AddFault::Twice) => unreachable!(),
+                Err(AddFault::Limit) => unreachable!(),
+                Err(AddFault::NoMemory) => Err(BookFault::NoMemory),
             },
             Ok(None) => Err(BookFault::BadValue(name)),
             Err(_) => Err(BookFault::NoMemory),

@@ -33,6 +33,7 @@ mod names;
 mod plain;
 mod read;
 mod rules;
+mod signs;
 
 pub use laws::{book_is_unique, book_some, fault_is_of_bytes};
 pub use read::read_rules;

@@ -29,7 +29,7 @@ pub(crate) fn new_name(alloc: Global, key: &str, draft: &Draft) -> Result<Name, 
 {
     match name_of(alloc, key) {
         Ok(name) => {
-            if draft.has(&name) {
+            if draft.keys.has(&name) {
                 Err(BookFault::Twice(name))
             } else {
                 Ok(name)

@@ -17,6 +17,7 @@ use crate::found::{Found, find_tables};
 use crate::inputs::read_inputs;
 use crate::plain::read_plain;
 use crate::rules::read_formulas;
+use crate::signs::is_overgrown;
 use carte_book::{Book, BookFault, Which};
 use carte_value::Seeded;
 use std::alloc::Global;
@@ -30,7 +31,9 @@ const MOST_BYTES: usize = 16_777_216;
 /// The fault is the first of these: `Limit` of bytes; `NotToml`; `BadTable` of the first other top key in byte order,
 /// or that is no table; for each input in byte order `BadName`, then `BadValue` of what is neither an integer nor a
 /// text of at most 65,536 bytes; for each rule in byte order `BadName`, `Twice` where it is an input, `BadValue` of
-/// what is no text, `Formula`; `Limit` of keys. Memory is wanted only where there aren't too many bytes.
+/// what is no text, `Formula`; `Limit` of keys. Memory is wanted only where there aren't too many bytes; and a document
+/// with more structure than any book has, 262,144 of the signs `[{,.=` outside of texts and comments, is refused by
+/// `NoMemory` before its tree is made.
 /// The book's map is made with `hasher`.
 pub fn read_rules(alloc: Global, bytes: &[u8], hasher: Seeded) -> Result<Book, BookFault>
     ensures { IsRead bytes.now result }
@@ -71,6 +74,9 @@ fn read_whole(alloc: Global, bytes: &[u8], hasher: Seeded) -> Result<Book, BookF
     requires { length bytes.now ≤ 16777216 }
     ensures { IsRead bytes.now result }
 {
+    if is_overgrown(bytes) {
+        return Err(BookFault::NoMemory);
+    }
     match toml::table_from_slice(alloc, bytes) {
         Ok(document) => read_document(alloc, document, hasher),
         Err(error) => {

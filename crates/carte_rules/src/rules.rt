@@ -80,7 +80,7 @@ fn put_formula(alloc: Global, key: &str, expr: Expr, draft: &mut Draft) -> Resul
     ensures { (m : Content) (text : List ℕ) → Holds draft.old m → Reads Rules text (Ok (tree_of expr)) → LeavesRule key.now (string text) m draft.new result }
 {
     match name_of(alloc, key) {
-        Ok(name) => match draft.add_rule(name, expr) {
+        Ok(name) => match draft.keys.add_rule(name, expr) {
             Ok(()) => Ok(()),
             Err(AddFault::Twice) => Err(twice(alloc, key)),
             Err(_) => Err(BookFault::NoMemory),

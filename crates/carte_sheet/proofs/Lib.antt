@@ -1,7 +1,7 @@
 pub mod Unique
 pub mod Causes
 pub mod Outcomes
-mod DraftLemmas
+mod Drafts
 mod Cells
 mod Fields
 mod Records

@@ -4,7 +4,7 @@ use Rattle.std.specs.Str.{is_utf8}
 use Rattle.std.specs.Char.{digit_value}
 use Rattle.std.specs.Str.Parse.{without_leading_sign, signed_digits_value}
 use Rattle.std.specs.List.{list_all, starts_with}
-use Rattle.std.specs.FinMap.{FinMap, insert, empty, entries}
+use Rattle.std.specs.FinMap.{FinMap, insert, empty}
 use Rattle.csv.specs.Reading.{default_config, records, strip_bom}
 use Rattle.carte_name.specs.declared.kind.Kind.TheVariants.{Sheet}
 use Rattle.carte_value.specs.declared.value.Value.{Value}
@@ -16,8 +16,9 @@ use Rattle.carte_tree.specs.Tree.{Tree}
 use Rattle.carte_tree.specs.declared.fault.FormulaFault.{FormulaFault}
 use Rattle.carte_formula.specs.Whole.{Reads, IsTold, reading}
 use Rattle.carte_book.specs.Book.{Item, input, rule, Book, book_view}
+use Rattle.carte_book.specs.Drafts as drafts
 use Rattle.carte_book.specs.declared.book.Book.{Book as CodeBook}
-use Rattle.carte_book.specs.declared.fault.Which.TheVariants.{Bytes, Rows, Columns, Keys}
+use Rattle.carte_book.specs.declared.fault.Which.TheVariants.{Bytes, Rows, Columns}
 use Rattle.carte_book.specs.declared.fault.BookFault.{BookFault}
 use Rattle.carte_book.specs.declared.fault.BookFault.TheVariants.{Limit, BadValue, Formula, NotUtf8, NoMemory}
 
@@ -104,7 +105,7 @@ RowsInto r (fs ∷ rows) m o = (x : Result Content BookFault) × RowInto r fs m 
 
 -- at most 65,536 keys
 abbrev pub book_of : Content → Result Book BookFault
-book_of m = if nat_lt 65536 (length (entries m)) then Err (Limit Keys 65536) else Ok (record { kind = Sheet; items = m })
+book_of m = drafts.book_of Sheet m
 
 -- the number of keys comes last
 abbrev pub InRows : List (List (List ℕ)) → Result Book BookFault → Type 0

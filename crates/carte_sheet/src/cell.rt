@@ -113,7 +113,7 @@ fn read_formula(
     ensures { (m : Content) → Holds draft.old m → get m name ≡ None → LeavesItem (FormulaOf name text.now) name m draft.new result }
 {
     match read_in(alloc, room, Kind::Sheet, text) {
-        Ok(expr) => match draft.add_rule(name, expr) {
+        Ok(expr) => match draft.keys.add_rule(name, expr) {
             Ok(()) => Ok(()),
             Err(_) => Err(BookFault::NoMemory),
         },
@@ -127,7 +127,7 @@ fn read_input(alloc: Global, name: Name, text: &str, draft: &mut Draft) -> Resul
     ensures { (m : Content) → Holds draft.old m → get m name ≡ None → LeavesItem (ValueOf name text.now) name m draft.new result }
 {
     match value_of(alloc, text) {
-        Ok(Some(value)) => match draft.add_input(name, value) {
+        Ok(Some(value)) => match draft.keys.add_input(name, value) {
             Ok(()) => Ok(()),
             Err(_) => Err(BookFault::NoMemory),
         },

@@ -1,13 +1,10 @@
 ghost use Rattle.std.specs.Prelude.{◌≡◌};
 ghost use Rattle.carte_name.specs.declared.kind.Kind.TheVariants.{Sheet};
-ghost use Rattle.carte_book.specs.Book.{book_view};
+ghost use Rattle.carte_book.specs.Drafts.{kind_of};
 
-use carte_book::Book;
-
-/// A book as far as it is read, and whether there are more keys than it takes.
+/// The keys of a sheet as far as they are read.
 #[derive(Drop)]
 pub(crate) struct Draft {
-    pub(crate) book: Book,
-    pub(crate) is_over: bool,
-    ghost is_sheet: { (book_view book).kind ≡ Sheet },
+    pub(crate) keys: carte_book::Draft,
+    ghost is_sheet: { kind_of keys ≡ Sheet },
 }

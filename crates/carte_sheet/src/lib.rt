@@ -10,6 +10,7 @@
 //! fields come before that of too many keys. So reading goes on where the book is full, and the draft then notes no more
 //! than that there are further keys. No key of a sheet can come twice, since each field has a place of its own: the
 //! content so far has cells in front of that place alone (`IsBefore`). So the names beyond the book need not be kept.
+//! Room is made at first for as many cells as the text has fields, so that the map of a large sheet isn't moved as it grows.
 //!
 //! Rows are counted by the records that `csv` gives. To count lines would have needed a reader of our own.
 #![tactic(auto)]

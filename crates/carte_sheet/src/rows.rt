@@ -21,8 +21,26 @@ use std::alloc::Global;
 pub(crate) fn read_records(alloc: Global, text: &[u8], hasher: Seeded) -> Result<Book, BookFault>
     ensures { Answers (InRows (records_of text.now)) result }
 {
+    match Draft::new(alloc, count_fields(text), hasher) {
+        Ok(draft) => read_into(alloc, text, draft),
+        Err(fault) => Err(fault),
+    }
+}
+
+// About as many fields as a text has: so many are the bytes that end one, where they aren't within quotes. No answer
+// depends on it but how much room there is at first.
+fn count_fields(text: &[u8]) -> usize {
+    text.iter()
+        .filter(|byte| **byte == b',' || **byte == b'\n')
+        .count()
+}
+
+fn read_into(alloc: Global, text: &[u8], draft: Draft) -> Result<Book, BookFault>
+    requires { Holds draft empty }
+    ensures { Answers (InRows (records_of text.now)) result }
+{
     let mut room = Room::new(alloc);
-    let mut draft = Draft::new(alloc, hasher);
+    let mut draft = draft;
     match read_rows(alloc, &mut room, text, &mut draft) {
         Ok(()) => draft.finish(),
         Err(fault) => Err(fault),

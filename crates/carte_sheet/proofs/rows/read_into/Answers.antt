@@ -1,7 +1,7 @@
 use Rattle.std.proofs.Common.{Err, refl}
 use Rattle.carte_sheet.specs.Reading.{records_of}
 use Rattle.carte_sheet.proofs.RowLemmas.{all_rows}
-use Rattle.carte_sheet.proofs.rows.read_records.Goals as goal
+use Rattle.carte_sheet.proofs.rows.read_into.Goals as goal
 
 pub returns-in-Ok : goal.returns-in-Ok
 returns-in-Ok c =
