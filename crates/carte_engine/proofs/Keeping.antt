@@ -31,7 +31,7 @@ stays_once ks old once before = before
 pub plan_sound : (s : Scheduler) (h : How) (K : SomeKept) (H : List Book) (b : Book) (targets : List (List ℕ)) (a : Answer) (some rest : List Batch)
     → IsSound K H → HasDistinctDigests (H ++ b ∷ []) → Leads s h K b targets a (some ++ rest) → IsSound (applied K some) (H ++ b ∷ [])
 plan_sound Topological h K H b targets (answer.Built built) some rest sound distinct leads = stations_sound h (λ M k. IsDoneInOrder b targets k) chain_stays K H b sound distinct stays_once some rest leads
-plan_sound Topological h K H b targets (answer.Refused reason) some rest sound distinct leads = stations_sound h (λ M k. ⊥) chain_stays K H b sound distinct stays_once some rest leads
+plan_sound Topological h K H b targets (answer.Refused reason runs) some rest sound distinct leads = stations_sound h (λ M k. ⊥) chain_stays K H b sound distinct stays_once some rest leads
 plan_sound Restarting h K H b targets a some rest sound distinct leads = stations_sound h (λ M k. IsDoneRestarting h M b targets k) chain_behind K H b sound distinct behind_once some rest leads
 plan_sound Suspending h K H b targets a some rest sound distinct leads = stations_sound h (λ M k. IsDoneSuspending h M b targets k) chain_stays K H b sound distinct stays_once some rest leads
 

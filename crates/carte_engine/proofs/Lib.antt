@@ -3,6 +3,7 @@ pub mod Counting
 pub mod Running
 pub mod Marking
 pub mod Succeeding
+pub mod Refusing
 pub mod Planning
 pub mod Keeping
 pub mod Enduring

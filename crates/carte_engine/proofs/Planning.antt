@@ -35,6 +35,7 @@ use Rattle.carte_engine.specs.declared.answer.Answer.TheVariants as answer
 use Rattle.carte_engine.specs.declared.answer.Built.{Built}
 use Rattle.carte_engine.specs.declared.scheduler.Scheduler.{Scheduler}
 use Rattle.carte_engine.specs.declared.scheduler.Scheduler.TheVariants.{Topological, Restarting, Suspending}
+use Rattle.carte_engine.proofs.Refusing.{refuses, refuses_nothing}
 use Rattle.carte_engine.proofs.Succeeding.{gives_few, starts_once, succeeds}
 
 each_unmarked : (es : List Entry) → NoneMarked es → EachFits IsUnmarked es
@@ -108,24 +109,24 @@ module _ (h : How) (K : SomeKept) (b : Book) (targets : List (List ℕ)) (x : Be
 
   -- some target has none
   pub refused_by : (s : Scheduler) (w : Work) (reason : Reason) (Bs : List Batch) → EndsBy s h M b targets (Refused w reason) → AreBatchesOf h K M b x.marks w Bs
-      → IsPlan s h K b targets Bs (answer.Refused reason)
+      → IsPlan s h K b targets Bs (answer.Refused reason w.runs)
   refused_by Topological w reason Bs ends batches =
       let end = subst (λ L. EndsInOrder h L b targets (Refused w reason)) begins.base ends in
       record {
         leads = parts_lead h (λ M k. ⊥) K b x.marks w.finished Bs begins.marked (batches.plain ends.0) (nothing_built w.finished end.2.finished);
-        right = end.1;
+        right = refuses_nothing h K b targets x.marks w reason begins.marked end.1 end.2.runs;
       }
   refused_by Restarting w reason Bs ends batches =
       let end = subst (λ L. EndsRestarting h L b targets (Refused w reason)) begins.base ends in
       let worked = end.1 given in
       record {
         leads = batches.chained targets ends.0 (built_by (IsDoneRestarting h (begin K b x.marks) b targets) w worked.1);
-        right = worked.0;
+        right = refuses Restarting h K b targets x.marks w reason begins.marked worked.0 worked.1 worked.2;
       }
   refused_by Suspending w reason Bs ends batches =
       let end = subst (λ L. EndsSuspending h L b targets (Refused w reason)) begins.base ends in
       let worked = end.1 given in
       record {
         leads = parts_lead h (λ M k. IsDoneSuspending h M b targets k) K b x.marks w.finished Bs begins.marked (batches.plain ends.0) (built_by (IsDoneSuspending h (begin K b x.marks) b targets) w worked.1);
-        right = worked.0;
+        right = refuses Suspending h K b targets x.marks w reason begins.marked worked.0 worked.1 (record { once = worked.2.once; only = worked.2.only; each = worked.2.each });
       }

@@ -57,7 +57,7 @@ module _ (h : How) (M : SomeKept) (b : Book) where
   values_are fs (k ∷ ks) each all = (each k (inl refl) all.0, values_are fs ks (λ j later. each j (inr later)) all.1)
 
   -- exactly those that aren't held ran
-  ran_only : (fs : List Finished) (k : List ℕ) → AreRight h M b fs → Among (ran_in fs) k → Among (keys_of (finishes_of fs)) k × ¬ (IsHeld h M b k)
+  pub ran_only : (fs : List Finished) (k : List ℕ) → AreRight h M b fs → Among (ran_in fs) k → Among (keys_of (finishes_of fs)) k × ¬ (IsHeld h M b k)
   ran_only [] k right nowhere = absurd nowhere
   ran_only (f ∷ fs) k right there = on f.made right.0.made there (ran_only fs k right.1)
     where
@@ -67,7 +67,7 @@ module _ (h : How) (M : SomeKept) (b : Book) where
       on (Ran o) made (inr later) rest = let x = rest later in (inr x.0, x.1)
       on (Reused o) made later rest = let x = rest later in (inr x.0, x.1)
 
-  ran_each : (fs : List Finished) (k : List ℕ) → AreRight h M b fs → Among (keys_of (finishes_of fs)) k → ¬ (IsHeld h M b k) → Among (ran_in fs) k
+  pub ran_each : (fs : List Finished) (k : List ℕ) → AreRight h M b fs → Among (keys_of (finishes_of fs)) k → ¬ (IsHeld h M b k) → Among (ran_in fs) k
   ran_each [] k right nowhere unheld = absurd nowhere
   ran_each (f ∷ fs) k right among unheld = on f.made right.0.made among (λ later. ran_each fs k right.1 later unheld)
     where
@@ -78,7 +78,7 @@ module _ (h : How) (M : SomeKept) (b : Book) where
       on (Reused o) made (inr later) rest = rest later
 
   -- each once
-  ran_once : (fs : List Finished) → AreRight h M b fs → NoneTwice (keys_of (finishes_of fs)) → NoneTwice (ran_in fs)
+  pub ran_once : (fs : List Finished) → AreRight h M b fs → NoneTwice (keys_of (finishes_of fs)) → NoneTwice (ran_in fs)
   ran_once [] right once = tt
   ran_once (f ∷ fs) right once = on f.made (ran_once fs right.1 once.1)
     where

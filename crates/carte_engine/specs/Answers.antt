@@ -1,9 +1,10 @@
 -- What a build answers, and the batches that it may commit.
-use Rattle.std.specs.Prelude.{ℕ, ◌≡◌, ◌+◌, List, [], ◌∷◌, ◌++◌, length, Some}
+use Rattle.std.specs.Prelude.{ℕ, ◌≡◌, ◌+◌, ◌↔◌, List, [], ◌∷◌, ◌++◌, length, Some}
 use Rattle.carte_value.specs.declared.value.Value.{Value}
 use Rattle.carte_value.specs.Truths.{Among, IsListOf, NoneTwice, Truth}
-use Rattle.carte_effect.specs.Ledger.{Ledger, given_up as left_open}
+use Rattle.carte_effect.specs.Ledger.{Ledger, given_up as left_open, no_runs}
 use Rattle.carte_book.specs.Book.{Book, clean}
+use Rattle.carte_book.specs.declared.reason.Reason.{Reason}
 use Rattle.carte_record.specs.declared.batch.Batch.{Batch}
 use Rattle.carte_record.specs.Kept.{SomeKept}
 use Rattle.carte_sound.specs.Base.{HasDistinctDigests}
@@ -12,8 +13,8 @@ use Rattle.carte_sound.specs.Chains.{IsRightChain}
 use Rattle.carte_sound.specs.Held.{How}
 use Rattle.carte_sound.specs.Parts.{PartsInOrder, PartsRefused, PartsRestarting, PartsSuspending}
 use Rattle.carte_sound.specs.Sound.{IsSound}
-use Rattle.carte_sound.specs.Treated.{IsRun, IsTreatedRestarting}
-use Rattle.carte_rebuild.specs.Ends.{GivesUp}
+use Rattle.carte_sound.specs.Treated.{IsDoneRestarting, IsDoneSuspending, IsRun, IsTreated, IsTreatedRestarting}
+use Rattle.carte_rebuild.specs.Ends.{GivesUp, StartsAnew}
 use Rattle.carte_engine.specs.declared.answer.Answer.{Answer}
 use Rattle.carte_engine.specs.declared.answer.Answer.TheVariants as answer
 use Rattle.carte_engine.specs.declared.answer.Built.{Built}
@@ -24,7 +25,7 @@ use Rattle.carte_engine.specs.Schedulers.{IsDoneBy, IsServed, IsRefusedFor}
 -- the batches that a build with such an answer may commit, one after another
 abbrev pub Leads : Scheduler → How → SomeKept → Book → List (List ℕ) → Answer → List Batch → Type 0
 Leads Topological h K b targets (answer.Built built) Bs = PartsInOrder h K b targets Bs
-Leads Topological h K b targets (answer.Refused reason) Bs = PartsRefused h K b Bs
+Leads Topological h K b targets (answer.Refused reason runs) Bs = PartsRefused h K b Bs
 Leads Restarting h K b targets a Bs = PartsRestarting h K b targets Bs
 Leads Suspending h K b targets a Bs = PartsSuspending h K b targets Bs
 
@@ -70,9 +71,40 @@ pub record IsSuccess (s : Scheduler) (h : How) (K : SomeKept) (b : Book) (target
   pub started : StartsBy s h (begin K b marks) b targets built
   pub given_up : built.given_up ≡ left_open built.runs
 
+-- which rules of a refused build are done: by order none, since it is refused before any is worked out
+abbrev pub IsDoneRefused : Scheduler → How → SomeKept → Book → List (List ℕ) → List ℕ → Type 0
+IsDoneRefused Topological h M b targets k = ⊥
+IsDoneRefused Restarting h M b targets k = IsDoneRestarting h M b targets k
+IsDoneRefused Suspending h M b targets k = IsDoneSuspending h M b targets k
+
+-- each task was started once and is of a rule that is treated, and each that has ended was started
+pub record StartsOnce (treated : List ℕ → Type 0) (r : Ledger) : Type 0 where
+  pub once : NoneTwice r.starts
+  pub only : (k : List ℕ) → Among r.starts k → treated k
+  pub each : (k : List ℕ) → Among r.ends k → Among r.starts k
+
+-- which tasks of a refused build were started: none where rules are ordered first; where they wait some may have no end; and where they are begun anew a rule was given up at most once for each name that it needs
+abbrev pub StartsRefused : Scheduler → How → SomeKept → Book → List (List ℕ) → Ledger → Type 0
+StartsRefused Topological h M b targets r = r ≡ no_runs
+StartsRefused Restarting h M b targets r = StartsAnew b (IsTreatedRestarting h M b targets) r
+StartsRefused Suspending h M b targets r = StartsOnce (IsTreated h M b targets) r
+
+-- Some target has no value, for this reason; and in the ledger the tasks of just the rules that are done and not held have ended, each once.
+pub record IsRefusal (s : Scheduler) (h : How) (K : SomeKept) (b : Book) (targets : List (List ℕ)) (reason : Reason) (runs : Ledger) : Type 0 where
+  pub refused : IsRefusedFor s b targets reason
+  pub marks : List (List ℕ)
+  pub marked : AreMarks K b marks
+  pub once : NoneTwice runs.ends
+  pub ended : (k : List ℕ) → Among runs.ends k ↔ IsRun h (begin K b marks) b (IsDoneRefused s h (begin K b marks) b targets) k
+  pub started : StartsRefused s h (begin K b marks) b targets runs
+
 abbrev pub IsAnswer : Scheduler → How → SomeKept → Book → List (List ℕ) → Answer → Type 0
 IsAnswer s h K b targets (answer.Built built) = IsSuccess s h K b targets built
-IsAnswer s h K b targets (answer.Refused reason) = IsRefusedFor s b targets reason
+IsAnswer s h K b targets (answer.Refused reason runs) = IsRefusal s h K b targets reason runs
+
+-- so it is of an answer that refuses for this, with some ledger
+abbrev pub OnRefusal : Reason → (Answer → Type 0) → Type 0
+OnRefusal reason P = (runs : Ledger) × P (answer.Refused reason runs)
 
 -- the answer is right, and the batches are those that it may commit
 pub record IsPlan (s : Scheduler) (h : How) (K : SomeKept) (b : Book) (targets : List (List ℕ)) (Bs : List Batch) (a : Answer) : Type 0 where

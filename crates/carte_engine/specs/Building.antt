@@ -20,7 +20,7 @@ use Rattle.carte_engine.specs.Faults.{fault_of}
 -- an answer as a result
 abbrev pub answered : Answer → Result Built BuildFault
 answered (answer.Built built) = Ok built
-answered (answer.Refused reason) = Err (fault.Refused reason)
+answered (answer.Refused reason runs) = Err (fault.Refused reason)
 
 -- where the batches of the plan were put, the plan's answer; else why they weren't, or not all
 abbrev pub answered_behind : Answer → Result (Unit {0}) ApplyFault → Result Built BuildFault

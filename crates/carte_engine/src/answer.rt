@@ -22,8 +22,8 @@ pub struct Built {
 #[derive(Debug, Drop)]
 pub enum Answer {
     Built(Built),
-    /// Some target has no value, for this reason.
-    Refused(Reason),
+    /// Some target has no value, for this reason; with the ledger of what the build has done all the same.
+    Refused(Reason, Runs),
 }
 
 /// A build that was worked out and not committed yet.

@@ -46,6 +46,6 @@ fn answered(answer: Answer) -> Result<Built, BuildFault>
 {
     match answer {
         Answer::Built(built) => Ok(built),
-        Answer::Refused(reason) => Err(BuildFault::Refused(reason)),
+        Answer::Refused(reason, _) => Err(BuildFault::Refused(reason)),
     }
 }

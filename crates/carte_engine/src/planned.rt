@@ -101,7 +101,7 @@ fn planned<R: Rebuilder>(
             let batches = batches_of(alloc, rebuilder, begun, base, rules, book, &work)?;
             Ok(Plan {
                 batches,
-                answer: Answer::Refused(reason),
+                answer: Answer::Refused(reason, work.runs),
             })
         }
     }

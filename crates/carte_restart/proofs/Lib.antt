@@ -12,3 +12,4 @@ pub mod Right
 pub mod Restarted
 pub mod Built
 pub mod Totalling
+pub mod Scheduled

@@ -5,3 +5,4 @@ pub mod Led
 pub mod Chained
 pub mod Ending
 pub mod Totals
+pub mod Schedule

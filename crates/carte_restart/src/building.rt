@@ -1,4 +1,4 @@
-ghost use Rattle.std.specs.Prelude.{◌≡◌, ℕ, List, [], IfOk, OnOk};
+ghost use Rattle.std.specs.Prelude.{◌≡◌, ◌++◌, ℕ, List, [], None, IfOk, OnOk};
 ghost use Rattle.carte_value.specs.Truths.{Among};
 ghost use Rattle.carte_book.specs.Book.{book_view};
 ghost use Rattle.carte_book.specs.Needs.{IsRule};
@@ -10,6 +10,7 @@ ghost use Rattle.carte_bench.specs.Spots.{seen_in};
 ghost use Rattle.carte_progress.specs.Standing.{IsStanding, IsDemanded, StaysKnown};
 ghost use Rattle.carte_restart.specs.Ending.{EndsFrom};
 ghost use Rattle.carte_restart.specs.Going.{GoesOn};
+ghost use Rattle.carte_restart.specs.Schedule.{EndsByList, EndsByTurns, Treats, TreatsEach};
 ghost use Rattle.carte_restart.specs.Straight.{GoesStraight, IsPreparedOn};
 
 use crate::chains::with_chain;
@@ -34,7 +35,8 @@ pub fn build<R: Rebuilder>(
     book: &Book,
     targets: &Names,
 ) -> Result<WorkEnd, NoMemory>
-    ensures { IfOk result (EndsRestarting (R.how rebuilder.now) (kept_view kept.now) (book_view book.now) targets.now) }
+    ensures ends { IfOk result (EndsRestarting (R.how rebuilder.now) (kept_view kept.now) (book_view book.now) targets.now) }
+    ensures turns { IfOk result (EndsByList R.Job.name R.Job.started R.Job.gives (λ k j. R.begun rebuilder.now (kept_view kept.now) (book_view book.now) (λ q. None) k j) (R.how rebuilder.now) (book_view book.now) (kept_view kept.now) targets.now) }
 {
     let list = first_list(alloc, kept, book, targets)?;
     build_from(alloc, rebuilder, kept, book, &list, targets)
@@ -49,7 +51,8 @@ fn build_from<R: Rebuilder>(
     list: &Names,
     targets: &Names,
 ) -> Result<WorkEnd, NoMemory>
-    ensures { IfOk result (EndsFrom (R.how rebuilder.now) (kept_view kept.now) (book_view book.now) list.now targets.now) }
+    ensures ends { IfOk result (EndsFrom (R.how rebuilder.now) (kept_view kept.now) (book_view book.now) list.now targets.now) }
+    ensures turns { IfOk result (EndsByTurns R.Job.name R.Job.started R.Job.gives (λ k j. R.begun rebuilder.now (kept_view kept.now) (book_view book.now) (λ q. None) k j) (R.how rebuilder.now) (book_view book.now) (list.now ++ targets.now)) }
 {
     let mut bench = Bench::new(alloc, book);
     // Most keys that are kept are finished again. The pages of room that stays empty are never touched.
@@ -95,6 +98,7 @@ fn treat_all<R: Rebuilder>(
     ensures known { OnOk result (StaysKnown (spots_of bench.old) (spots_of bench.new)) }
     ensures demanded { OnOk result ((t : List ℕ) → Among names.now t → IsRule (book_view book.now) t → IsDemanded (spots_of bench.new) t) }
     ensures straight { OnOk result ((ts : List (List ℕ)) → ((t : List ℕ) → Among names.now t → Among ts t) → GoesStraight R.Job.started R.Job.fits (R.begun rebuilder.now (kept_view kept.now) (book_view book.now)) (R.how rebuilder.now) (kept_view kept.now) (book_view book.now) ts (spots_of bench.old) (spots_of bench.new) work.old work.new (IsPreparedOn (book_view book.now) (spots_of bench.old) names.now)) }
+    ensures treats { OnOk result (TreatsEach R.Job.name R.Job.started R.Job.gives (λ k j. R.begun rebuilder.now (kept_view kept.now) (book_view book.now) (λ q. None) k j) (R.how rebuilder.now) (book_view book.now) names.now (record { spots = spots_of bench.old; path = []; finished = work.old.finished; runs = work.old.runs }) (record { spots = spots_of bench.new; path = []; finished = work.new.finished; runs = work.new.runs })) }
 {
     // One path for all, whose room serves again.
     let mut path = VecDeque::new(alloc);
@@ -128,6 +132,7 @@ fn treat<R: Rebuilder>(
     ensures known { OnOk result (StaysKnown (spots_of bench.old) (spots_of bench.new)) }
     ensures demanded { OnOk result (IsRule (book_view book.now) target.now → IsDemanded (spots_of bench.new) target.now) }
     ensures straight { OnOk result ((ts : List (List ℕ)) → Among ts target.now → GoesStraight R.Job.started R.Job.fits (R.begun rebuilder.now (kept_view kept.now) (book_view book.now)) (R.how rebuilder.now) (kept_view kept.now) (book_view book.now) ts (spots_of bench.old) (spots_of bench.new) work.old work.new (IsRule (book_view book.now) target.now → AreThere (book_view book.now) (seen_in (book_view book.now) (spots_of bench.old)) target.now)) }
+    ensures treats { OnOk result (Treats R.Job.name R.Job.started R.Job.gives (λ k j. R.begun rebuilder.now (kept_view kept.now) (book_view book.now) (λ q. None) k j) (R.how rebuilder.now) (book_view book.now) target.now (record { spots = spots_of bench.old; path = []; finished = work.old.finished; runs = work.old.runs }) (record { spots = spots_of bench.new; path = []; finished = work.new.finished; runs = work.new.runs })) }
 {
     let name = target.copy(alloc)?;
     open(alloc, rebuilder, kept, book, bench, path, name)?;

@@ -7,6 +7,7 @@ ghost use Rattle.carte_bench.specs.Spots.{AreNamed, is_ready};
 ghost use Rattle.carte_progress.specs.Standing.{IsStanding, StaysKnown, turns_left};
 ghost use Rattle.carte_restart.specs.Anew.{TurnedAnew};
 ghost use Rattle.carte_restart.specs.Going.{GoesOn};
+ghost use Rattle.carte_restart.specs.Schedule.{TurnsFirst};
 ghost use Rattle.carte_restart.specs.Straight.{EndsNext};
 
 use carte_bench::{Bench, turn_keeps};
@@ -39,6 +40,7 @@ pub(crate) fn turn<R: Rebuilder>(
     ensures goes { OnOk result ((ts : List (List ℕ)) → GoesOn R.Job.started R.Job.fits (R.begun rebuilder.now (kept_view kept.now) (book_view book.now)) (R.how rebuilder.now) (kept_view kept.now) (book_view book.now) ts (spots_of bench.old) (spots_of bench.new) work.old work.new) }
     ensures known { OnOk result (StaysKnown (spots_of bench.old) (spots_of bench.new)) }
     ensures straight { OnOk result ((ts : List (List ℕ)) → EndsNext R.Job.started R.Job.fits (R.begun rebuilder.now (kept_view kept.now) (book_view book.now)) (R.how rebuilder.now) (kept_view kept.now) (book_view book.now) ts (spots_of bench.old) (spots_of bench.new) work.old work.new (name ∷ path.old.items) path.new.items) }
+    ensures turns { OnOk result (TurnsFirst R.Job.name R.Job.started R.Job.gives (λ k j. R.begun rebuilder.now (kept_view kept.now) (book_view book.now) (λ q. None) k j) (R.how rebuilder.now) (book_view book.now) name path.old.items (record { spots = spots_of bench.old; path = (name ∷ path.old.items); finished = work.old.finished; runs = work.old.runs }) (record { spots = spots_of bench.new; path = path.new.items; finished = work.new.finished; runs = work.new.runs })) }
 {
     turn_keeps::<R::Job>();
     let came = drive(alloc, rebuilder, kept, book, bench, &mut work.runs, &name)?;

@@ -6,8 +6,8 @@ use Rattle.carte_record.specs.declared.batch.Batch.{Batch}
 use Rattle.carte_session.specs.Lines.{lines_of}
 use Rattle.carte_session.specs.Session.{Goes, IsSession}
 use Rattle.carte_session.specs.declared.end.SessionEnd.{SessionEnd}
-use Rattle.carte_session.specs.declared.end.SessionEnd.TheVariants.{Machine, NoMemory}
-use Rattle.carte_session.specs.declared.end.StepEnd.TheVariants.{NoMemory as LineNoMemory}
+use Rattle.carte_session.specs.declared.end.SessionEnd.TheVariants.{Machine, NoMemory, TooLong}
+use Rattle.carte_session.specs.declared.end.StepEnd.TheVariants.{NoMemory as LineNoMemory, StateFull}
 use Rattle.carte_engine.specs.Committing.{FitAll}
 use Rattle.carte_words.specs.Lines.{Means}
 use Rattle.carte_words.specs.declared.line.Line.{Line}
@@ -31,6 +31,12 @@ IsDoneOrShort (Ok done) = Unit {0}
 IsDoneOrShort (Err NoMemory) = Unit {0}
 IsDoneOrShort (Err (Machine LineNoMemory)) = Unit {0}
 IsDoneOrShort (Err end) = ⊥
+
+-- neither was its script too long, nor its file full
+abbrev pub IsWithin : Result (Unit {0}) SessionEnd → Type 0
+IsWithin (Err TooLong) = ⊥
+IsWithin (Err (Machine (StateFull needed limit))) = ⊥
+IsWithin end = Unit {0}
 
 -- A session of a script within the limit, each batch of which has room, comes to no other end where no device fails.
 abbrev pub SessionIsDone : Type 0 → Type 0 → Type 0 → Type 0

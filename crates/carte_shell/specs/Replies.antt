@@ -24,4 +24,4 @@ refusal reason = record { text = refused_line reason; refused = Some reason }
 -- the targets with their values, the rules that ran where they are to be listed, and the counts; or why a target has no value
 abbrev pub build_reply : Bool → List (List ℕ) → Answer → Said
 build_reply list targets (Built built) = plain (reply targets built.values list built.ran built.given_up built.reused)
-build_reply list targets (Refused reason) = refusal reason
+build_reply list targets (Refused reason runs) = refusal reason

@@ -31,7 +31,7 @@ pub(crate) fn build_reply(
             )?;
             Ok(Reply::plain(text))
         }
-        Answer::Refused(reason) => Reply::refusal(alloc, reason),
+        Answer::Refused(reason, _) => Reply::refusal(alloc, reason),
     }
 }
 

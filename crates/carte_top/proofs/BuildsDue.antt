@@ -21,7 +21,7 @@ use Rattle.carte_report.specs.declared.status.Status.TheVariants.{Done, BookRefu
 use Rattle.carte_top.specs.Around.{OverDisk, OverSink, TakesAll}
 use Rattle.carte_top.specs.Chosen.{scheduler_of}
 use Rattle.carte_top.specs.Due.{AllFit, AllOver, IsBadNow, IsDueOver, IsFound, IsFull, IsFullOver, IsHindered, IsKept, IsPlanned, NoneFit}
-use Rattle.carte_top.specs.Found.{ArePut, Commits, Found, IsStopped, Overfills, Replies, behind}
+use Rattle.carte_top.specs.Found.{ArePut, Commits, Found, IsStopped, Overfills, RefusesFor, Replies, behind}
 use Rattle.carte_top.specs.Outcome.{BuiltOver, IsBad}
 use Rattle.carte_top.proofs.Unique.{one_refusal, served_or_refused}
 
@@ -144,10 +144,10 @@ module _ (limit : ℕ) (d : OverDisk) (Is Has : (Book → Type 0) → Type 0) (o
           let m = meets (λ b. Overfills limit w d needed most b) did in
           all_fit limit d (IsPlanned w m.book m.kept) m.kept m.did.halts.batches (m.did.halts.answer, m.did.halts.answers m.history m.sound m.distinct) m.told m.room needed most m.did.halts.stopped
 
-      refused : (reason : Reason) → Has (λ b. Found limit d (λ K. Commits limit w d b K (answer.Refused reason))) → (b : Book) × X b × IsRefusedFor (scheduler_of w.scheduler) b w.targets reason
+      refused : (reason : Reason) → Has (λ b. Found limit d (RefusesFor limit w d reason b)) → (b : Book) × X b × IsRefusedFor (scheduler_of w.scheduler) b w.targets reason
       refused reason did =
-          let m = meets (λ b K. Commits limit w d b K (answer.Refused reason)) did in
-          (m.book, m.first, (m.did.answers m.history m.sound m.distinct).right)
+          let m = meets (RefusesFor limit w d reason) did in
+          (m.book, m.first, (m.did.1.answers m.history m.sound m.distinct).right.refused)
 
       served : Has (λ b. Found limit d (Replied b)) → (b : Book) × X b × IsServed (scheduler_of w.scheduler) b w.targets
       served did =
@@ -170,10 +170,10 @@ module _ (limit : ℕ) (d : OverDisk) (Is Has : (Book → Type 0) → Type 0) (o
           let m = meets_over Replied did in
           not_committed m.book m.kept m.history (answer.Built m.did.built) m.told m.sound m.distinct m.room m.did.commits
 
-      not_kept : (reason : Reason) → Has (λ b. Found limit d (λ K. Commits limit w d b K (answer.Refused reason))) → ⊥
+      not_kept : (reason : Reason) → Has (λ b. Found limit d (RefusesFor limit w d reason b)) → ⊥
       not_kept reason did =
-          let m = meets_over (λ b K. Commits limit w d b K (answer.Refused reason)) did in
-          not_committed m.book m.kept m.history (answer.Refused reason) m.told m.sound m.distinct m.room m.did
+          let m = meets_over (RefusesFor limit w d reason) did in
+          not_committed m.book m.kept m.history (answer.Refused reason m.did.0) m.told m.sound m.distinct m.room m.did.1
 
       not_bad_over : Has (λ b. Unit {0}) → (offset : ℕ) → IsBad limit d offset → ⊥
       not_bad_over has offset bad = never_bad (λ b. IsFound limit d b (Over b)) (λ b. Unit {0}) Over (λ b part. (tt, part)) is has offset bad
@@ -231,7 +231,7 @@ module _ (limit : ℕ) (d : OverDisk) (Is Has : (Book → Type 0) → Type 0) (o
     over_due Done (StateFull n m) did is = absurd (not_done (Over n m) (over_none n m) is did)
     over_due (BuildRefused r) Done did is = let at = refused IsServedBy is r did.0 in absurd (served_or_refused (scheduler_of w.scheduler) at.0 w.targets r at.1 at.2)
     over_due (BuildRefused r) (BuildRefused q) did is = let at = refused (IsRefusedBy q) is r did.0 in inl (ap BuildRefused (one_refusal (scheduler_of w.scheduler) at.0 w.targets r q at.2 at.1))
-    over_due (BuildRefused r) (BadState at) did is = absurd (not_found (λ b K. Commits limit w d b K (answer.Refused r)) at is did.0)
+    over_due (BuildRefused r) (BadState at) did is = absurd (not_found (RefusesFor limit w d r) at is did.0)
     over_due (BuildRefused r) (StateFull n m) did is = absurd (not_kept (Over n m) (over_none n m) is r did.0)
     over_due (BadState at) Done did is = absurd (not_bad IsServedBy is did.0 at did.1)
     over_due (BadState at) (BuildRefused r) did is = absurd (not_bad (IsRefusedBy r) is did.0 at did.1)

@@ -1,5 +1,5 @@
 -- The status that is due comes, but for want of memory and devices: each cause of another one contradicts it.
-use Rattle.std.proofs.Common.{◌≡◌, ℕ, ◌<◌, List, [], ◌∷◌, ◌++◌, length, length-append, Result, Ok, Err, refl, sym, ap, inl, inr, ◌⊎◌, subst, arith}
+use Rattle.std.proofs.Common.{◌≡◌, ℕ, ◌<◌, ◌≤◌, List, [], ◌∷◌, ◌++◌, length, length-append, Result, Ok, Err, refl, sym, ap, inl, inr, ◌⊎◌, subst, arith}
 use Rattle.std.proofs.lemmas.Bool.{lt-ltb}
 use Rattle.carte_name.specs.declared.kind.Kind.{Kind}
 use Rattle.carte_name.specs.declared.kind.Kind.TheVariants.{Rules, Sheet}
@@ -7,6 +7,8 @@ use Rattle.carte_book.specs.Book.{Book}
 use Rattle.carte_book.specs.Reason.{AllClean, IsReason}
 use Rattle.carte_book.proofs.Reasons.{no_reason, one_reason}
 use Rattle.carte_session.specs.declared.end.SessionEnd.{SessionEnd}
+use Rattle.carte_session.specs.declared.end.SessionEnd.TheVariants as session
+use Rattle.carte_session.specs.declared.end.StepEnd.TheVariants as line
 use Rattle.carte_book.specs.declared.fault.BookFault.{BookFault}
 use Rattle.carte_book.specs.declared.fault.BookFault.TheVariants.{Limit, NoMemory as BookNoMemory}
 use Rattle.carte_book.specs.declared.fault.Which.TheVariants.{Bytes}
@@ -18,14 +20,15 @@ use Rattle.carte_words.specs.declared.words.Command.TheVariants as command
 use Rattle.carte_words.specs.declared.words.Words.{Words as Asked}
 use Rattle.carte_engine.specs.Answers.{Under}
 use Rattle.carte_engine.specs.Schedulers.{IsServed, IsRefusedFor}
-use Rattle.carte_engine.specs.declared.answer.Answer.TheVariants as answer
 use Rattle.carte_report.specs.declared.status.Status.{Status}
 use Rattle.carte_report.specs.declared.status.Status.TheVariants.{Done, BookRefused, Usage, BuildRefused, ReadFault, WriteFault, DiskFault, BadState, StateFull, NoMemory, ScriptTooLong}
+use Rattle.carte_shell.specs.Lasting.{IsWithin}
+use Rattle.carte_shell.proofs.Lasting.{session_within}
 use Rattle.carte_top.specs.Around.{OverSource, OverDisk, OverSink, TakesAll}
 use Rattle.carte_top.specs.Chosen.{scheduler_of, BookOfKind}
-use Rattle.carte_top.specs.Due.{AllFit, AllOver, IsBadNow, IsBook, IsBuildDue, IsCleanDue, IsDue, IsDueFor, IsDueOver, IsExplainDue, IsFound, IsFull, IsFullDue, IsFullFor, IsFullOver, IsGenerateDue, IsHindered, IsPlanned, IsSessionDue, NoneFit}
-use Rattle.carte_top.specs.Found.{Clears, ClearsTooMuch, Commits, Found, Holds, AreClearing, Makes, Overfills, Refuses, Replies, Explains, Carries, for_last, front_of}
-use Rattle.carte_top.specs.Outcome.{Asks, Built, Cleaned, ComesTo, Does, Explained, Generated, IsBad, Lacks, Ran, Sat}
+use Rattle.carte_top.specs.Due.{AllFit, AllOver, IsBadNow, IsBook, IsBuildDue, IsCleanDue, IsDue, IsDueFor, IsDueOver, IsExplainDue, IsFound, IsFull, IsFullDue, IsFullFor, IsFullOver, IsGenerateDue, IsHindered, IsKept, IsPlanned, IsSessionDue, LinesFit, NoneFit}
+use Rattle.carte_top.specs.Found.{Clears, ClearsTooMuch, Found, Holds, AreClearing, Makes, Overfills, Refuses, RefusesFor, Replies, Explains, Carries, for_last, front_of}
+use Rattle.carte_top.specs.Outcome.{Asks, Built, Cleaned, ComesTo, Does, Explained, Generated, IsBad, Lacks, Ran, Sat, status_of}
 use Rattle.carte_top.proofs.BuildsDue.{all_fit, bad_one, found_one, found_or_bad, full_due, kept_or_bad, meet, no_room, none_fit, over_due, over_same}
 use Rattle.carte_top.proofs.Unique.{one_generated, one_meant, one_of_kind, one_outcome}
 
@@ -96,7 +99,7 @@ module _ (limit : ℕ) (w : Asked) (s : OverSource) (d : OverDisk) (k : OverSink
   built_due (BookRefused f) (BookRefused g) did is = inl (ap BookRefused (one_fault w.kind s f g is.0 did.0 is.1))
   built_due (BookRefused f) due did is = absurd (refused_due f due did.0 is)
   built_due Done (BookRefused f) did is = absurd (is_none w.kind s (λ b. Found limit d (Replies limit w d k TakesAll b)) f is.0 is.1 did)
-  built_due (BuildRefused r) (BookRefused f) did is = absurd (is_none w.kind s (λ b. Found limit d (λ K. Commits limit w d b K (answer.Refused r))) f is.0 is.1 did.0)
+  built_due (BuildRefused r) (BookRefused f) did is = absurd (is_none w.kind s (λ b. Found limit d (RefusesFor limit w d r b)) f is.0 is.1 did.0)
   built_due (BadState at) (BookRefused f) did is = absurd (is_none w.kind s (λ b. Unit {0}) f is.0 is.1 did.0)
   built_due (StateFull n m) (BookRefused f) did is = absurd (is_none w.kind s (λ b. Found limit d (Overfills limit w d n m b)) f is.0 is.1 did.0)
   built_due status due did is = over_due limit d (IsBook w.kind s) (Holds w.kind s) (over_one w.kind s) w [] k status due did is
@@ -218,7 +221,10 @@ module _ (limit : ℕ) (w : Asked) (s : OverSource) (d : OverDisk) (k : OverSink
 -- ---- a session
 
 module _ (limit : ℕ) (w : Asked) (s c : OverSource) (d : OverDisk) (k : OverSink) where
-  lacking_due : (status due : Status) → Lacks limit w s d status → IsSessionDue limit w s d due → (status ≡ due) ⊎ IsHindered status
+  abbrev Sittable : Book → Type 0
+  Sittable b = c.tells × (length c.old.left ≤ 67108864) × IsKept limit d (LinesFit limit w c d b)
+
+  lacking_due : (status due : Status) → Lacks limit w s d status → IsSessionDue limit w s c d due → (status ≡ due) ⊎ IsHindered status
   lacking_due ReadFault due did is = inr tt
   lacking_due DiskFault due did is = inr tt
   lacking_due NoMemory due did is = inr tt
@@ -228,7 +234,6 @@ module _ (limit : ℕ) (w : Asked) (s c : OverSource) (d : OverDisk) (k : OverSi
   lacking_due (BuildRefused r) due did is = absurd did
   lacking_due (StateFull n m) due did is = absurd did
   lacking_due ScriptTooLong due did is = absurd did
-  lacking_due status Done did is = absurd is
   lacking_due status (Usage fault) did is = absurd is
   lacking_due status (BuildRefused r) did is = absurd is
   lacking_due status (StateFull n m) did is = absurd is
@@ -237,39 +242,59 @@ module _ (limit : ℕ) (w : Asked) (s c : OverSource) (d : OverDisk) (k : OverSi
   lacking_due status WriteFault did is = absurd is
   lacking_due status DiskFault did is = absurd is
   lacking_due status NoMemory did is = absurd is
+  lacking_due (BookRefused f) Done did is = absurd (is_book w.kind s Sittable f is did.0)
   lacking_due (BookRefused f) (BookRefused g) did is = inl (ap BookRefused (one_fault w.kind s f g is.0 did.0 is.1))
   lacking_due (BookRefused f) (BadState at) did is = absurd (is_book w.kind s (λ b. IsBadNow limit d at) f is did.0)
+  lacking_due (BadState at) Done did is = absurd (kept_or_bad limit d (LinesFit limit w c d is.1) at is.3.2 did.1)
   lacking_due (BadState at) (BookRefused f) did is = absurd (is_none w.kind s (λ b. Unit {0}) f is.0 is.1 did.0)
   lacking_due (BadState at) (BadState offset) did is = inl (bad_one limit d offset at is.3 did.1)
 
-  begun_due : (end : Result (Unit {0}) SessionEnd) (due : Status) → ComesTo limit w s c d k end → IsSessionDue limit w s d due → ⊥
-  begun_due end (BookRefused f) did is = is_none w.kind s (λ b. Found limit d (Carries limit w c d k end b)) f is.0 is.1 did
-  begun_due end (BadState at) did is = found_or_bad limit d (Carries limit w c d k end did.2) at is.3 did.4
-  begun_due end Done did is = is
-  begun_due end (Usage fault) did is = is
-  begun_due end (BuildRefused r) did is = is
-  begun_due end (StateFull n m) did is = is
-  begun_due end ScriptTooLong did is = is
-  begun_due end ReadFault did is = is
-  begun_due end WriteFault did is = is
-  begun_due end DiskFault did is = is
-  begun_due end NoMemory did is = is
+  -- a session whose lines all have room isn't stopped for want of it, nor is its script too long
+  sat_within : (end : Result (Unit {0}) SessionEnd) → ComesTo limit w s c d k end → IsBook w.kind s Sittable → IsWithin end
+  sat_within end did is =
+      let there = over_one w.kind s Sittable (λ b. Found limit d (Carries limit w c d k end b)) is did in
+      let at = found_one limit d (LinesFit limit w c d there.0) (Carries limit w c d k end there.0) there.1.2 there.2 in
+      session_within d.tells c.tells k.tells at.3.first at.3.last c.old c.new k.old k.new 67108864 end at.3.goes there.1.0 there.1.1 (at.2 at.3.first at.3.begins)
 
-  sat_due : (status due : Status) → Sat limit w s c d k status → IsSessionDue limit w s d due → (status ≡ due) ⊎ IsHindered status
+  -- what else may stop it is want of memory, or a device
+  done_or_hindered : (end : Result (Unit {0}) SessionEnd) → IsWithin end → (status_of end ≡ Done) ⊎ IsHindered (status_of end)
+  done_or_hindered (Ok done) within = inl refl
+  done_or_hindered (Err session.ReadFault) within = inr tt
+  done_or_hindered (Err session.WriteFault) within = inr tt
+  done_or_hindered (Err session.NoMemory) within = inr tt
+  done_or_hindered (Err session.TooLong) within = absurd within
+  done_or_hindered (Err (session.Machine line.DiskFault)) within = inr tt
+  done_or_hindered (Err (session.Machine line.NoMemory)) within = inr tt
+  done_or_hindered (Err (session.Machine (line.StateFull n m))) within = absurd within
+
+  begun_due : (end : Result (Unit {0}) SessionEnd) (due : Status) → ComesTo limit w s c d k end → IsSessionDue limit w s c d due → (status_of end ≡ due) ⊎ IsHindered (status_of end)
+  begun_due end Done did is = done_or_hindered end (sat_within end did is)
+  begun_due end (BookRefused f) did is = absurd (is_none w.kind s (λ b. Found limit d (Carries limit w c d k end b)) f is.0 is.1 did)
+  begun_due end (BadState at) did is = absurd (found_or_bad limit d (Carries limit w c d k end did.2) at is.3 did.4)
+  begun_due end (Usage fault) did is = absurd is
+  begun_due end (BuildRefused r) did is = absurd is
+  begun_due end (StateFull n m) did is = absurd is
+  begun_due end ScriptTooLong did is = absurd is
+  begun_due end ReadFault did is = absurd is
+  begun_due end WriteFault did is = absurd is
+  begun_due end DiskFault did is = absurd is
+  begun_due end NoMemory did is = absurd is
+
+  sat_due : (status due : Status) → Sat limit w s c d k status → IsSessionDue limit w s c d due → (status ≡ due) ⊎ IsHindered status
   sat_due status due (inl did) is = lacking_due status due did.0 is
-  sat_due status due (inr (end, told, did)) is = absurd (begun_due end due did is)
+  sat_due status due (inr (end, told, did)) is = subst (λ (x : Status). (x ≡ due) ⊎ IsHindered x) (sym told) (begun_due end due did is)
 
 -- ---- a run
 
 module _ (limit : ℕ) (words : List (List ℕ)) (s c : OverSource) (d : OverDisk) (k : OverSink) where
-  by_command : (to : Command) (w : Asked) (status due : Status) → Does to limit w s c d k status → IsDueFor to limit w s d due → (status ≡ due) ⊎ IsHindered status
+  by_command : (to : Command) (w : Asked) (status due : Status) → Does to limit w s c d k status → IsDueFor to limit w s c d due → (status ≡ due) ⊎ IsHindered status
   by_command command.Build w status due did is = built_due limit w s d k status due did is
   by_command command.Session w status due did is = sat_due limit w s c d k status due did is
   by_command command.Explain w status due did is = told_due limit w s d k status due did.0 is
   by_command command.Clean w status due did is = cleaned_due limit d k status due did.1 is
   by_command command.Generate w status due did is = made_due limit w d k status due did.1 is
 
-  asked_due : (status due : Status) → Asks words (λ w. Does w.command limit w s c d k status) → Asks words (λ w. IsDueFor w.command limit w s d due) → (status ≡ due) ⊎ IsHindered status
+  asked_due : (status due : Status) → Asks words (λ w. Does w.command limit w s c d k status) → Asks words (λ w. IsDueFor w.command limit w s c d due) → (status ≡ due) ⊎ IsHindered status
   asked_due status due did is =
       let same : did.0 ≡ is.0 = one_meant words did.0 is.0 did.1 is.1 in
       by_command is.0.command is.0 status due (subst (λ (w : Asked). Does w.command limit w s c d k status) same did.2) is.2
@@ -291,7 +316,7 @@ module _ (limit : ℕ) (words : List (List ℕ)) (s c : OverSource) (d : OverDis
   comes_full (Usage f) ran is = let e = ran.0 in let g = is.1 in cc
   comes_full status ran is = asked_full status ran is
 
-  pub comes : (status due : Status) → Ran limit words s c d k status → IsDue limit words s d due → (status ≡ due) ⊎ IsHindered status
+  pub comes : (status due : Status) → Ran limit words s c d k status → IsDue limit words s c d due → (status ≡ due) ⊎ IsHindered status
   comes NoMemory due ran is = inr tt
   comes (Usage f) (Usage g) ran is = inl (let same : f ≡ g = (let e = ran.0 in cc) in ap Usage same)
   comes (Usage f) due ran is = let e = ran.0 in let g = is.1 in cc

@@ -102,7 +102,7 @@ module _ (r : Run) where
       let same : books.0 ≡ read.0 = one_generated w.seed w.count books.0 read.0 books.1 read.1 in
       ([], books.2 ∙ ap (λ (b : Book). b ∷ []) same ∙ sym read.2 ∙ sym (append-nil A))
 
-  front_of : (A J : List Book) → AreRead r.words source_of script_of A → AreBooks r J → (rest : List Book) × (J ≡ A ++ rest)
+  pub front_of : (A J : List Book) → AreRead r.words source_of script_of A → AreBooks r J → (rest : List Book) × (J ≡ A ++ rest)
   front_of A J (inl none) books = (J, ap (λ (K : List Book). K ++ J) (sym none))
   front_of A J (inr (w, asked, read)) (inl (fault, refused, none)) = let both : Ok w ≡ Err fault = sym asked ∙ refused in cc
   front_of A J (inr (w, asked, read)) (inr (v, also, books)) =

@@ -80,7 +80,7 @@ module _ (b : Book) (none : (k : List ℕ) → ¬ (IsRule b k)) where
 
   pub plain_leads : (s : Scheduler) (h : How) (targets : List (List ℕ)) (a : Answer) (Bs : List Batch) → Leads s h nothing_kept b targets a Bs → Bs ≡ empty_batch ∷ []
   plain_leads Topological h targets (answer.Built built) Bs leads = brings_nothing h (λ M k. IsDoneInOrder b targets k) chain_stays Bs (λ M k done. none k done.0.0) leads
-  plain_leads Topological h targets (answer.Refused reason) Bs leads = brings_nothing h (λ M k. ⊥) chain_stays Bs (λ M k never. never) leads
+  plain_leads Topological h targets (answer.Refused reason runs) Bs leads = brings_nothing h (λ M k. ⊥) chain_stays Bs (λ M k never. never) leads
   plain_leads Restarting h targets a Bs leads = brings_nothing h (λ M k. IsDoneRestarting h M b targets k) chain_behind Bs (λ M k done. none_restarted h M targets k done.0) leads
   plain_leads Suspending h targets a Bs leads = brings_nothing h (λ M k. IsDoneSuspending h M b targets k) chain_stays Bs (λ M k done. none_treated h M targets k done.0) leads
 
@@ -153,10 +153,10 @@ module _ (limit : ℕ) (words : List (List ℕ)) (state : Story) (asks : AsksPla
   found : IsFound limit (told_disk state) plain_book (λ K. AllFit limit (told_disk state) (IsPlanned asks.asked plain_book K))
   found = (tt, nothing_kept, subst (Keeps limit nothing_kept) (sym empty_file) (record { gate = 8; bodies = []; reads = refl; folded = refl }), ([], nothing_sound [], plain_distinct, fits))
 
-  is_due : (book : SourceState) → BookOf book.left (Ok plain_book) → IsDue limit words (told_source book) (told_disk state) Done
-  is_due book bytes =
+  is_due : (book script : SourceState) → BookOf book.left (Ok plain_book) → IsDue limit words (told_source book) (told_source script) (told_disk state) Done
+  is_due book script bytes =
       let kind : BookOfKind asks.asked.kind book.left (Ok plain_book) = subst (λ (k : Kind). BookOfKind k book.left (Ok plain_book)) (sym asks.kind) bytes in
-      (asks.asked, asks.meant, subst (λ (c : Command). IsDueFor c limit asks.asked (told_source book) (told_disk state) Done) (sym asks.build) (tt, plain_book, kind, (served, found)))
+      (asks.asked, asks.meant, subst (λ (c : Command). IsDueFor c limit asks.asked (told_source book) (told_source script) (told_disk state) Done) (sym asks.build) (tt, plain_book, kind, (served, found)))
 
 pub plain_is_due : PlainIsDue
-plain_is_due limit words book state asks bytes empty_file = is_due limit words state asks empty_file book bytes
+plain_is_due limit words book script state asks bytes empty_file = is_due limit words state asks empty_file book script bytes

@@ -34,7 +34,7 @@ use Rattle.carte_shell.specs.declared.choices.Choices.{Choices}
 use Rattle.carte_engine.proofs.Keeping.{plan_keeps}
 use Rattle.carte_top.specs.Around.{OverSource, OverDisk, OverSink, IsUntouched, TakesAll, TakesFront}
 use Rattle.carte_top.specs.Chosen.{choices_of, scheduler_of, how_of}
-use Rattle.carte_top.specs.Found.{Answers, AreClearing, Clears, ClearsNot, Commits, Explains, Found, Halts, HasBook, Holds, IsStopped, Makes, Overfills, Replies, behind, for_last, front_of}
+use Rattle.carte_top.specs.Found.{Answers, AreClearing, Clears, ClearsNot, Explains, Found, Halts, HasBook, Holds, IsStopped, Makes, Overfills, RefusesFor, Replies, behind, for_last, front_of}
 use Rattle.carte_top.specs.Outcome.{Built, BuiltOver, Cleaned, Explained, IsSpared, TellsDisk, TellsSink, TellsSource, status_of}
 use Rattle.carte_top.specs.Running.{Builds, Cleans, Generates, LoadedOr, Opens, Prints, ReadsEnough, RequestsOver, Shows, Tells}
 use Rattle.carte_top.specs.Sound.{MayBuild, StaysAt}
@@ -216,18 +216,20 @@ module _ (limit : ℕ) (w : Asked) (d : OverDisk) (k : OverSink) (b : Book) wher
         takes = λ told. subst (Takes k)
             (ap (λ (q : Said). q.text) is ∙ ap (λ (y : Choices). reply w.targets built.values y.list built.ran built.given_up built.reused) opens.choices) (takes told);
       }
-      replies Takes r (answer.Refused reason) Bs plans is puts none takes = absurd (not_both r.refused reason none (ap (λ (q : Said). q.refused) is))
+      replies Takes r (answer.Refused reason runs) Bs plans is puts none takes = absurd (not_both r.refused reason none (ap (λ (q : Said). q.refused) is))
 
       refuses : (r : Said) (a : Answer) (Bs : List Batch) → Plans m w.targets a Bs → r ≡ build_reply m.choices.list w.targets a → Puts d.tells m m' Bs
-          → (reason : Reason) → r.refused ≡ Some reason → Commits limit w d b (kept_in m.stand) (answer.Refused reason)
+          → (reason : Reason) → r.refused ≡ Some reason → RefusesFor limit w d reason b (kept_in m.stand)
       refuses r (answer.Built built) Bs plans is puts reason some = absurd (not_both r.refused reason (ap (λ (q : Said). q.refused) is) some)
-      refuses r (answer.Refused other) Bs plans is puts reason some =
-          let told : other ≡ reason = same_some r.refused other reason (ap (λ (q : Said). q.refused) is) some in
-          record {
-            batches = Bs;
-            answers = subst (λ (y : Reason). Answers w b (kept_in m.stand) (answer.Refused y) Bs) told (answers (answer.Refused other) Bs plans);
-            put = put limit (choices_of w) b d m m' opens last faults Bs puts;
-          }
+      refuses r (answer.Refused other runs) Bs plans is puts reason some =
+          let told : other ≡ reason = same_some r.refused other reason (ap (λ (q : Said). q.refused) is) some in (
+            runs,
+            record {
+              batches = Bs;
+              answers = subst (λ (y : Reason). Answers w b (kept_in m.stand) (answer.Refused y runs) Bs) told (answers (answer.Refused other runs) Bs plans);
+              put = put limit (choices_of w) b d m m' opens last faults Bs puts;
+            },
+          )
 
       halts : (a : Answer) (Bs : List Batch) → Plans m w.targets a Bs → (fault : ApplyFault) → CommitsTo d.tells m m' Bs (Err fault) → Halts limit w d fault b (kept_in m.stand)
       halts a Bs plans fault stops =
@@ -299,7 +301,7 @@ module _ (limit : ℕ) (w : Asked) (d : OverDisk) (k : OverSink) (b : Book) wher
           (untouched, inl loads.story) status loads.loaded
       built status (inr (m, m', opens, last, faults, inl (r, (a, Bs, plans, is, puts), shows))) =
           by_shows Did front r k
-          (λ reason some untouched. (there m m' opens last (λ c K. Commits limit w d c K (answer.Refused reason)) (refuses m m' opens last faults r a Bs plans is puts reason some), untouched))
+          (λ reason some untouched. (there m m' opens last (RefusesFor limit w d reason) (refuses m m' opens last faults r a Bs plans is puts reason some), untouched))
           (λ none prints. there m m' opens last (Replies limit w d k (behind front TakesAll)) (replies m m' opens last faults (behind front TakesAll) r a Bs plans is puts none prints.0))
           (λ none prints. there m m' opens last (Replies limit w d k (behind front TakesFront)) (replies m m' opens last faults (behind front TakesFront) r a Bs plans is puts none prints.0)) status shows
       built status (inr (m, m', opens, last, faults, inr (end, is, breaks, untouched))) = subst Did (sym is) (build_stopped m m' opens last faults end breaks untouched)

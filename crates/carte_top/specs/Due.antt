@@ -1,5 +1,5 @@
--- Which status is due, where bytes are told: by the words first, then by the book, the state, the room for the batches, and last by what a build answers.
-use Rattle.std.specs.Prelude.{ℕ, ◌≡◌, ◌<◌, List, [], ◌∷◌, ◌++◌, Ok, Err}
+-- Which status is due, where bytes are told: by the words first, then by the book, the state, the room for the batches, and last by what a build answers, or by the script of a session.
+use Rattle.std.specs.Prelude.{ℕ, ◌≡◌, ◌<◌, ◌≤◌, List, [], ◌∷◌, ◌++◌, length, Ok, Err}
 use Rattle.carte_name.specs.declared.kind.Kind.{Kind}
 use Rattle.carte_book.specs.Book.{Book}
 use Rattle.carte_book.specs.Reason.{AllClean, IsReason}
@@ -7,6 +7,7 @@ use Rattle.carte_record.specs.declared.batch.Batch.{Batch}
 use Rattle.carte_record.specs.Kept.{SomeKept}
 use Rattle.carte_sound.specs.Base.{HasDistinctDigests}
 use Rattle.carte_sound.specs.Sound.{IsSound}
+use Rattle.carte_session.specs.Lines.{lines_of}
 use Rattle.carte_state.specs.Folding.{Keeps, IsBadState}
 use Rattle.carte_words.specs.Words.{words_of}
 use Rattle.carte_words.specs.declared.words.Command.{Command}
@@ -17,9 +18,11 @@ use Rattle.carte_engine.specs.Answers.{IsPlan}
 use Rattle.carte_engine.specs.Schedulers.{IsServed, IsRefusedFor}
 use Rattle.carte_report.specs.declared.status.Status.{Status}
 use Rattle.carte_report.specs.declared.status.Status.TheVariants.{Done, BookRefused, Usage, BuildRefused, ReadFault, WriteFault, DiskFault, BadState, StateFull, NoMemory}
+use Rattle.carte_shell.specs.Lasting.{AllFit as AllLinesFit}
+use Rattle.carte_shell.specs.Scenes.{Scene}
 use Rattle.carte_top.specs.Around.{OverSource, OverDisk}
 use Rattle.carte_top.specs.Chosen.{scheduler_of, how_of, BookOfKind}
-use Rattle.carte_top.specs.Found.{AreClearing, FitsIn, IsNeeded, Makes, for_last}
+use Rattle.carte_top.specs.Found.{AreClearing, Begins, FitsIn, IsNeeded, Makes, for_last}
 use Rattle.carte_top.specs.Outcome.{Asks}
 
 -- ---- what is there
@@ -83,22 +86,27 @@ IsExplainDue limit w s d (BuildRefused reason) = IsBook w.kind s (λ b. IsReason
 IsExplainDue limit w s d (BadState at) = IsBook w.kind s (λ b. IsBadNow limit d at)
 IsExplainDue limit w s d _ = ⊥
 
--- where no line is looked at
-abbrev pub IsSessionDue : ℕ → Asked → OverSource → OverDisk → Status → Type 0
-IsSessionDue limit w s d (BookRefused fault) = s.tells × BookOfKind w.kind s.old.left (Err fault)
-IsSessionDue limit w s d (BadState at) = IsBook w.kind s (λ b. IsBadNow limit d at)
-IsSessionDue limit w s d _ = ⊥
+-- there is room for all batches that a line of the script may bring, wherever the lines before it lead
+abbrev pub LinesFit : ℕ → Asked → OverSource → OverDisk → Book → SomeKept → Type 0
+LinesFit limit w c d b K = (m : Scene) → Begins limit w d b K m → AllLinesFit d.tells m (lines_of c.old.left)
 
-abbrev pub IsDueFor : Command → ℕ → Asked → OverSource → OverDisk → Status → Type 0
-IsDueFor command.Build limit w s d due = IsBuildDue limit w s d due
-IsDueFor command.Session limit w s d due = IsSessionDue limit w s d due
-IsDueFor command.Explain limit w s d due = IsExplainDue limit w s d due
-IsDueFor command.Clean limit w s d due = IsCleanDue limit d due
-IsDueFor command.Generate limit w s d due = IsGenerateDue limit w d due
+-- the lines are carried out and answered where the script's bytes are told and within the limit, and there is room
+abbrev pub IsSessionDue : ℕ → Asked → OverSource → OverSource → OverDisk → Status → Type 0
+IsSessionDue limit w s c d Done = IsBook w.kind s (λ b. c.tells × (length c.old.left ≤ 67108864) × IsKept limit d (LinesFit limit w c d b))
+IsSessionDue limit w s c d (BookRefused fault) = s.tells × BookOfKind w.kind s.old.left (Err fault)
+IsSessionDue limit w s c d (BadState at) = IsBook w.kind s (λ b. IsBadNow limit d at)
+IsSessionDue limit w s c d _ = ⊥
 
-abbrev pub IsDue : ℕ → List (List ℕ) → OverSource → OverDisk → Status → Type 0
-IsDue limit words s d (Usage fault) = words_of words ≡ Err fault
-IsDue limit words s d due = Asks words (λ w. IsDueFor w.command limit w s d due)
+abbrev pub IsDueFor : Command → ℕ → Asked → OverSource → OverSource → OverDisk → Status → Type 0
+IsDueFor command.Build limit w s c d due = IsBuildDue limit w s d due
+IsDueFor command.Session limit w s c d due = IsSessionDue limit w s c d due
+IsDueFor command.Explain limit w s c d due = IsExplainDue limit w s d due
+IsDueFor command.Clean limit w s c d due = IsCleanDue limit d due
+IsDueFor command.Generate limit w s c d due = IsGenerateDue limit w d due
+
+abbrev pub IsDue : ℕ → List (List ℕ) → OverSource → OverSource → OverDisk → Status → Type 0
+IsDue limit words s c d (Usage fault) = words_of words ≡ Err fault
+IsDue limit words s c d due = Asks words (λ w. IsDueFor w.command limit w s c d due)
 
 -- ---- no room
 

@@ -7,6 +7,7 @@ use Rattle.carte_journal.specs.Frames.{BodyAt, Ends, end_of, reading}
 use Rattle.carte_name.specs.declared.kind.Kind.{Kind}
 use Rattle.carte_book.specs.Book.{Book}
 use Rattle.carte_book.specs.Reason.{AllClean}
+use Rattle.carte_book.specs.declared.reason.Reason.{Reason}
 use Rattle.carte_book.specs.declared.fault.BookFault.{BookFault}
 use Rattle.carte_book.specs.declared.fault.BookFault.TheVariants.{NoMemory as BookNoMemory}
 use Rattle.carte_record.specs.declared.batch.Batch.{Batch}
@@ -28,7 +29,7 @@ use Rattle.carte_generate.specs.Generated.{IsGenerated, inputs_of, target_of}
 use Rattle.carte_engine.specs.declared.answer.Answer.{Answer}
 use Rattle.carte_engine.specs.declared.answer.Answer.TheVariants as answer
 use Rattle.carte_engine.specs.declared.answer.Built.{Built}
-use Rattle.carte_engine.specs.Answers.{IsPlan, Under}
+use Rattle.carte_engine.specs.Answers.{IsPlan, OnRefusal, Under}
 use Rattle.carte_engine.specs.Committing.{FitAll, HasPassed, Overfill, PutsAll, StopsAt, behind as onwards, steps_put, steps_stopped, until}
 use Rattle.carte_engine.specs.Schedulers.{KeepsBy}
 use Rattle.carte_explain.specs.declared.why.Why.{Why}
@@ -141,6 +142,10 @@ pub record Commits (limit : ℕ) (w : Asked) (d : OverDisk) (b : Book) (K : Some
   pub batches : List Batch
   pub answers : Answers w b K a batches
   pub put : ArePut limit d K batches
+
+-- it was refused for this, with the ledger of what it did all the same, and committed what it had finished
+abbrev pub RefusesFor : ℕ → Asked → OverDisk → Reason → Book → SomeKept → Type 0
+RefusesFor limit w d reason b K = OnRefusal reason (Commits limit w d b K)
 
 -- the text of its reply
 abbrev pub reply_to : Asked → Built → List ℕ

@@ -14,12 +14,11 @@ use Rattle.carte_words.specs.declared.words.Command.{Command}
 use Rattle.carte_words.specs.declared.words.Command.TheVariants as command
 use Rattle.carte_words.specs.declared.words.Words.{Words as Asked}
 use Rattle.carte_engine.specs.Answers.{Under}
-use Rattle.carte_engine.specs.declared.answer.Answer.TheVariants as answer
 use Rattle.carte_report.specs.declared.status.Status.{Status}
 use Rattle.carte_report.specs.declared.status.Status.TheVariants.{Done, BookRefused, Usage, BuildRefused, ReadFault, WriteFault, DiskFault, BadState, StateFull, NoMemory, ScriptTooLong}
 use Rattle.carte_report.specs.Texts.{error_line}
 use Rattle.carte_top.specs.Around.{OverSource, OverDisk, OverSink, IsUnread, IsUnvisited, IsUntouched, TakesAll, TakesFront, Says}
-use Rattle.carte_top.specs.Found.{Holds, HasBook, Makes, Refuses, Found, Commits, Replies, Overfills, Halts, Clears, ClearsNot, ClearsTooMuch, Explains, Carries, behind, for_last, front_of}
+use Rattle.carte_top.specs.Found.{Holds, HasBook, Makes, Refuses, Found, RefusesFor, Replies, Overfills, Halts, Clears, ClearsNot, ClearsTooMuch, Explains, Carries, behind, for_last, front_of}
 
 -- the words ask for something that is so
 abbrev pub Asks : List (List ℕ) → (Asked → Type 0) → Type 0
@@ -36,7 +35,7 @@ IsSpared d = d.tells → d.new ≡ d.old
 -- what a build has done over a book that is had so, whose reply stands behind what is in front
 abbrev pub BuiltOver : ((Book → Type 0) → Type 0) → ℕ → Asked → List ℕ → OverDisk → OverSink → Status → Type 0
 BuiltOver Has limit w front d k Done = Has (λ b. Found limit d (Replies limit w d k (behind front TakesAll) b))
-BuiltOver Has limit w front d k (BuildRefused reason) = Has (λ b. Found limit d (λ K. Commits limit w d b K (answer.Refused reason))) × IsUntouched k
+BuiltOver Has limit w front d k (BuildRefused reason) = Has (λ b. Found limit d (RefusesFor limit w d reason b)) × IsUntouched k
 BuiltOver Has limit w front d k WriteFault = Has (λ b. Found limit d (Replies limit w d k (behind front TakesFront) b))
 BuiltOver Has limit w front d k DiskFault = ((Has (λ b. Unit {0}) × IsSpared d) ⊎ Has (λ b. Found limit d (Halts limit w d applying.DiskFault b))) × IsUntouched k
 BuiltOver Has limit w front d k (BadState offset) = Has (λ b. Unit {0}) × IsBad limit d offset × IsUntouched k
@@ -110,7 +109,7 @@ Does command.Generate limit w s c d k status = IsUnread s × Generated limit w d
 
 -- a build was refused, and what it had finished was committed
 abbrev pub CommitsRefused : ℕ → Asked → OverDisk → Book → Type 0
-CommitsRefused limit w d b = Found limit d (λ K. (reason : Reason) × Commits limit w d b K (answer.Refused reason))
+CommitsRefused limit w d b = Found limit d (λ K. (reason : Reason) × RefusesFor limit w d reason b K)
 
 abbrev pub KeepsRefused : ℕ → OverSource → OverDisk → Asked → Type 0
 KeepsRefused limit s d w = ((w.command ≡ command.Build) × Holds w.kind s (CommitsRefused limit w d)) ⊎ ((w.command ≡ command.Generate) × Makes w (CommitsRefused limit (for_last w) d))

@@ -34,4 +34,4 @@ told_disk s = record { tells = Unit {0}; old = s; new = s; failed_before = 0; fa
 
 -- law: over an empty state it is due that all is done
 abbrev pub PlainIsDue : Type 0
-PlainIsDue = (limit : ℕ) (words : List (List ℕ)) (book : SourceState) (state : Story) → AsksPlainly words → BookOf book.left (Ok plain_book) → state.now.reads ≡ [] → IsDue limit words (told_source book) (told_disk state) Done
+PlainIsDue = (limit : ℕ) (words : List (List ℕ)) (book script : SourceState) (state : Story) → AsksPlainly words → BookOf book.left (Ok plain_book) → state.now.reads ≡ [] → IsDue limit words (told_source book) (told_source script) (told_disk state) Done

@@ -18,5 +18,5 @@ pub record IsOutcome (limit : ℕ) (a : Around) (status : Status) : Type 0 where
   pub disk : TellsDisk a.state status
   pub sink : TellsSink a.out status
   pub ended : Ended a.err status
-  pub complete : (due : Status) → IsDue limit a.words a.book a.state due → (status ≡ due) ⊎ IsHindered status
+  pub complete : (due : Status) → IsDue limit a.words a.book a.script a.state due → (status ≡ due) ⊎ IsHindered status
   pub full : IsFullDue limit a.words a.book a.state → IsFull status ⊎ IsHindered status

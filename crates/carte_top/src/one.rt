@@ -127,7 +127,7 @@ pub(crate) fn one<D: Disk, O: Sink, G: Gate, T: Threads + Sync>(
         (over_sink O.tells O.state out.old out.new)
         result }
 {
-    match open(alloc, choices, book, state) {
+    match open(rt, alloc, choices, book, state, gate) {
         Ok(mut shell) => {
             let status = request(rt, alloc, &mut shell, line, front, state, out, gate);
             // The process ends behind this: giving back what is kept, name by name, would only take time.

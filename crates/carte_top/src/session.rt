@@ -15,6 +15,7 @@ use carte_report::Status;
 use carte_session::{SessionEnd, StepEnd, run_session};
 use carte_shell::Shell;
 use carte_value::Seeded;
+use carte_wave::Gate;
 use carte_words::Words;
 use std::alloc::Global;
 use std::marker::Sync;
@@ -23,7 +24,8 @@ use std::thread::Threads;
 const MOST_SCRIPT: usize = 67108864;
 
 /// Carries out the lines of the script over the book and the state of the words. Edits of the book stay in memory.
-pub(crate) fn session<B: Source, S: Source, D: Disk, O: Sink, T: Threads + Sync>(
+/// The gate is passed where the state is read; the builds of a session ask for no more parts than are worth it.
+pub(crate) fn session<B: Source, S: Source, D: Disk, O: Sink, T: Threads + Sync, G: Gate>(
     rt: &T,
     alloc: Global,
     asked: &Words,
@@ -32,6 +34,7 @@ pub(crate) fn session<B: Source, S: Source, D: Disk, O: Sink, T: Threads + Sync>
     state: &mut D,
     out: &mut O,
     hasher: Seeded,
+    gate: &G,
 ) -> Status
     ensures { Sits 268435456 asked.now
         (over_source B.tells B.state source.old source.new)
@@ -41,12 +44,12 @@ pub(crate) fn session<B: Source, S: Source, D: Disk, O: Sink, T: Threads + Sync>
         result }
 {
     match load_book(alloc, asked.kind, source, hasher) {
-        Ok(book) => session_over(rt, alloc, asked, book, script, state, out),
+        Ok(book) => session_over(rt, alloc, asked, book, script, state, out, gate),
         Err(status) => status,
     }
 }
 
-fn session_over<S: Source, D: Disk, O: Sink, T: Threads + Sync>(
+fn session_over<S: Source, D: Disk, O: Sink, T: Threads + Sync, G: Gate>(
     rt: &T,
     alloc: Global,
     asked: &Words,
@@ -54,6 +57,7 @@ fn session_over<S: Source, D: Disk, O: Sink, T: Threads + Sync>(
     script: &mut S,
     state: &mut D,
     out: &mut O,
+    gate: &G,
 ) -> Status
     ensures { SitsOver 268435456 asked.now (book_view book)
         (over_source S.tells S.state script.old script.new)
@@ -61,7 +65,7 @@ fn session_over<S: Source, D: Disk, O: Sink, T: Threads + Sync>(
         (over_sink O.tells O.state out.old out.new)
         result }
 {
-    match open(alloc, choices_of(asked), book, state) {
+    match open(rt, alloc, choices_of(asked), book, state, gate) {
         Ok(mut shell) => session_with(rt, alloc, &mut shell, script, state, out),
         Err(status) => status,
     }

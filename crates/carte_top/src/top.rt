@@ -26,7 +26,8 @@ use std::thread::Threads;
 /// by a session alone, behind the book and the state, up to 67,108,864 bytes.
 ///
 /// The maps of names are made with `hasher`, on which nothing that is answered depends. Nor does anything depend on `rt`, of
-/// which a build by several workers has its threads, and on `gate`, which each passes before its part of a wave.
+/// which several workers have their threads, who read a state or drive a wave, and on `gate`, which each passes before its
+/// part.
 pub fn carte<B: Source, S: Source, D: Disk, O: Sink, E: Sink, G: Gate, T: Threads + Sync>(
     rt: &T,
     alloc: Global,
@@ -108,7 +109,7 @@ fn command<B: Source, S: Source, D: Disk, O: Sink, G: Gate, T: Threads + Sync>(
 {
     match asked.command {
         Command::Build => build(rt, alloc, asked, book, state, out, hasher, gate),
-        Command::Session => session(rt, alloc, &asked, book, script, state, out, hasher),
+        Command::Session => session(rt, alloc, &asked, book, script, state, out, hasher, gate),
         Command::Explain => explain(rt, alloc, asked, book, state, out, hasher, gate),
         Command::Clean => clean(rt, alloc, asked, state, out, hasher, gate),
         Command::Generate => generate(rt, alloc, &asked, state, out, hasher, gate),

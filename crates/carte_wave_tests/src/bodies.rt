@@ -17,7 +17,7 @@ const FRONT: &[u8] = b"\x01\0\0\0\0\x01\x01\0\0\0\0\0\0\0";
 const BACK: &[u8] = b"\0\0\0\0\0\0\0\0\0\0\0\0\0\0\0\0\0\0\0\0\0\0\0\0\0";
 
 /// A file with a frame for each number: its batch in 45 bytes, or for 0 a body of one byte that is no batch, in 6.
-fn file_of(alloc: Global, numbers: &[u8]) -> Result<Vec<u8>, NoMemory> {
+pub(crate) fn file_of(alloc: Global, numbers: &[u8]) -> Result<Vec<u8>, NoMemory> {
     let mut file = HEADER.to_vec(alloc)?;
     for number in numbers {
         if *number == 0 {

@@ -1,5 +1,6 @@
 //! Runs of the whole program with several workers.
 
+use crate::bodies::file_of;
 use crate::gates::{Meeting, Wide};
 use carte_io::{MemDisk, MemSink, MemSource};
 use carte_top::{Word, carte};
@@ -21,17 +22,18 @@ fn words_of(alloc: Global, text: &str) -> Result<Vec<Word>, Fail> {
     Ok(words)
 }
 
-/// The exit status, and what stands on standard output, of a run over the book and an empty state.
+/// The exit status, and what stands on standard output, of a run over the book and a state with these bytes.
 fn shown<G: Gate, T: Threads + Sync>(
     rt: &T,
     alloc: Global,
     words: &str,
+    state: &[u8],
     gate: &G,
 ) -> Result<String, Fail> {
     let words = words_of(alloc, words)?;
     let mut book = MemSource::of(alloc, TWO.as_bytes(), &[])?;
     let mut script = MemSource::of(alloc, b"build b a", &[])?;
-    let mut state = MemDisk::of(alloc, &[], &[])?;
+    let mut state = MemDisk::of(alloc, state, &[])?;
     let mut out = MemSink::new(alloc, 4096, &[])?;
     let mut err = MemSink::new(alloc, 4096, &[])?;
     let hasher = Seeded::of(7);
@@ -51,17 +53,21 @@ fn shown<G: Gate, T: Threads + Sync>(
     Ok(format!(in alloc; "{} {out}", status.code())?)
 }
 
-/// The two rules are one wave of two jobs, in two parts: were one begun only when the other had ended, the test would wait until
-/// its time is up.
+/// The two rules are one wave of two jobs, in two parts, and the two bodies of a state are read in two parts: were one begun only
+/// when the other had ended, the test would wait until its time is up.
 #[test]
 fn program_meets(rt: HostRuntime) -> Result<(), Fail> {
     let meeting = Meeting::new(&rt);
-    let text = shown(&rt, rt.alloc(), "build b s a b --workers 2", &meeting)?;
+    let text = shown(&rt, rt.alloc(), "build b s a b --workers 2", &[], &meeting)?;
     assert_eq!(&rt;
         text.as_str(),
         "0 a = 2\nb = 4\nran 2, given up 0, reused 0\n"
     );
     assert_eq!(&rt; meeting.pairs(), 1);
+    let state = file_of(rt.alloc(), &[1, 2])?;
+    let text = shown(&rt, rt.alloc(), "clean b s --workers 2", &state, &meeting)?;
+    assert_eq!(&rt; text.as_str(), "0 cleaned\n");
+    assert_eq!(&rt; meeting.pairs(), 2);
     Ok(())
 }
 
@@ -83,7 +89,7 @@ const RUNS: [(&str, &str); 3] = [
 #[test]
 fn other_runs_are_those_of_one_worker(rt: HostRuntime) -> Result<(), Fail> {
     for (words, want) in RUNS {
-        let text = shown(&rt, rt.alloc(), words, &Wide)?;
+        let text = shown(&rt, rt.alloc(), words, &[], &Wide)?;
         assert_eq!(&rt; text.as_str(), want, "{words}");
     }
     Ok(())

@@ -12,11 +12,12 @@ use Rattle.carte_restart.specs.Going.{IsRestarting}
 use Rattle.carte_restart.specs.Straight.{IsPrepared, IsStraight}
 use Rattle.carte_restart.proofs.Built.{both_demanded, built_all, built_refused}
 use Rattle.carte_restart.proofs.Goings.{going_none}
+use Rattle.carte_restart.proofs.Scheduled.{both, by_turns}
 use Rattle.carte_restart.proofs.Straight.{straight_none}
 use Rattle.carte_restart.proofs.building.build_from.Goals as goal
 
-pub returns-in-None : goal.returns-in-None
-returns-in-None g c =
+pub returns-in-None-clause-ends : goal.returns-in-None-clause-ends
+returns-in-None-clause-ends g c =
     let b = book_view c.args.book.now in
     let K = kept_view c.args.kept.now in
     let h = g.R.Rebuilder.how c.args.rebuilder.now in
@@ -44,8 +45,8 @@ returns-in-None g c =
     (two.straight (list ++ ts) within_targets H base (mid H base) half (list, listed, subst (λ (l : List (List ℕ)). IsPrepared b list l) (sym c.as_slice-2.ensures) behind)).ended in
     built_all g.R.Job.Job.name started fits begun h K b list ts s two.standing c.treat_all-2.new.work c.in_ok-with_chain-in-None.field-0 ended.chain ended.finished ended.runs demanded c.treat_all-2.new.bench.slots.entries (λ q. refl) going first straight
 
-pub returns : goal.returns
-returns g c =
+pub returns-clause-ends : goal.returns-clause-ends
+returns-clause-ends g c =
     let b = book_view c.args.book.now in
     let K = kept_view c.args.kept.now in
     let h = g.R.Rebuilder.how c.args.rebuilder.now in
@@ -68,3 +69,21 @@ returns g c =
     let first = subst (λ (bk : Book). FirstReason (onward bk s) ts (Some c.in-Some.reason)) two.book (subst (λ (l : List (List ℕ)). FirstReason (onward (book_of c.treat_all-2.new.bench) s) l (Some c.in-Some.reason)) c.as_slice-3.ensures asked) in
     let ended = c.in_ok-with_chain-in-Some.ensures {u = tt} in
     built_refused g.R.Job.Job.name started fits begun h K b list ts s two.standing c.treat_all-2.new.work c.in_ok-with_chain-in-Some.field-0 ended.chain ended.finished ended.runs demanded c.treat_all-2.new.bench.slots.entries (λ q. refl) going c.in-Some.reason first
+
+pub returns-in-None-clause-turns : goal.returns-in-None-clause-turns
+returns-in-None-clause-turns g c =
+    let b = book_view c.args.book.now in
+    let begun = g.R.Rebuilder.begun c.args.rebuilder.now (kept_view c.args.kept.now) b in
+    let room = c.in_ok-work.ensures {u = tt} in
+    let ended = c.in_ok-with_chain-in-None.ensures {u = tt} in
+    let treats = both g.R.Job.Job.name g.R.Job.Job.started g.R.Job.Job.gives (λ k j. begun (λ q. None) k j) (g.R.Rebuilder.how c.args.rebuilder.now) b c.as_slice.result.now c.as_slice-2.result.now c.args.list.now c.args.targets.now (spots_of c.new-bench.result) (spots_of c.treat_all.new.bench) (spots_of c.treat_all-2.new.bench) c.in_ok-work.work c.treat_all.new.work c.treat_all-2.new.work c.as_slice.ensures c.as_slice-2.ensures (c.in_ok-treat_all.ensures {u = tt}).treats (c.in_ok-treat_all-2.ensures {u = tt}).treats in
+    by_turns g.R.Job.Job.name g.R.Job.Job.started g.R.Job.Job.gives (λ k j. begun (λ q. None) k j) (g.R.Rebuilder.how c.args.rebuilder.now) b (c.args.list.now ++ c.args.targets.now) (spots_of c.new-bench.result) (spots_of c.treat_all-2.new.bench) c.in_ok-work.work c.treat_all-2.new.work c.in_ok-with_chain-in-None.field-0 c.new-bench.ensures.empty room.finished room.runs ended.finished ended.runs treats
+
+pub returns-clause-turns : goal.returns-clause-turns
+returns-clause-turns g c =
+    let b = book_view c.args.book.now in
+    let begun = g.R.Rebuilder.begun c.args.rebuilder.now (kept_view c.args.kept.now) b in
+    let room = c.in_ok-work.ensures {u = tt} in
+    let ended = c.in_ok-with_chain-in-Some.ensures {u = tt} in
+    let treats = both g.R.Job.Job.name g.R.Job.Job.started g.R.Job.Job.gives (λ k j. begun (λ q. None) k j) (g.R.Rebuilder.how c.args.rebuilder.now) b c.as_slice.result.now c.as_slice-2.result.now c.args.list.now c.args.targets.now (spots_of c.new-bench.result) (spots_of c.treat_all.new.bench) (spots_of c.treat_all-2.new.bench) c.in_ok-work.work c.treat_all.new.work c.treat_all-2.new.work c.as_slice.ensures c.as_slice-2.ensures (c.in_ok-treat_all.ensures {u = tt}).treats (c.in_ok-treat_all-2.ensures {u = tt}).treats in
+    by_turns g.R.Job.Job.name g.R.Job.Job.started g.R.Job.Job.gives (λ k j. begun (λ q. None) k j) (g.R.Rebuilder.how c.args.rebuilder.now) b (c.args.list.now ++ c.args.targets.now) (spots_of c.new-bench.result) (spots_of c.treat_all-2.new.bench) c.in_ok-work.work c.treat_all-2.new.work c.in_ok-with_chain-in-Some.field-0 c.new-bench.ensures.empty room.finished room.runs ended.finished ended.runs treats

@@ -7,6 +7,7 @@ use Rattle.carte_progress.specs.Standing.{IsStanding}
 use Rattle.carte_progress.proofs.Opened.{halted_target, stands_opens, known_opens}
 use Rattle.carte_restart.specs.Straight.{IsAhead}
 use Rattle.carte_restart.proofs.Goings.{going_opens, opens_same}
+use Rattle.carte_restart.proofs.Scheduled.{next_turn, went_all}
 use Rattle.carte_restart.proofs.Straight.{ahead_opens, ahead_next, ahead_end}
 use Rattle.carte_restart.proofs.building.treat.Goals as goal
 
@@ -36,6 +37,7 @@ turns-init g c =
       known = known.0;
       demanded = known.1;
       ahead = λ ts here H base going straight there. ahead_opens name started (λ i j. begun (λ q. None) i j) b old new c.args.work.now.runs path n opens straight there;
+      went = λ e rest. record { first = new; path = path; opened = opens; turns = rest };
     }
 
 pub turns-preserved : goal.turns-preserved
@@ -51,6 +53,8 @@ turns-preserved g c =
       ahead = λ ts here H base going straight there.
           let now = subst (λ (p : List (List ℕ)). IsAhead (book_view c.args.book.now) (spots_of c.turns.bench) c.turns.work.runs p c.args.target.now) (c.in-Some.ensures {u = tt}).items (before.ahead ts here H base going straight there) in
           inl (ok.straight ts H c.args.target.now base (before.goes ts here H base going) (ahead_next (book_view c.args.book.now) (spots_of c.turns.bench) c.turns.work.runs c.in-Some.name c.pop_front.new.self.items c.args.target.now now));
+      went = λ e rest. before.went e (next_turn g.R.Job.Job.name g.R.Job.Job.started g.R.Job.Job.gives (λ k j. g.R.Rebuilder.begun c.args.rebuilder.now (kept_view c.args.kept.now) (book_view c.args.book.now) (λ q. None) k j) (g.R.Rebuilder.how c.args.rebuilder.now) (book_view c.args.book.now) c.in-Some.name c.pop_front.new.self.items c.turns.path.items (spots_of c.turns.bench) c.turns.work.finished c.turns.work.runs
+          (record { spots = spots_of c.turn.new.bench; path = c.turn.new.path.items; finished = c.turn.new.work.finished; runs = c.turn.new.work.runs }) e (c.in-Some.ensures {u = tt}).items ok.turns rest);
     }
 
 pub returns-clause-idle : goal.returns-clause-idle
@@ -67,3 +71,9 @@ pub returns-clause-straight : goal.returns-clause-straight
 returns-clause-straight g c =
     let none = no_names c.turns.path.items (omega (arith, (c.in_default.ensures {u = tt}).cases.0, c.turns.path.ok.0)) in
     λ ts here H base going straight there. ahead_end (book_view c.args.book.now) (spots_of c.turns.bench) c.turns.work.runs c.turns.path.items c.args.target.now none (c.turns.invariant.ahead ts here H base going straight there)
+
+pub returns-clause-treats : goal.returns-clause-treats
+returns-clause-treats g c =
+    let none = no_names c.turns.path.items (omega (arith, (c.in_default.ensures {u = tt}).cases.0, c.turns.path.ok.0)) in
+    went_all g.R.Job.Job.name g.R.Job.Job.started g.R.Job.Job.gives (λ k j. g.R.Rebuilder.begun c.args.rebuilder.now (kept_view c.args.kept.now) (book_view c.args.book.now) (λ q. None) k j) (g.R.Rebuilder.how c.args.rebuilder.now) (book_view c.args.book.now) c.args.target.now
+    (record { spots = spots_of c.args.bench.now; path = []; finished = c.args.work.now.finished; runs = c.args.work.now.runs }) c.turns.path.items (spots_of c.turns.bench) c.turns.work.finished c.turns.work.runs none c.turns.invariant.went

@@ -1,4 +1,4 @@
-use Rattle.std.proofs.Common.{ℕ, List, ◌∷◌, None, Ok, Err, sym, subst}
+use Rattle.std.proofs.Common.{ℕ, List, ◌∷◌, None, Ok, Err, refl, sym, subst}
 use Rattle.std.specs.Prelude.{OnOk}
 use Rattle.carte_effect.specs.Ledger.{Ledger}
 use Rattle.carte_bench.specs.declared.slot.Slot.TheVariants.{Stopped, Done}
@@ -264,3 +264,52 @@ returns-in_ok-push-in-Err-clause-straight g c =
     on_ok c.open_stop.result (λ ts H target base going next.
     let laws : Laws name started fits gives begun h K b = (record { keeps = λ s d l m i o turned core. c.turn_keeps.ensures.core b s d l m i o turned core; goes_on = λ t i p part further step q begun_so more is_part gave. g.met.R.Rebuilder.goes_on c.args.rebuilder.now K b H t i p part further step q base begun_so more is_part gave }) in
     absurd (never_stops name started gives b old anew.mid r s k ks target next stuck anew.turned (need_mid name started fits gives begun h K b ts laws old mid k c.args.work.now.finished r s going ready (λ t i j begun_so. g.met.R.Rebuilder.fits c.args.rebuilder.now K b H t i j base begun_so) stuck anew)))
+
+pub returns-in-Ok-clause-turns : goal.returns-in-Ok-clause-turns
+returns-in-Ok-clause-turns g c =
+    let b = book_view c.args.book.now in
+    let name = g.R.Job.Job.name in
+    let started = g.R.Job.Job.started in
+    let gives = g.R.Job.Job.gives in
+    let begun = g.R.Rebuilder.begun c.args.rebuilder.now (kept_view c.args.kept.now) b in
+    let old = spots_of c.args.bench.now in
+    let mid = spots_of c.drive.new.bench in
+    let r = c.args.work.now.runs in
+    let s = c.drive.new.runs in
+    let k = c.args.name in
+    let m = c.in-Ok.made in
+    let turned = subst (λ (bk : Book). TurnedAnew name started gives (λ i j. begun (λ q. None) i j) bk old mid r s k (Ok m)) c.requires.book (rw c.in-Ok.is at (c.in_ok-came.ensures {u = tt}).turned) in
+    on_ok_by c.finish_made.result
+    (λ ends. record {
+      outcome = Ok m;
+      mid = mid;
+      turned = subst (λ (l : Ledger). TurnedAnew name started gives (λ i j. begun (λ q. None) i j) b old mid r l k (Ok m)) (sym c.finish_made.ensures.runs) turned;
+      follows = (refl, refl, ends);
+    })
+    c.finish_made.ensures.ends
+
+pub returns-in_ok-push-in-Err-clause-turns : goal.returns-in_ok-push-in-Err-clause-turns
+returns-in_ok-push-in-Err-clause-turns g c =
+    let b = book_view c.args.book.now in
+    let name = g.R.Job.Job.name in
+    let started = g.R.Job.Job.started in
+    let gives = g.R.Job.Job.gives in
+    let begun = g.R.Rebuilder.begun c.args.rebuilder.now (kept_view c.args.kept.now) b in
+    let old = spots_of c.args.bench.now in
+    let mid = spots_of c.drive.new.bench in
+    let r = c.args.work.now.runs in
+    let s = c.drive.new.runs in
+    let k = c.args.name in
+    let stuck = c.in-Err.stuck in
+    let anew = subst (λ (bk : Book). TurnedAnew name started gives (λ i j. begun (λ q. None) i j) bk old mid r s k (Err stuck)) c.requires.book (rw c.in-Err.is at (c.in_ok-came.ensures {u = tt}).turned) in
+    let new = spots_of c.open_stop.new.bench in
+    let path = c.open_stop.new.path.items in
+    let opens = subst (λ (p : List (List ℕ)). OnOk c.open_stop.result (Opens name started (λ i j. begun (λ q. None) i j) b mid new p path (name_of stuck))) (c.in_ok-push-in-Err.ensures {u = tt}) c.open_stop.ensures.opens in
+    on_ok_by c.open_stop.result
+    (λ o. record {
+      outcome = Err stuck;
+      mid = mid;
+      turned = anew;
+      follows = (refl, o);
+    })
+    opens
