@@ -1,0 +1,104 @@
+//! States and books that are cut off, or of other bytes.
+
+use crate::runs::{BUILD, PLAIN, by_pieces};
+use carte_io::MemDisk;
+use std::alloc::Global;
+use std::marker::Sync;
+use std::test::Fail;
+use std::thread::Threads;
+
+const RAN: &str = "0 B2 = 60\nran 2, given up 0, reused 0\n";
+
+const REUSED: &str = "0 B2 = 60\nran 0, given up 0, reused 2\n";
+
+const BAD: &str = "7 carte: bad state at byte 8\n";
+
+fn built<T: Threads + Sync>(rt: &T, alloc: Global, state: &mut MemDisk) -> Result<String, Fail> {
+    by_pieces(rt, alloc, BUILD, PLAIN.as_bytes(), b"", state, 4096)
+}
+
+/// What a build shows over a state of so many of the first bytes of another. Nine bytes are a header and a gate that is open or not:
+/// with fewer than ten a file is taken for a new one.
+fn wanted(length: usize, whole: usize) -> &'static str {
+    if length < 10 {
+        RAN
+    } else if length < whole {
+        BAD
+    } else {
+        REUSED
+    }
+}
+
+#[test]
+fn a_state_is_whole_or_refused(rt: HostRuntime) -> Result<(), Fail> {
+    let mut state = MemDisk::of(rt.alloc(), &[], &[])?;
+    assert_eq!(rt; built(&rt, rt.alloc(), &mut state)?.as_str(), RAN);
+    let bytes = state.bytes().to_vec(rt.alloc())?;
+    assert_eq!(rt; bytes.len(), 437);
+    for length in 0..438 {
+        let mut cut = MemDisk::of(rt.alloc(), &bytes[..length], &[])?;
+        let text = built(&rt, rt.alloc(), &mut cut)?;
+        assert_eq!(rt; text.as_str(), wanted(length, 437), "{length} bytes");
+    }
+    Ok(())
+}
+
+// A state's bytes, and what a build over it shows.
+const STATES: [(&[u8], &str); 4] = [
+    (
+        b"carte\x000\n\x01\0\0\0\x10\x01\0",
+        "7 carte: bad state at byte 0\n",
+    ),
+    (b"CARTE01\n\x01\0\0\0\x10\x01\0", BAD),
+    (b"\xff\xff\xff\xff\xff\xff\xff\xff\xff", RAN),
+    (
+        b"\xff\xff\xff\xff\xff\xff\xff\xff\xff\xff",
+        "7 carte: bad state at byte 0\n",
+    ),
+];
+
+#[test]
+fn other_bytes_are_refused(rt: HostRuntime) -> Result<(), Fail> {
+    for (bytes, want) in STATES {
+        let mut state = MemDisk::of(rt.alloc(), bytes, &[])?;
+        let text = built(&rt, rt.alloc(), &mut state)?;
+        assert_eq!(rt; text.as_str(), want);
+    }
+    // Behind a closed gate byte stands nothing: a commit goes over what is there, and the file stays as long as it is.
+    let mut bytes = b"CARTE01\n\0".to_vec(rt.alloc())?;
+    let behind = vec![in rt.alloc(); 0xffu8; 1_000_000]?;
+    bytes.extend_from_slice(&behind)?;
+    let mut state = MemDisk::of(rt.alloc(), &bytes, &[])?;
+    assert_eq!(rt; built(&rt, rt.alloc(), &mut state)?.as_str(), RAN);
+    assert_eq!(rt; state.bytes().len(), 1_000_009);
+    assert_eq!(rt; built(&rt, rt.alloc(), &mut state)?.as_str(), REUSED);
+    Ok(())
+}
+
+/// Which cell is asked for hangs on another one.
+const DYNAMIC: &str = "10,\"=IF(C1=1,B2,A2)\",1\n20,\"=IF(C1=1,A1,B1)\"\n";
+
+#[test]
+fn a_book_is_read_or_refused(rt: HostRuntime) -> Result<(), Fail> {
+    let bytes = DYNAMIC.as_bytes();
+    for length in 0..bytes.len() + 1 {
+        let mut state = MemDisk::of(rt.alloc(), &[], &[])?;
+        let book = &bytes[..length];
+        let text = by_pieces(
+            &rt,
+            rt.alloc(),
+            "build q.csv s B1",
+            book,
+            b"",
+            &mut state,
+            4096,
+        )?;
+        let front = [
+            text.starts_with("0 "),
+            text.starts_with("1 "),
+            text.starts_with("3 "),
+        ];
+        assert!(rt; front.contains(&true), "{length} bytes: {text}");
+    }
+    Ok(())
+}
