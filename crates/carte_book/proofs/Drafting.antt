@@ -1,5 +1,5 @@
 -- Drafts beside what they hold.
-use Rattle.std.proofs.Common.{◌≡◌, ℕ, not, ◌+◌, ◌<◌, ◌≤◌, Bool, true, false, cond, ◌||◌, List, length, Option, Some, None, is_some, Result, Ok, Err, refl, ap, sym, ◌∙◌, arith}
+use Rattle.std.proofs.Common.{◌≡◌, ℕ, ◌+◌, ◌<◌, ◌≤◌, Bool, true, false, cond, ◌||◌, List, length, Option, Some, None, is_some, Result, Ok, Err, refl, ap, sym, ◌∙◌, arith}
 use Rattle.std.specs.Ordering.{eq_by_cmp}
 use Rattle.std.specs.FinMap.{get, insert, empty, entries, get-insert, len-empty, len-insert, len-entries}
 use Rattle.std.specs.BTreeSet.{BTreeSet, contains, btree_set_len}
@@ -7,7 +7,6 @@ use Rattle.std.specs.Cmp.{eq_by_cmp_equiv}
 use Rattle.std.proofs.lemmas.Bool.{false≢true}
 use Rattle.std.proofs.lemmas.Cmp.{nat_list_cmp_total}
 use Rattle.std.proofs.lemmas.List.{nil_from_length}
-use Rattle.carte_name.specs.declared.kind.Kind.{Kind}
 use Rattle.carte_name.specs.declared.kind.Kind.TheVariants.{Rules, Sheet}
 use Rattle.carte_name.specs.Names.{name_cmp}
 use Rattle.carte_book.specs.Book.{Item, Book, book_view}

@@ -13,3 +13,5 @@ pub mod Named
 pub mod FirstDynamic
 pub mod Added
 pub mod Drafting
+pub mod Tasks
+pub mod RulesKept

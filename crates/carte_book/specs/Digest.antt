@@ -7,7 +7,7 @@ use Rattle.carte_name.specs.declared.kind.Kind.{Kind}
 use Rattle.carte_name.specs.declared.kind.Kind.TheVariants.{Rules, Sheet}
 use Rattle.carte_tree.specs.Tree.{Tree}
 use Rattle.carte_tree.specs.Printed.{printed}
-use Rattle.carte_book.specs.Book.{Book, rules_of}
+use Rattle.carte_book.specs.Content.{Book, rules_of}
 
 abbrev pub kind_code : Kind → ℕ
 kind_code Rules = 0

@@ -1,5 +1,6 @@
 pub mod Alike
 pub mod Fits
+pub mod Content
 pub mod Book
 pub mod Needs
 pub mod Reason
@@ -8,6 +9,8 @@ pub mod Looked
 pub mod Edits
 pub mod Added
 pub mod Digest
+pub mod Task
+pub mod Known
 pub mod Stuck
 pub mod Order
 pub mod Drafts

@@ -28,6 +28,7 @@ impl Book {
             kind,
             items: Items::with_hasher(alloc, hasher),
             nothing: Value::Empty,
+            known: None,
         }
     }
 
@@ -48,6 +49,7 @@ impl Book {
             kind,
             items,
             nothing: Value::Empty,
+            known: None,
         })
     }
 
@@ -120,6 +122,7 @@ impl Book {
         self.items.contains_key(name)
     }
 
+    // What it knows of its rules is dropped, since the item may be one.
     pub(crate) fn put(&mut self, name: Name, item: Item) -> Result<(), NoMemory>
         requires name { IsTrue (is_name_of (book_view self.old).kind name) }
         requires item { FitsItem (book_view self.old).kind item }
@@ -127,6 +130,7 @@ impl Book {
         ensures absent { OnErr result (get (book_view self.old).items name ≡ None) }
         ensures unchanged { OnErr result (book_view self.new ≡ book_view self.old) }
     {
+        self.known = None;
         match self.items.insert(name, item) {
             Ok(_) => Ok(()),
             Err(_) => Err(NoMemory),

@@ -1,9 +1,10 @@
 ghost use Rattle.std.specs.Prelude.{◌≡◌};
 ghost use Rattle.carte_value.specs.declared.value.Value.TheVariants.{Empty};
 ghost use Rattle.carte_book.specs.Fits.{Fits, Fits-prop};
+ghost use Rattle.carte_book.specs.Known.{Knows, book_with};
 
 use carte_tree::Expr;
-use carte_value::{Kind, Name, Seeded, Value};
+use carte_value::{Digest, Kind, Name, Seeded, Value};
 use indexmap::IndexMap;
 use std::alloc::Global;
 use std::sync::Arc;
@@ -26,8 +27,11 @@ pub struct Book {
     pub(crate) items: Items,
     /// What each cell of a sheet holds that nothing was put in.
     pub(crate) nothing: Value,
+    /// The digest of its rules, once it was asked for.
+    pub(crate) known: Option<Digest>,
     ghost is_nothing: { nothing ≡ Empty },
     ghost fits: { Fits kind items.entries } by { Fits-prop kind items.entries },
+    ghost knows: { Knows known (book_with kind items.entries) },
 }
 
 /// What a book has at a name.

@@ -3,7 +3,7 @@ ghost use Rattle.std.specs.Int.{w32, to_be_bytes};
 ghost use Rattle.sha2.specs.Hashers.{Holds256};
 ghost use Rattle.carte_tree.specs.Code.{tree_of};
 ghost use Rattle.carte_tree.specs.Formula.{IsExpr};
-ghost use Rattle.carte_book.specs.Book.{book_view};
+ghost use Rattle.carte_book.specs.Book.{book_view, hasher_in};
 ghost use Rattle.carte_book.specs.Digest.{kind_code, spelled_name, spelled_formula, spelled_rules, rules_digest_of};
 ghost use Rattle.carte_book.specs.Order.{rules_view, IsFormulaOf};
 
@@ -18,8 +18,28 @@ use std::alloc::Global;
 const MANY_BYTES: usize = 4096;
 
 impl Book {
-    /// SHA-256 (FIPS 180-4) of the kind and all rules in name order, each with its name and its printed formula.
+    /// SHA-256 (FIPS 180-4) of the kind and all rules in name order, each with its name and its printed formula. It is no
+    /// work where the book knows it.
     pub fn rules_digest(&self, alloc: Global) -> Result<Digest, NoMemory>
+        ensures { IfOk result (λ d. d ≡ rules_digest_of (book_view self.now)) }
+    {
+        match self.known {
+            Some(digest) => Ok(digest),
+            None => self.digest_anew(alloc),
+        }
+    }
+
+    /// Works the digest of its rules out, where it isn't known yet; from then on it is, until a name is added.
+    pub fn know_digest(&mut self, alloc: Global) -> Result<(), NoMemory>
+        ensures book { book_view self.new ≡ book_view self.old }
+        ensures hasher { hasher_in self.new ≡ hasher_in self.old }
+    {
+        let digest = self.rules_digest(alloc)?;
+        self.known = Some(digest);
+        Ok(())
+    }
+
+    fn digest_anew(&self, alloc: Global) -> Result<Digest, NoMemory>
         ensures { IfOk result (λ d. d ≡ rules_digest_of (book_view self.now)) }
     {
         let mut hasher = Sha256::new();

@@ -4,7 +4,7 @@ ghost use Rattle.carte_tree.specs.Code.{tree_of};
 ghost use Rattle.carte_tree.specs.Formula.{IsExpr, HasNames};
 ghost use Rattle.carte_book.specs.Fits.{FitsItem};
 ghost use Rattle.carte_book.specs.Book.{book_view, item_view, input, rule};
-ghost use Rattle.carte_book.specs.Edits.{keys_of, IsRefused, Adds, IsInput, Sets};
+ghost use Rattle.carte_book.specs.Edits.{keys_of, IsRefused, Adds, IsInput, IsSettable, Sets};
 
 use crate::items::put_new;
 use crate::{AddFault, Book, Item, Looked, SetFault};
@@ -65,6 +65,7 @@ impl Book {
         if self.keys() >= MOST_KEYS {
             return Err(self.refusal(&name));
         }
+        self.known = None;
         put_new(&mut self.items, name, item)
     }
 
@@ -88,6 +89,18 @@ impl Book {
         if !self.has(name) && self.keys() >= MOST_KEYS {
             return Err(SetFault::Limit);
         }
+        // An input is no rule, so what is known of these stays so.
+        let known = self.known;
+        let done = self.put_value(name, value);
+        self.known = known;
+        done
+    }
+
+    fn put_value(&mut self, name: &Name, value: Value) -> Result<(), SetFault>
+        requires name { IsTrue (is_name_of (book_view self.old).kind name.now) }
+        requires input { IsSettable (book_view self.old) name.now }
+        ensures { Sets (book_view self.old) (book_view self.new) name.now value result }
+    {
         match name.copy(self.alloc) {
             Ok(name) => match self.put(name, Item::Input(value)) {
                 Ok(()) => Ok(()),

@@ -11,6 +11,7 @@ ghost use Rattle.carte_book.specs.Dynamic.{NoDynamicPath, IsOrderReason, OrderCl
 ghost use Rattle.carte_book.specs.Edits.{with_item};
 ghost use Rattle.carte_book.specs.Reason.{AllClean, IsReason};
 ghost use Rattle.carte_book.specs.Stuck.{StuckIsLastNeed, CleanOrReason};
+ghost use Rattle.carte_book.specs.Task.{OneTask};
 ghost use Rattle.carte_book.specs.declared.reason.Reason.{Reason};
 
 /// The clean values are a fixpoint: one more round of evaluation changes none.
@@ -58,6 +59,13 @@ pub fn order_clean_or_refused()
 /// Books of one kind with the same rules have one digest, whatever texts their formulas were read from.
 pub fn one_digest()
     ensures { OneDigest }
+{}
+
+/// Rules with one formula have one task in books of one kind, whatever texts they were read from and whatever else these
+/// books have.
+#[tactic(auto, using(crate::proofs::Tasks::one_task))]
+pub fn one_task()
+    ensures { OneTask }
 {}
 
 /// A rule is stuck at a need exactly where that is the last of its needs and has no clean value.

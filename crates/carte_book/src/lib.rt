@@ -23,9 +23,10 @@
 //! one whose references its text doesn't tell. There may be many such paths; the first by length and then by names is
 //! told, so that there is one answer.
 //!
-//! The digest of the rules is fed from the printed formulas and not from the texts that were read, so blanks and needless
-//! brackets aren't part of it. The laws of the definitions are contracts of functions that do nothing: only a contract
-//! is proved.
+//! The digest of the rules, and that of one rule's task, are fed from the printed formulas and not from the texts that were
+//! read, so blanks and needless brackets aren't part of them. A book keeps the first once it was asked for: it is asked for
+//! each key by a rebuilder that compares all rules. The laws of the definitions are contracts of functions that do
+//! nothing: only a contract is proved.
 #![tactic(auto)]
 
 mod access;
@@ -40,15 +41,16 @@ mod laws;
 mod needs;
 mod order;
 mod reason;
+mod task;
 
 pub use book::{Book, Item, Looked};
 pub use draft::Draft;
 pub use fault::{AddFault, BookFault, SetFault, Which};
 pub use key_text::KeyText;
 pub use laws::{
-    clean_is_evaluated, clean_is_settled, clean_or_refused, one_digest, order_clean_or_refused,
-    order_reason_is_unique, order_reason_or_clean, put_stands, reason_is_unique, reason_or_clean,
-    stuck_need_is_last,
+    clean_is_evaluated, clean_is_settled, clean_or_refused, one_digest, one_task,
+    order_clean_or_refused, order_reason_is_unique, order_reason_or_clean, put_stands,
+    reason_is_unique, reason_or_clean, stuck_need_is_last,
 };
 pub use needs::needs_are_names;
 pub use reason::Reason;

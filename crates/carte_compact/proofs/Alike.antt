@@ -1,10 +1,10 @@
 -- There is one live information.
-use Rattle.std.proofs.Common.{◌≡◌, ℕ, true, false, List, ap, sym, ◌∙◌, subst, inl, inr}
+use Rattle.std.proofs.Common.{◌≡◌, ℕ, true, false, List, [], ◌∷◌, ap, sym, ◌∙◌, subst, inl, inr}
 use Rattle.carte_value.specs.Truths.{Among}
 use Rattle.carte_record.specs.declared.batch.Batch.{Batch}
 use Rattle.carte_record.specs.declared.kept.Kept.{Kept}
 use Rattle.carte_compact.specs.Laws.{OneLive}
-use Rattle.carte_compact.specs.Live.{IsAllOf, IsSomeLive, and_marks, keys_of, names_of, stale_at}
+use Rattle.carte_compact.specs.Live.{IsAllOf, IsSomeLive, keys_of, names_of}
 use Rattle.carte_compact.proofs.Ranks.{one_by_digest}
 use Rattle.carte_compact.proofs.Sizes.{one_list}
 
@@ -15,6 +15,7 @@ one_batch K names keys B C all all' = join (one_by_digest K.values B.values C.va
     join values i = record {
       start = (all.start ∙ sym all'.start) i;
       values = values i;
+      gone = (all.gone ∙ sym all'.gone) i;
       seen = (all.seen ∙ sym all'.seen) i;
       stale = (all.stale ∙ sym all'.stale) i;
       entries = (all.entries ∙ sym all'.entries) i;
@@ -29,8 +30,7 @@ some_one K Bs Cs live live' =
     let names = one_list (Among (names_of K.seen)) live'.names live.names live'.seen live.seen in
     let keys = one_list (Among (keys_of K.entries)) live'.keys live.keys live'.listed live.listed in
     let all : IsAllOf K live.names live.keys live'.first = subst (λ ks. IsAllOf K live.names ks live'.first) keys (subst (λ ns. IsAllOf K ns live'.keys live'.first) names live'.all) in
-    live.batches ∙ ap (λ B. and_marks B (stale_at K.entries live.keys)) (one_batch K live.names live.keys live.first live'.first live.all all)
-    ∙ ap (λ ks. and_marks live'.first (stale_at K.entries ks)) (sym keys) ∙ sym live'.batches
+    live.batches ∙ ap (λ B. B ∷ []) (one_batch K live.names live.keys live.first live'.first live.all all) ∙ sym live'.batches
 
 pub one_live : OneLive
 one_live K Bs Cs (inl (bare, none)) (inl (bare', none')) = none ∙ sym none'

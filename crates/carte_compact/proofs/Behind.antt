@@ -1,5 +1,5 @@
 -- A rewriting and a batch behind it, as steps.
-use Rattle.std.proofs.Common.{◌≡◌, ◌⊎◌, ℕ, ◌<◌, Bool, true, false, if◌then◌else◌, List, [], ◌∷◌, ◌++◌, Result, Ok, ap, subst, inl, inr, arith}
+use Rattle.std.proofs.Common.{◌≡◌, ◌⊎◌, ℕ, ◌<◌, Bool, true, false, if◌then◌else◌, List, [], ◌∷◌, ◌++◌, Result, Ok, ap, ◌∙◌, subst, inl, inr, arith}
 use Rattle.carte_io.specs.Stations.{IsAtOneOf, Step, StepsThrough}
 use Rattle.carte_io.proofs.Acknowledged.{AreMade, steps_leave, steps_then}
 use Rattle.carte_io.proofs.Images.{leaves_more}
@@ -8,11 +8,12 @@ use Rattle.carte_journal.proofs.Commits.{some_calls}
 use Rattle.carte_record.specs.declared.batch.Batch.{Batch}
 use Rattle.carte_record.specs.Empty.{is_empty}
 use Rattle.carte_record.specs.Folds.{apply}
-use Rattle.carte_record.specs.Kept.{SomeKept, kept_view}
+use Rattle.carte_record.specs.Kept.{kept_view}
 use Rattle.carte_state.specs.Applying.{Applies}
 use Rattle.carte_state.specs.Around.{OverDisk}
 use Rattle.carte_state.specs.Folding.{Keeps}
-use Rattle.carte_state.specs.States.{IsKeptOn, Stand, kept_in, step_for}
+use Rattle.carte_state.specs.States.{IsKeptOn, Stand, any_in, any_of, step_for}
+use Rattle.carte_state.specs.Versions.{AnyKept, InTwo, two_of}
 use Rattle.carte_state.specs.declared.fault.ApplyFault.{ApplyFault}
 use Rattle.carte_compact.specs.Laws.{KeptThroughout, StationsBehind, StepsBehind, TellsApplied, TellsRenewed}
 use Rattle.carte_compact.specs.Rewriting.{Rewrites, step_again}
@@ -23,40 +24,40 @@ one_of_two (inr a) = a
 
 pub kept_throughout : KeptThroughout
 kept_throughout s old new ordered steps =
-    leaves_more old new (IsAtOneOf (Keeps s.journal.limit) (kept_in s) (step_again s)) (Keeps s.journal.limit (kept_in s)) (λ image at. one_of_two at)
-    (steps_leave (Keeps s.journal.limit) (kept_in s) (step_again s) old new ordered steps)
+    leaves_more old new (IsAtOneOf (Keeps s.journal.limit) (any_in s) (step_again s)) (Keeps s.journal.limit (any_in s)) (λ image at. one_of_two at)
+    (steps_leave (Keeps s.journal.limit) (any_in s) (step_again s) old new ordered steps)
 
 -- a batch's step makes some call
-made_if : (empty : Bool) (step : Step SomeKept) → 0 < step.calls → AreMade (if empty then [] else step ∷ [])
+made_if : (empty : Bool) (step : Step AnyKept) → 0 < step.calls → AreMade (if empty then [] else step ∷ [])
 made_if true step some = tt
 made_if false step some = (some, tt)
 
 pub steps_behind : StepsBehind
 steps_behind s t B old mid new renewed applied =
-    let K = kept_in s in
-    let same : kept_in t ≡ K = ap kept_view renewed.kept in
+    let K = any_in s in
+    let same : any_in t ≡ K = ap (λ k. any_of t.one (kept_view k)) renewed.kept ∙ ap (λ o. any_of o (kept_view s.kept)) renewed.one in
     let more : StepsThrough (Keeps s.journal.limit) K (step_for t.journal K B) mid new =
     subst (λ limit. StepsThrough (Keeps limit) K (step_for t.journal K B) mid new) renewed.limit
     (subst (λ M. StepsThrough (Keeps t.journal.limit) M (step_for t.journal M B) mid new) same applied.steps) in
     steps_then (Keeps s.journal.limit) K (step_again s) (step_for t.journal K B) old mid new renewed.steps (omega (arith, renewed.calls)) applied.ordered
-    (made_if (is_empty B) (record { calls = calls_of t.journal; to = apply B K }) (omega (arith, some_calls t.journal.fresh))) more
+    (made_if (is_empty B) (record { calls = calls_of t.journal; to = InTwo (apply B (two_of K)) }) (omega (arith, some_calls t.journal.fresh))) more
 
-at_two : (At : SomeKept → List ℕ → Type 0) (K L : SomeKept) (calls : ℕ) (empty : Bool) (file : List ℕ)
-    → At K file ⊎ IsAtOneOf At K (if empty then [] else let step : Step SomeKept = record { calls = calls; to = L } in step ∷ []) file → At K file ⊎ At L file
+at_two : (At : AnyKept → List ℕ → Type 0) (K L : AnyKept) (calls : ℕ) (empty : Bool) (file : List ℕ)
+    → At K file ⊎ IsAtOneOf At K (if empty then [] else let step : Step AnyKept = record { calls = calls; to = L } in step ∷ []) file → At K file ⊎ At (if empty then K else L) file
 at_two At K L calls empty file (inl at) = inl at
 at_two At K L calls true file (inr at) = inl at
 at_two At K L calls false file (inr at) = at
 
 pub stations_behind : StationsBehind
 stations_behind s t B old mid new renewed applied =
-    let K = kept_in s in
+    let K = any_in s in
     leaves_more old new (IsAtOneOf (Keeps s.journal.limit) K (step_again s ++ step_for t.journal K B)) _
-    (λ image at. at_two (Keeps s.journal.limit) K (apply B K) (calls_of t.journal) (is_empty B) image at)
+    (λ image at. at_two (Keeps s.journal.limit) K (InTwo (apply B (two_of K))) (calls_of t.journal) (is_empty B) image at)
     (steps_leave (Keeps s.journal.limit) K (step_again s ++ step_for t.journal K B) old new applied.ordered (steps_behind s t B old mid new renewed applied))
 
 -- what a rewriting and a batch come to, as they are told
 pub told_renewed : (d : OverDisk) (s t : Stand) → Rewrites d s t (Ok tt) → d.tells → IsKeptOn s d.old → TellsRenewed s t d.old d.new
-told_renewed d s t rewrites told on = record { kept = rewrites.kept; limit = rewrites.limit; calls = rewrites.comes.calls told; steps = rewrites.steps told on }
+told_renewed d s t rewrites told on = record { kept = rewrites.kept; one = rewrites.one; limit = rewrites.limit; calls = rewrites.comes.calls told; steps = rewrites.steps told on }
 
 pub told_applied : (d : OverDisk) (s t : Stand) (B : Batch) (result : Result (Unit {0}) ApplyFault) → Applies d s t B result → d.tells → IsKeptOn s d.old → TellsApplied s B d.old d.new
 told_applied d s t B result applies told on = record { steps = applies.steps told on; ordered = applies.ordered told }

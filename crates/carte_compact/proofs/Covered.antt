@@ -1,5 +1,5 @@
 -- What the lists take is live, where no key comes twice in them.
-use Rattle.std.proofs.Common.{◌≡◌, ◌≤◌, ℕ, ◌+◌, Bool, true, false, cond, List, [], ◌∷◌, ◌++◌, Option, Some, None, length, map, refl, ap, sym, ◌∙◌, subst, inl, inr, ◌⊎◌, arith, length-append}
+use Rattle.std.proofs.Common.{◌≡◌, ◌≤◌, ℕ, ◌+◌, Bool, true, false, List, [], ◌∷◌, Option, Some, None, length, map, refl, ap, sym, ◌∙◌, inl, inr, ◌⊎◌, arith, length-append}
 use Rattle.std.specs.List.{AllByRecursion, IsDistinct, flat_map}
 use Rattle.std.specs.Prelude.{find, option_map, if◌then◌else◌}
 use Rattle.carte_name.specs.Names.{name_eq}
@@ -13,11 +13,11 @@ use Rattle.carte_table.proofs.Steps.{of_key}
 use Rattle.carte_record.specs.declared.entry.Entry.{Entry}
 use Rattle.carte_record.specs.declared.kept.Kept.{Kept}
 use Rattle.carte_record.specs.declared.trace.Trace.{Trace}
-use Rattle.carte_record.specs.Bodies.{spelled_entry, spelled_names, spelled_start, spelled_trace}
+use Rattle.carte_record.specs.Bodies.{spelled_entry, spelled_names, spelled_trace}
 use Rattle.carte_record.specs.Latest.{last_ones, latest_length}
 use Rattle.carte_record.specs.Marked.{marked_as}
 use Rattle.carte_compact.specs.Lengths.{front_size}
-use Rattle.carte_compact.specs.Live.{chain_for, entry_at, found_at, keys_of, link_at, names_of, put, start_for}
+use Rattle.carte_compact.specs.Live.{chain_for, entry_at, found_at, keys_of, link_at, names_of, put, stale_at}
 
 -- ---- sums over names
 
@@ -134,10 +134,11 @@ chain_long (k ∷ ks) = omega (arith, names_long (k ∷ ks), length-append (spel
 pub traces_long : (n : ℕ) (ts : List Trace) → n ≤ latest_length ts → n + 4 ≤ length (spelled_list spelled_trace (last_ones ts))
 traces_long n ts within = omega (arith, within, length-append (spelled_count (length (last_ones ts))) (flat_map spelled_trace (last_ones ts)))
 
-pub front_covered : (K : Kept) (start values links entries n : ℕ) → start ≡ length (spelled_start (start_for K.rules)) → values ≡ length (flat_map spelling K.values)
+pub front_covered : (K : Kept) (values links entries n : ℕ) → values ≡ length (flat_map spelling K.values)
     → links ≡ length (flat_map spelled_link K.seen) → IsDistinct name_eq (map (λ l. l.name) K.seen) → entries ≡ length (flat_map spelled_entry K.entries) → IsDistinct name_eq (map (λ e. e.key) K.entries)
-    → n ≡ start + values + links + entries + 16 → (names keys : List (List ℕ)) → IsListOf (Among (names_of K.seen)) names → IsListOf (Among (keys_of K.entries)) keys → n ≤ front_size K names keys
-front_covered K start values links entries n start_is values_is links_is links_once entries_is entries_once sum names keys seen listed =
+    → n ≡ values + links + entries + 21 → (names keys : List (List ℕ)) → IsListOf (Among (names_of K.seen)) names → IsListOf (Among (keys_of K.entries)) keys → n ≤ front_size K names keys
+front_covered K values links entries n values_is links_is links_once entries_is entries_once sum names keys seen listed =
     let a = links_covered K.seen names links_once seen in
     let b = entries_covered K.entries keys entries_once listed in
-    omega (arith, sum, start_is, values_is, links_is, entries_is, a, b, length-append (spelled_count (length K.values)) (flat_map spelling K.values))
+    let marks = length-append (spelled_count (length (stale_at K.entries keys))) (flat_map spelled_name (stale_at K.entries keys)) in
+    omega (arith, sum, values_is, links_is, entries_is, a, b, marks, length-append (spelled_count (length K.values)) (flat_map spelling K.values))

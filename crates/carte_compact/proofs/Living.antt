@@ -1,6 +1,6 @@
 -- The live information makes of nothing what is kept.
 use Rattle.std.proofs.Common.{◌≡◌, ℕ, Bool, true, false, ◌&&◌, List, [], ◌∷◌, length, Option, Some, None, refl, ap, sym, ◌∙◌, inl, inr}
-use Rattle.std.specs.Prelude.{◌==◌, is_none, option_map, unwrap_or}
+use Rattle.std.specs.Prelude.{◌==◌, option_map, unwrap_or}
 use Rattle.carte_value.specs.declared.digest.Digest.{Digest}
 use Rattle.carte_value.specs.declared.link.Link.{Link}
 use Rattle.carte_value.specs.Truths.{Among, IsListOf}
@@ -12,17 +12,18 @@ use Rattle.carte_record.specs.declared.entry.Entry.{Entry}
 use Rattle.carte_record.specs.declared.kept.Kept.{Kept}
 use Rattle.carte_record.specs.declared.way.Way.{Way}
 use Rattle.carte_record.specs.declared.way.Way.TheVariants.{Verifying, Constructive, Deep}
-use Rattle.carte_record.specs.Folds.{apply, batch_traces, carried, is_among, started, with_marks}
-use Rattle.carte_record.specs.Kept.{SomeKept, kept_traces, kept_view, nothing_kept, staled, traces_in}
+use Rattle.carte_record.specs.Folds.{apply, batch_traces, carried, is_among, started}
+use Rattle.carte_record.specs.Kept.{kept_traces, kept_view, nothing_kept, staled, traces_in}
 use Rattle.carte_record.specs.Lookups.{entry_in, first_entry, is_entry_of}
 use Rattle.carte_record.specs.Marked.{marked_as}
+use Rattle.carte_record.specs.Growth.{put_in}
+use Rattle.carte_record.proofs.Gone.{dropping_none}
 use Rattle.carte_record.proofs.Growing.{kept_same, no_traces}
 use Rattle.carte_record.proofs.Looked.{find_passes}
-use Rattle.carte_record.proofs.Marks.{none_marked}
 use Rattle.carte_state.specs.Runs.{applied}
 use Rattle.carte_compact.specs.Laws.{LiveIsKept}
-use Rattle.carte_compact.specs.Live.{IsAllOf, and_marks, chain_for, entry_at, found_at, has_no_keys, has_no_traces, is_bare, is_stale, keys_of, link_at, marks_of, names_of, stale_at, start_for}
-use Rattle.carte_compact.proofs.Bare.{both, no_items, nothing_there}
+use Rattle.carte_compact.specs.Live.{IsAllOf, chain_for, entry_at, found_at, has_no_keys, has_no_traces, is_bare, is_stale, keys_of, link_at, names_of, stale_at}
+use Rattle.carte_compact.proofs.Bare.{both, no_items}
 use Rattle.carte_compact.proofs.Found.{among_let, each_found, unlisted}
 use Rattle.carte_compact.proofs.Repeats.{last_count}
 use Rattle.carte_compact.proofs.Ties.{first_stays}
@@ -62,13 +63,6 @@ chain_again : (ks : List (List ℕ)) → unwrap_or (chain_for ks) [] ≡ ks
 chain_again [] = refl
 chain_again (k ∷ ks) = refl
 
-abbrev under : Option Digest → SomeKept
-under r = record nothing_kept { rules = r }
-
-started_for : (r : Option Digest) → started (start_for r) nothing_kept ≡ under r
-started_for None = refl
-started_for (Some d) = refl
-
 -- ---- what each part makes
 
 module _ (K : Kept) (names keys : List (List ℕ)) (seen : IsListOf (Among (names_of K.seen)) names) (listed : IsListOf (Among (keys_of K.entries)) keys) where
@@ -93,56 +87,37 @@ module _ (K : Kept) (names keys : List (List ℕ)) (seen : IsListOf (Among (name
       on true there = refl
       on false apart = sym (ap is_stale (lacks k apart))
 
-  -- the first batch, and then the marks
+  -- the batch
   module _ (B : Batch) (all : IsAllOf K names keys B) where
-    from_start : started B.start nothing_kept ≡ under K.rules
-    from_start = ap (λ s. started s nothing_kept) all.start ∙ started_for K.rules
-
     traces : (w : Way) (k : List ℕ) → traces_in k (batch_traces w B) [] ≡ traces_in k (kept_traces w K) []
     traces Verifying k = ap (λ ts. traces_in k ts []) all.verifying ∙ last_count k K.verifying []
     traces Constructive k = ap (λ ts. traces_in k ts []) all.constructive ∙ last_count k K.constructive []
     traces Deep k = ap (λ ts. traces_in k ts []) all.deep ∙ last_count k K.deep []
 
-    pub kept_again : with_marks (apply B nothing_kept) (stale_at K.entries keys) ≡ kept_view K
+    pub kept_again : apply B nothing_kept ≡ kept_view K
     kept_again =
-        ap (λ M. with_marks (carried B M) (stale_at K.entries keys)) from_start
-        ∙ kept_same (with_marks (carried B (under K.rules)) (stale_at K.entries keys)) (kept_view K) refl
+        ap (λ s. carried B (started s nothing_kept)) all.start ∙ dropping_none B nothing_kept all.gone
+        ∙ kept_same (put_in B nothing_kept) (kept_view K)
         (λ k. or_none (link_in B.seen k) ∙ links B.seen all.seen k)
-        (λ k. ap (option_map (staled (is_among (stale_at K.entries keys) k))) (or_none (entry_in B.entries k) ∙ entries B.entries all.entries k) ∙ marked_again (first_entry K.entries k) (is_among (stale_at K.entries keys) k) (marks k))
+        (λ k. ap (option_map (staled (is_among B.stale k))) (or_none (entry_in B.entries k) ∙ entries B.entries all.entries k)
+        ∙ marked_again (first_entry K.entries k) (is_among B.stale k) (ap (λ ks. is_among ks k) all.stale ∙ marks k))
         traces
         (ap (λ o. unwrap_or o []) all.chain ∙ chain_again K.chain)
         (first_stays K.values B.values all.values)
 
 -- ---- all of it
 
-with_none : (L : SomeKept) → L ≡ with_marks L []
-with_none L = kept_same L (with_marks L []) refl (λ k. refl) (λ k. none_marked (L.entries k)) (λ w k. refl) refl (λ d. refl)
-
-only_marks : (ks : List (List ℕ)) (L : SomeKept) → apply (marks_of ks) L ≡ with_marks L ks
-only_marks ks L = kept_same (apply (marks_of ks) L) (with_marks L ks) refl (λ k. refl) (λ k. refl) none refl (λ d. or_none (L.stored d))
-  where
-    none : (w : Way) (k : List ℕ) → traces_in k (batch_traces w (marks_of ks)) (L.traces w k) ≡ L.traces w k
-    none Verifying k = refl
-    none Constructive k = refl
-    none Deep k = refl
-
-then_marks : (B : Batch) (ks : List (List ℕ)) → applied nothing_kept (and_marks B ks) ≡ with_marks (apply B nothing_kept) ks
-then_marks B [] = with_none (apply B nothing_kept)
-then_marks B (k ∷ ks) = only_marks (k ∷ ks) (apply B nothing_kept)
-
 bare : (K : Kept) → is_bare K ≡ true → nothing_kept ≡ kept_view K
 bare K is =
-    let whole = both (is_none K.rules && has_no_keys K) (has_no_traces K) is in
-    let front = both (is_none K.rules) (has_no_keys K) whole.0 in
-    let keys = both (length K.seen == 0 && length K.entries == 0) (length K.chain == 0 && length K.values == 0) front.1 in
+    let whole = both (has_no_keys K) (has_no_traces K) is in
+    let keys = both (length K.seen == 0 && length K.entries == 0) (length K.chain == 0 && length K.values == 0) whole.0 in
     let named = both (length K.seen == 0) (length K.entries == 0) keys.0 in
     let held = both (length K.chain == 0) (length K.values == 0) keys.1 in
     let ways = both (length K.verifying == 0 && length K.constructive == 0) (length K.deep == 0) whole.1 in
     let two = both (length K.verifying == 0) (length K.constructive == 0) ways.0 in
-    sym (kept_same (kept_view K) nothing_kept (nothing_there K.rules front.0) (λ k. ap (λ ls. first_link ls k) (no_items K.seen named.0)) (λ k. ap (λ es. first_entry es k) (no_items K.entries named.1))
+    sym (kept_same (kept_view K) nothing_kept (λ k. ap (λ ls. first_link ls k) (no_items K.seen named.0)) (λ k. ap (λ es. first_entry es k) (no_items K.entries named.1))
     (no_traces K (no_items K.verifying two.0) (no_items K.constructive two.1) (no_items K.deep ways.1)) (no_items K.chain held.0) (λ d. ap (λ vs. first_value vs d) (no_items K.values held.1)))
 
 pub is_kept : LiveIsKept
 is_kept K Bs (inl (none, is)) = ap (applied nothing_kept) is ∙ bare K none
-is_kept K Bs (inr (some, live)) =
-    ap (applied nothing_kept) live.batches ∙ then_marks live.first (stale_at K.entries live.keys) ∙ kept_again K live.names live.keys live.seen live.listed live.first live.all
+is_kept K Bs (inr (some, live)) = ap (applied nothing_kept) live.batches ∙ kept_again K live.names live.keys live.seen live.listed live.first live.all

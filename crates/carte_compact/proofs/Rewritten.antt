@@ -11,19 +11,19 @@ use Rattle.carte_journal.specs.Frames.{BodyAt}
 use Rattle.carte_journal.specs.Journals.{broke}
 use Rattle.carte_journal.specs.Regions as regions
 use Rattle.carte_journal.specs.Regions.{Planned, bytes_of, calls_to_turn, region_end, region_of, rewritten}
-use Rattle.carte_record.specs.Kept.{SomeKept, nothing_kept}
 use Rattle.carte_state.specs.Applying.{IsStill}
 use Rattle.carte_state.specs.Around.{OverDisk}
-use Rattle.carte_state.specs.Folding.{IsFolded, Keeps}
+use Rattle.carte_state.specs.Folding.{Keeps, Makes}
 use Rattle.carte_state.specs.Rewriting.{IsRegionFor, step_over, with_journal}
-use Rattle.carte_state.specs.States.{IsKeptOn, Stand, kept_in}
+use Rattle.carte_state.specs.States.{IsKeptOn, Stand, any_in, kept_in}
+use Rattle.carte_state.specs.Versions.{AnyKept, InTwo}
 use Rattle.carte_state.specs.declared.fault.ApplyFault.{ApplyFault}
 use Rattle.carte_state.specs.declared.fault.ApplyFault.TheVariants.{DiskFault, Full}
 use Rattle.carte_state.proofs.Applies.{kept_leaves}
 use Rattle.carte_compact.specs.Lengths.{AreShort, bodies_length}
 use Rattle.carte_compact.specs.Rewriting.{IsLiveRegion, Renewed, Rewrites, step_again}
 use Rattle.carte_compact.proofs.Living.{is_kept}
-use Rattle.carte_compact.proofs.Shut.{folded}
+use Rattle.carte_compact.proofs.Shut.{makes}
 
 -- ---- bodies of a region
 
@@ -43,7 +43,7 @@ pub region_for : (s : Stand) (p : Planned) → IsLiveRegion s p → IsRegionFor 
 region_for s p live = record {
   bodies = live.bodies;
   region = live.region;
-  folded = subst (IsFolded nothing_kept live.bodies) (is_kept s.kept live.batches live.live) (folded nothing_kept live.batches live.bodies live.are);
+  makes = subst (λ K. Makes live.bodies (InTwo K)) (is_kept s.kept live.batches live.live) (makes live.batches live.bodies live.are);
 }
 
 -- what three clauses say of a region that is there
@@ -54,9 +54,9 @@ if_all (Err e) P Q R S f a b c = tt
 -- ---- what comes of it
 
 -- while no call is made
-stays : (s : Stand) (story : Story) → IsKeptOn s story → StepsThrough (Keeps s.journal.limit) (kept_in s) (step_again s) story story
+stays : (s : Stand) (story : Story) → IsKeptOn s story → StepsThrough (Keeps s.journal.limit) (any_in s) (step_again s) story story
 stays s story on =
-    steps_one (Keeps s.journal.limit) (kept_in s) (record { calls = calls_to_turn s.journal.bank; to = kept_in s }) story story
+    steps_one (Keeps s.journal.limit) (any_in s) (record { calls = calls_to_turn s.journal.bank; to = any_in s }) story story
     (throughout_none story story _ refl (record { either = λ c image. inl (kept_leaves s story on c image); after = λ enough. kept_leaves s story on }))
 
 module _ (d : OverDisk) (old new : Stand) (ordered : d.tells → CountsUp (moments d.new)) where
@@ -66,7 +66,8 @@ module _ (d : OverDisk) (old new : Stand) (ordered : d.tells → CountsUp (momen
     comes = comes;
     limit = ap (λ (s : Stand). s.journal.limit) still.stand;
     kept = ap (λ (s : Stand). s.kept) still.stand;
-    steps = λ told on. subst (λ (u : Story). StepsThrough (Keeps old.journal.limit) (kept_in old) (step_again old) d.old u) (sym still.disk.story) (stays old d.old on);
+    one = ap (λ (s : Stand). s.one) still.stand;
+    steps = λ told on. subst (λ (u : Story). StepsThrough (Keeps old.journal.limit) (any_in old) (step_again old) d.old u) (sym still.disk.story) (stays old d.old on);
     ordered = ordered;
   }
 
@@ -76,10 +77,10 @@ module _ (d : OverDisk) (old new : Stand) (ordered : d.tells → CountsUp (momen
     crammed over still = unmoved still (Err (Full (region_end p) old.journal.limit)) (record { region = p; live = live; needed_is = refl; limit_is = refl; over = over }, still)
 
     module _ (room : region_end p ≤ old.journal.limit)
-        (steps : d.tells → IsKeptOn old d.old → StepsThrough (Keeps old.journal.limit) (kept_in old) (step_over p (kept_in old)) d.old d.new) where
-      again : d.tells → IsKeptOn old d.old → StepsThrough (Keeps old.journal.limit) (kept_in old) (step_again old) d.old d.new
+        (steps : d.tells → IsKeptOn old d.old → StepsThrough (Keeps old.journal.limit) (any_in old) (step_over p (any_in old)) d.old d.new) where
+      again : d.tells → IsKeptOn old d.old → StepsThrough (Keeps old.journal.limit) (any_in old) (step_again old) d.old d.new
       again told on =
-          subst (λ bank. StepsThrough (Keeps old.journal.limit) (kept_in old) (let step : Step SomeKept = record { calls = calls_to_turn bank; to = kept_in old } in step ∷ []) d.old d.new)
+          subst (λ bank. StepsThrough (Keeps old.journal.limit) (any_in old) (let step : Step AnyKept = record { calls = calls_to_turn bank; to = any_in old } in step ∷ []) d.old d.new)
           live.planned.bank (steps told on)
 
       pub passed : old.journal.broken ≡ false → new ≡ with_journal old (rewritten old.journal p) → d.failed ≡ d.failed_before
@@ -98,6 +99,7 @@ module _ (d : OverDisk) (old new : Stand) (ordered : d.tells → CountsUp (momen
         };
         limit = ap (λ (s : Stand). s.journal.limit) after;
         kept = ap (λ (s : Stand). s.kept) after;
+        one = ap (λ (s : Stand). s.one) after;
         steps = again;
         ordered = ordered;
       }
@@ -109,6 +111,7 @@ module _ (d : OverDisk) (old new : Stand) (ordered : d.tells → CountsUp (momen
         comes = record { region = p; live = live; room = room; after = after; later = later; rose = rose; few = few };
         limit = ap (λ (s : Stand). s.journal.limit) after;
         kept = ap (λ (s : Stand). s.kept) after;
+        one = ap (λ (s : Stand). s.one) after;
         steps = again;
         ordered = ordered;
       }

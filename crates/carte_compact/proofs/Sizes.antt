@@ -17,9 +17,9 @@ use Rattle.carte_codec.specs.Parts.{spelled_count, spelled_link, spelled_list, s
 use Rattle.carte_record.specs.declared.batch.Batch.{Batch}
 use Rattle.carte_record.specs.declared.kept.Kept.{Kept}
 use Rattle.carte_record.specs.declared.trace.Trace.{Trace}
-use Rattle.carte_record.specs.Bodies.{spelled_back, spelled_batch, spelled_entry, spelled_front, spelled_names, spelled_start, spelled_trace}
+use Rattle.carte_record.specs.Bodies.{spelled_back, spelled_entry, spelled_front, spelled_names, spelled_start, spelled_trace}
 use Rattle.carte_compact.specs.Lengths.{back_size, front_size, region_length}
-use Rattle.carte_compact.specs.Live.{IsAllOf, IsLive, and_marks, found_at, is_bare, keys_of, names_of, put, stale_at}
+use Rattle.carte_compact.specs.Live.{IsAllOf, IsLive, found_at, is_bare, keys_of, names_of, put}
 use Rattle.carte_compact.proofs.Found.{found_more}
 
 -- ---- names in order are one list
@@ -92,16 +92,19 @@ back_long K names keys B all =
 
 front_long : (K : Kept) (names keys : List (List ℕ)) (B : Batch) → IsAllOf K names keys B → front_size K names keys ≡ length (spelled_front B)
 front_long K names keys B all =
-    let rest = spelled_list spelled_link B.seen ++ (spelled_names B.stale ++ spelled_list spelled_entry B.entries) in
+    let back = spelled_list spelled_entry B.entries ++ spelled_names B.stale in
+    let rest = spelled_names B.gone ++ (spelled_list spelled_link B.seen ++ back) in
     let start = length-append (spelled_start B.start) (spelled_list spelling B.values ++ rest) in
+    let goes : length (spelled_start B.start) ≡ 1 = ap (λ s. length (spelled_start s)) all.start in
     let values = length-append (spelled_list spelling B.values) rest in
-    let seen = length-append (spelled_list spelled_link B.seen) (spelled_names B.stale ++ spelled_list spelled_entry B.entries) in
-    let stale = length-append (spelled_names B.stale) (spelled_list spelled_entry B.entries) in
+    let gone = length-append (spelled_names B.gone) (spelled_list spelled_link B.seen ++ back) in
+    let seen = length-append (spelled_list spelled_link B.seen) back in
+    let listed = length-append (spelled_list spelled_entry B.entries) (spelled_names B.stale) in
     let links = length-append (spelled_count (length B.seen)) (flat_map spelled_link B.seen) in
     let entries = length-append (spelled_count (length B.entries)) (flat_map spelled_entry B.entries) in
     let same = values_long K.values B.values K.values all.values.same (IsPermutation-refl K.values) in
-    let none : length (spelled_names B.stale) ≡ 4 = ap (λ ks. length (spelled_names ks)) all.stale in
-    rw (← all.start, ← all.seen, ← all.entries, ← same) (omega (arith, start, values, seen, stale, links, entries, none))
+    let none : length (spelled_names B.gone) ≡ 4 = ap (λ ks. length (spelled_names ks)) all.gone in
+    rw (← all.seen, ← all.entries, ← all.stale, ← same) (omega (arith, start, goes, values, gone, seen, listed, links, entries, none))
 
 -- what is spelled of items that stand elsewhere
 pub refs_long : {A R : Type 0} (spelled : A → List ℕ) (now : R → A) (rs : List R) → length (spelled_list (λ r. spelled (now r)) rs) ≡ length (spelled_list spelled (map now rs))
@@ -117,18 +120,17 @@ pub if_there : {E : Type 0} (o : Option ℕ) (e : E) (P Q : ℕ → Type 0) → 
 if_there (Some n) e P Q f is = f n is
 if_there None e P Q f is = tt
 
-abbrev pub AddsUp : List (List ℕ) → ℕ → ℕ → ℕ → Type 0
-AddsUp stale front back n = (B : Batch) → front ≡ length (spelled_front B) → back ≡ length (spelled_back B) → n ≡ region_length (and_marks B stale)
-
-pub in_all : (K : Kept) (names keys stale : List (List ℕ)) (front back n : ℕ) → is_bare K ≡ false → IsListOf (Among (names_of K.seen)) names → IsListOf (Among (keys_of K.entries)) keys
-    → stale ≡ stale_at K.entries keys → front ≡ front_size K names keys → back ≡ back_size K → AddsUp stale front back n → (Bs : List Batch) → IsLive K Bs → n ≡ region_length Bs
-in_all K names keys stale front back n some seen listed marks front_is back_is adds Bs (inl (bare, none)) = let clash : true ≡ false = sym bare ∙ some in cc
-in_all K names keys stale front back n some seen listed marks front_is back_is adds Bs (inr (some', live)) =
+pub in_all : (K : Kept) (names keys : List (List ℕ)) (front back n : ℕ) → is_bare K ≡ false → IsListOf (Among (names_of K.seen)) names → IsListOf (Among (keys_of K.entries)) keys
+    → front ≡ front_size K names keys → back ≡ back_size K → n ≡ front + back + 7 → (Bs : List Batch) → IsLive K Bs → n ≡ region_length Bs
+in_all K names keys front back n some seen listed front_is back_is adds Bs (inl (bare, none)) = let clash : true ≡ false = sym bare ∙ some in cc
+in_all K names keys front back n some seen listed front_is back_is adds Bs (inr (some', live)) =
     let same_names = one_list (Among (names_of K.seen)) names live.names seen live.seen in
     let same_keys = one_list (Among (keys_of K.entries)) keys live.keys listed live.listed in
     let front_so = front_is ∙ ap (λ ns. front_size K ns keys) same_names ∙ ap (front_size K live.names) same_keys ∙ front_long K live.names live.keys live.first live.all in
     let back_so = back_is ∙ back_long K live.names live.keys live.first live.all in
-    adds live.first front_so back_so ∙ ap (λ ks. region_length (and_marks live.first ks)) (marks ∙ ap (stale_at K.entries) same_keys) ∙ sym (ap region_length live.batches)
+    let long = length-append (spelled_front live.first) (spelled_back live.first) in
+    let all : n ≡ region_length (live.first ∷ []) = omega (arith, adds, front_so, back_so, long) in
+    all ∙ sym (ap region_length live.batches)
 
 pub from_ok : {E : Type 0} (o : Option ℕ) (e : E) (P : ℕ → Type 0) (n : ℕ) → IfSome o P → ok_or o e ≡ Ok n → P n
 from_ok (Some m) e P n is so = let same : m ≡ n = cc in subst P same is
@@ -140,17 +142,12 @@ pub at_least : (K : Kept) (Bs : List Batch) (n : ℕ) → is_bare K ≡ false
     → ((names keys : List (List ℕ)) → IsListOf (Among (names_of K.seen)) names → IsListOf (Among (keys_of K.entries)) keys → n ≤ front_size K names keys + back_size K + 7)
     → IsLive K Bs → n ≤ region_length Bs
 at_least K Bs n some within (inl (bare, none)) = absurd (let clash : true ≡ false = sym bare ∙ some in cc)
-at_least K Bs n some within (inr (some', live)) = subst (λ Cs. n ≤ region_length Cs) (sym live.batches) (marked (stale_at K.entries live.keys))
-  where
-    bound : n ≤ front_size K live.names live.keys + back_size K + 7
-    bound = within live.names live.keys live.seen live.listed
-
-    first : length (spelled_batch live.first) ≡ 1 + (front_size K live.names live.keys + back_size K)
-    first = omega (arith, length-append (spelled_front live.first) (spelled_back live.first), front_long K live.names live.keys live.first live.all, back_long K live.names live.keys live.first live.all)
-
-    marked : (ks : List (List ℕ)) → n ≤ region_length (and_marks live.first ks)
-    marked [] = omega (arith, bound, first)
-    marked (k ∷ ks) = omega (arith, bound, first)
+at_least K Bs n some within (inr (some', live)) =
+    let bound = within live.names live.keys live.seen live.listed in
+    let first = length-append (spelled_front live.first) (spelled_back live.first) in
+    let fits : n ≤ region_length (live.first ∷ []) =
+    omega (arith, bound, first, front_long K live.names live.keys live.first live.all, back_long K live.names live.keys live.first live.all) in
+    subst (λ Cs. n ≤ region_length Cs) (sym live.batches) fits
 
 pub if_known : (o : Option ℕ) (P Q : ℕ → Type 0) → ((n : ℕ) → P n → Q n) → IfSome o P → IfSome o Q
 if_known (Some n) P Q f is = f n is

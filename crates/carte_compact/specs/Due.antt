@@ -1,5 +1,5 @@
 -- When a build rewrites its state's file before it commits a batch.
-use Rattle.std.specs.Prelude.{ℕ, ◌-◌, ◌*◌, ◌^◌, ◌&&◌, ◌||◌, not, nat_le, nat_lt, Bool}
+use Rattle.std.specs.Prelude.{ℕ, ◌-◌, ◌*◌, ◌^◌, ◌&&◌, ◌||◌, not, nat_le, nat_lt, is_some, Bool}
 use Rattle.carte_journal.specs.Journals.{Standing}
 use Rattle.carte_journal.specs.Regions.{needs_with, told_bank}
 use Rattle.carte_journal.specs.declared.bank.Bank.{Bank}
@@ -31,8 +31,12 @@ is_large b live = is_wide b && nat_lt (2 * live) (size_of b)
 abbrev pub is_over : Stand → Batch → Bool
 is_over s B = nat_lt s.journal.limit (needs_for s B)
 
--- Before a first commit a rewriting is due where it is possible and the bank is large or there is no room for the batch, and before a later one where it is
--- possible and there is no room for the batch. An empty batch isn't committed.
-abbrev pub is_due : Stand → ℕ → Batch → Bool → Bool
-is_due s live B is_first =
+-- Before a first commit a rewriting is asked for where it is possible and the bank is large or there is no room for the batch, and before a later one where it
+-- is possible and there is no room for the batch. An empty batch isn't committed.
+abbrev pub is_asked : Stand → ℕ → Batch → Bool → Bool
+is_asked s live B is_first =
     not (is_empty B) && (is_possible s.journal live && (is_over s B || (is_first && is_large (told_bank s.journal) live)))
+
+-- then it is due, but for what is kept in version 1, which isn't rewritten
+abbrev pub is_due : Stand → ℕ → Batch → Bool → Bool
+is_due s live B is_first = not (is_some s.one) && is_asked s live B is_first

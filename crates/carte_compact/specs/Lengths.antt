@@ -6,20 +6,20 @@ use Rattle.std.specs.List.{flat_map}
 use Rattle.carte_value.specs.Spelling.{spelling}
 use Rattle.carte_codec.specs.Parts.{spelled_link, spelled_list, spelled_option}
 use Rattle.carte_record.specs.declared.kept.Kept.{Kept}
-use Rattle.carte_record.specs.Bodies.{IsBody, spelled_batch, spelled_entry, spelled_names, spelled_start, spelled_trace}
+use Rattle.carte_record.specs.Bodies.{IsBody, spelled_batch, spelled_entry, spelled_names, spelled_trace}
 use Rattle.carte_record.specs.Latest.{last_ones}
-use Rattle.carte_compact.specs.Live.{chain_for, entry_at, found_at, link_at, start_for}
+use Rattle.carte_compact.specs.Live.{chain_for, entry_at, found_at, link_at, stale_at}
 
 -- each batch in an open frame, which is a gate byte, a length of 4 bytes and the body, and a closed gate byte behind the last
 abbrev pub region_length : List Batch → ℕ
 region_length [] = 1
 region_length (B ∷ Bs) = 5 + length (spelled_batch B) + region_length Bs
 
--- how long the front of the first batch is, and its back
+-- how long the front of the batch is, and its back
 abbrev pub front_size : Kept → List (List ℕ) → List (List ℕ) → ℕ
 front_size K names keys =
-    length (spelled_start (start_for K.rules)) + length (spelled_list spelling K.values) + length (flat_map spelled_link (found_at (link_at K.seen) names))
-    + length (flat_map spelled_entry (found_at (entry_at K.entries) keys)) + 12
+    1 + length (spelled_list spelling K.values) + length (flat_map spelled_link (found_at (link_at K.seen) names))
+    + length (flat_map spelled_entry (found_at (entry_at K.entries) keys)) + length (spelled_names (stale_at K.entries keys)) + 12
 
 abbrev pub back_size : Kept → ℕ
 back_size K =

@@ -1,8 +1,7 @@
--- The live information: all that is kept, in as few batches as can say it, without what no longer counts.
-use Rattle.std.specs.Prelude.{ℕ, Bool, true, false, ◌&&◌, ◌≡◌, ◌⊎◌, ◌==◌, List, [], ◌∷◌, length, map, filter, Option, Some, None, is_none, option_map}
+-- The live information: all that is kept, in one batch, without what no longer counts.
+use Rattle.std.specs.Prelude.{ℕ, Bool, true, false, ◌&&◌, ◌≡◌, ◌⊎◌, ◌==◌, List, [], ◌∷◌, length, map, filter, Option, Some, None, option_map}
 use Rattle.std.specs.List.Sorted.{IsPermutation, IsSortedByKey, IsStableByKey}
 use Rattle.carte_name.specs.Names.{name_cmp}
-use Rattle.carte_value.specs.declared.digest.Digest.{Digest}
 use Rattle.carte_value.specs.declared.link.Link.{Link}
 use Rattle.carte_value.specs.declared.value.Value.{Value}
 use Rattle.carte_value.specs.Spelling.{digest_of}
@@ -11,8 +10,7 @@ use Rattle.carte_table.specs.Lookups.{first_link}
 use Rattle.carte_record.specs.declared.batch.Batch.{Batch}
 use Rattle.carte_record.specs.declared.entry.Entry.{Entry}
 use Rattle.carte_record.specs.declared.kept.Kept.{Kept}
-use Rattle.carte_record.specs.declared.start.Start.{Start}
-use Rattle.carte_record.specs.declared.start.Start.TheVariants.{GoOn, Anew}
+use Rattle.carte_record.specs.declared.start.Start.TheVariants.{GoOn}
 use Rattle.carte_record.specs.Lookups.{first_entry}
 use Rattle.carte_record.specs.Marked.{marked_as}
 use Rattle.carte_record.specs.Latest.{last_ones}
@@ -25,9 +23,9 @@ has_no_keys K = (length K.seen == 0 && length K.entries == 0) && (length K.chain
 abbrev pub has_no_traces : Kept → Bool
 has_no_traces K = (length K.verifying == 0 && length K.constructive == 0) && length K.deep == 0
 
--- neither a rules digest nor anything else is kept
+-- nothing is kept
 abbrev pub is_bare : Kept → Bool
-is_bare K = (is_none K.rules && has_no_keys K) && has_no_traces K
+is_bare K = has_no_keys K && has_no_traces K
 
 abbrev pub keys_of : List Entry → List (List ℕ)
 keys_of = map (λ e. e.key)
@@ -36,11 +34,6 @@ abbrev pub names_of : List Link → List (List ℕ)
 names_of = map (λ l. l.name)
 
 -- ---- its parts
-
--- the batch begins anew under the rules, where there are any
-abbrev pub start_for : Option Digest → Start
-start_for None = GoOn
-start_for (Some d) = Anew d
 
 -- the digest's bytes, by which values are put in order
 abbrev pub order_of : Value → List ℕ
@@ -83,26 +76,18 @@ chain_for (k ∷ ks) = Some (k ∷ ks)
 
 -- ---- the batches
 
--- a batch with all that is kept but the marks, with seen names and keys in name order
+-- a batch with all that is kept, with seen names, keys and marks in name order: it marks after its entries are put in, which have no mark
 pub record IsAllOf (K : Kept) (names keys : List (List ℕ)) (B : Batch) : Type 0 where
-  pub start : B.start ≡ start_for K.rules
+  pub start : B.start ≡ GoOn
   pub values : IsByDigest K.values B.values
+  pub gone : B.gone ≡ []
   pub seen : B.seen ≡ found_at (link_at K.seen) names
-  pub stale : B.stale ≡ []
+  pub stale : B.stale ≡ stale_at K.entries keys
   pub entries : B.entries ≡ found_at (entry_at K.entries) keys
   pub verifying : B.verifying ≡ last_ones K.verifying
   pub constructive : B.constructive ≡ last_ones K.constructive
   pub deep : B.deep ≡ last_ones K.deep
   pub chain : B.chain ≡ chain_for K.chain
-
--- a batch that marks these keys and brings nothing else
-abbrev pub marks_of : List (List ℕ) → Batch
-marks_of ks = record { start = GoOn; values = []; seen = []; stale = ks; entries = []; verifying = []; constructive = []; deep = []; chain = None }
-
--- the marks go into a second batch, since the entries of the first one have none
-abbrev pub and_marks : Batch → List (List ℕ) → List Batch
-and_marks B [] = B ∷ []
-and_marks B (k ∷ ks) = B ∷ marks_of (k ∷ ks) ∷ []
 
 pub record IsSomeLive (K : Kept) (Bs : List Batch) : Type 0 where
   pub names : List (List ℕ)
@@ -111,7 +96,7 @@ pub record IsSomeLive (K : Kept) (Bs : List Batch) : Type 0 where
   pub seen : IsListOf (Among (names_of K.seen)) names
   pub listed : IsListOf (Among (keys_of K.entries)) keys
   pub all : IsAllOf K names keys first
-  pub batches : Bs ≡ and_marks first (stale_at K.entries keys)
+  pub batches : Bs ≡ first ∷ []
 
 -- the batches are the live information; where nothing is kept, there are none
 abbrev pub IsLive : Kept → List Batch → Type 0

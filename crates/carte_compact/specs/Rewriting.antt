@@ -6,13 +6,13 @@ use Rattle.carte_io.specs.Stations.{Step, StepsThrough}
 use Rattle.carte_journal.specs.Frames.{BodyAt}
 use Rattle.carte_journal.specs.Journals.{broke}
 use Rattle.carte_journal.specs.Regions.{IsPlannedOn, IsRegionOf, Planned, bytes_of, calls_to_turn, needs_with, region_end, rewritten}
-use Rattle.carte_record.specs.Kept.{SomeKept}
 use Rattle.carte_record.specs.declared.batch.Batch.{Batch}
 use Rattle.carte_state.specs.Applying.{IsStill}
 use Rattle.carte_state.specs.Around.{OverDisk}
 use Rattle.carte_state.specs.Folding.{Keeps}
 use Rattle.carte_state.specs.Rewriting.{with_journal}
-use Rattle.carte_state.specs.States.{IsKeptOn, Stand, kept_in}
+use Rattle.carte_state.specs.Versions.{AnyKept}
+use Rattle.carte_state.specs.States.{IsKeptOn, Stand, any_in}
 use Rattle.carte_state.specs.declared.fault.ApplyFault.{ApplyFault}
 use Rattle.carte_state.specs.declared.fault.ApplyFault.TheVariants.{DiskFault, Full, NoMemory}
 use Rattle.carte_compact.specs.Lengths.{AreBodies, region_length}
@@ -29,8 +29,8 @@ pub record IsLiveRegion (s : Stand) (p : Planned) : Type 0 where
   pub needs : region_end p ≡ needs_with s.journal (region_length batches)
 
 -- a rewriting as a step, from what is kept to the same
-abbrev pub step_again : Stand → List (Step SomeKept)
-step_again s = record { calls = calls_to_turn s.journal.bank; to = kept_in s } ∷ []
+abbrev pub step_again : Stand → List (Step AnyKept)
+step_again s = record { calls = calls_to_turn s.journal.bank; to = any_in s } ∷ []
 
 -- the region stands in the place of all bodies, for which there was room; what is kept is as it was, list for list
 pub record Renews (d : OverDisk) (old new : Stand) : Type 0 where
@@ -73,5 +73,6 @@ pub record Rewrites (d : OverDisk) (old new : Stand) (result : Result (Unit {0})
   pub comes : Renewed d old new result
   pub limit : new.journal.limit ≡ old.journal.limit
   pub kept : new.kept ≡ old.kept
-  pub steps : d.tells → IsKeptOn old d.old → StepsThrough (Keeps old.journal.limit) (kept_in old) (step_again old) d.old d.new
+  pub one : new.one ≡ old.one
+  pub steps : d.tells → IsKeptOn old d.old → StepsThrough (Keeps old.journal.limit) (any_in old) (step_again old) d.old d.new
   pub ordered : d.tells → CountsUp (moments d.new)

@@ -2,18 +2,18 @@
 ghost use Rattle.std.specs.Prelude.{◌≡◌, ◌∷◌, [], IfOk};
 ghost use Rattle.carte_record.specs.Kept.{kept_view, nothing_kept};
 ghost use Rattle.carte_state.specs.Runs.{applied, AreUnmarked};
-ghost use Rattle.carte_compact.specs.Live.{IsAllOf, IsLive, IsSomeLive, and_marks, chain_for, has_no_keys, has_no_traces, is_bare, marks_of, start_for};
+ghost use Rattle.carte_compact.specs.Live.{IsAllOf, IsLive, IsSomeLive, chain_for, has_no_keys, has_no_traces, is_bare};
 
 use crate::entries::{entries_at, links_at, stale_at};
 use crate::latest::last_ones;
 use crate::names::{entry_keys, seen_names};
 use crate::values::by_digest;
 use carte_record::{Batch, Kept, Start};
-use carte_value::{Digest, Name, Names, NoMemory, Seeded};
+use carte_value::{Name, Names, NoMemory};
 use std::alloc::Global;
 
 /// The live information: the batches that make of nothing what is kept, in as few bytes as can say it. None where nothing
-/// is kept; else one with all but the marks, and where entries are stale a second one that marks them.
+/// is kept; else one with everything, which marks what is stale.
 pub fn live(alloc: Global, kept: &Kept) -> Result<Vec<Batch>, NoMemory>
     ensures live { IfOk result (λ batches. IsLive kept.now batches.items) }
     ensures kept { IfOk result (λ batches. applied nothing_kept batches.items ≡ kept_view kept.now) }
@@ -30,16 +30,23 @@ fn some_live(alloc: Global, kept: &Kept) -> Result<Vec<Batch>, NoMemory>
 {
     let names = seen_names(alloc, &kept.seen)?;
     let keys = entry_keys(alloc, &kept.entries)?;
-    let first = all_of(alloc, kept, names.as_slice(), keys.as_slice())?;
-    let stale = stale_at(alloc, &kept.entries, keys.as_slice())?;
-    and_marks(alloc, first, stale, kept.hasher())
+    let batch = all_of(alloc, kept, names.as_slice(), keys.as_slice())?;
+    only(alloc, batch)
 }
 
-/// Whether nothing is kept, and no rules.
+fn only(alloc: Global, batch: Batch) -> Result<Vec<Batch>, NoMemory>
+    ensures { IfOk result (λ batches. batches.items ≡ batch ∷ []) }
+{
+    let mut batches = Vec::with_capacity(alloc, 1)?;
+    batches.push(batch)?;
+    Ok(batches)
+}
+
+/// Whether nothing is kept.
 pub(crate) fn is_bare(kept: &Kept) -> bool
     ensures { result ≡ is_bare kept.now }
 {
-    kept.rules.is_none() && has_no_keys(kept) && has_no_traces(kept)
+    has_no_keys(kept) && has_no_traces(kept)
 }
 
 fn has_no_keys(kept: &Kept) -> bool
@@ -57,32 +64,23 @@ fn has_no_traces(kept: &Kept) -> bool
     kept.verifying.is_empty() && kept.constructive.is_empty() && kept.deep.is_empty()
 }
 
-// A batch with all that is kept but the marks.
+// A batch with all that is kept.
 fn all_of(alloc: Global, kept: &Kept, names: &[Name], keys: &[Name]) -> Result<Batch, NoMemory>
     ensures { IfOk result (λ batch. IsAllOf kept.now names.now keys.now batch) }
 {
     let hasher = kept.hasher();
     Ok(Batch {
-        start: start_for(kept.rules),
+        start: Start::GoOn,
         values: by_digest(alloc, &kept.values, hasher)?,
+        gone: Names::new(alloc),
         seen: links_at(alloc, &kept.seen, names, hasher)?,
-        stale: Names::new(alloc),
         entries: entries_at(alloc, &kept.entries, keys, hasher)?,
+        stale: stale_at(alloc, &kept.entries, keys)?,
         verifying: last_ones(alloc, &kept.verifying, hasher)?,
         constructive: last_ones(alloc, &kept.constructive, hasher)?,
         deep: last_ones(alloc, &kept.deep, hasher)?,
         chain: chain_for(alloc, &kept.chain)?,
     })
-}
-
-/// What the first batch begins with.
-pub(crate) fn start_for(rules: Option<Digest>) -> Start
-    ensures { result ≡ start_for rules }
-{
-    match rules {
-        Some(digest) => Start::Anew(digest),
-        None => Start::GoOn,
-    }
 }
 
 fn chain_for(alloc: Global, chain: &Names) -> Result<Option<Names>, NoMemory>
@@ -92,29 +90,4 @@ fn chain_for(alloc: Global, chain: &Names) -> Result<Option<Names>, NoMemory>
         return Ok(None);
     }
     Ok(Some(chain.copy(alloc)?))
-}
-
-fn and_marks(
-    alloc: Global,
-    first: Batch,
-    stale: Names,
-    hasher: Seeded,
-) -> Result<Vec<Batch>, NoMemory>
-    ensures { IfOk result (λ batches. batches.items ≡ and_marks first stale) }
-{
-    let mut batches = Vec::with_capacity(alloc, 2)?;
-    batches.push(first)?;
-    if stale.is_empty() {
-        return Ok(batches);
-    }
-    batches.push(marks_of(alloc, stale, hasher))?;
-    Ok(batches)
-}
-
-fn marks_of(alloc: Global, stale: Names, hasher: Seeded) -> Batch
-    ensures { result ≡ marks_of stale }
-{
-    let mut marks = Batch::new(alloc, hasher);
-    marks.stale = stale;
-    marks
 }

@@ -1,10 +1,11 @@
 // The live information as bodies of a journal.
-ghost use Rattle.std.specs.Prelude.{◌≡◌, ◌+◌, ◌<◌, ◌^◌, List, length, IfOk};
+ghost use Rattle.std.specs.Prelude.{◌≡◌, ◌<◌, ◌^◌, List, length, IfOk};
 ghost use Rattle.carte_codec.specs.Each.{EachFits};
 ghost use Rattle.carte_record.specs.Bodies.{IsBody, IsUnmarked};
-ghost use Rattle.carte_record.specs.Kept.{kept_view, nothing_kept};
+ghost use Rattle.carte_record.specs.Kept.{kept_view};
 ghost use Rattle.carte_record.specs.declared.batch.Batch.{Batch as SomeBatch};
-ghost use Rattle.carte_state.specs.Folding.{IsFolded};
+ghost use Rattle.carte_state.specs.Folding.{Makes};
+ghost use Rattle.carte_state.specs.Versions.{InTwo};
 ghost use Rattle.carte_state.specs.Runs.{AreUnmarked};
 ghost use Rattle.carte_compact.specs.Lengths.{AreBodies, AreShort, bodies_length, region_length};
 ghost use Rattle.carte_compact.specs.Live.{IsLive};
@@ -22,7 +23,7 @@ const LONGEST: usize = 4294967295;
 /// memory either where a body would be longer than a frame can state.
 pub fn live_bodies(alloc: Global, kept: &Kept) -> Result<Bodies, NoMemory>
     ensures live { IfOk result (λ bodies. (Bs : List SomeBatch) × IsLive kept.now Bs × AreBodies Bs bodies) }
-    ensures kept { IfOk result (λ bodies. IsFolded nothing_kept bodies (kept_view kept.now)) }
+    ensures kept { IfOk result (λ bodies. Makes bodies (InTwo (kept_view kept.now))) }
     ensures length { IfOk result (λ bodies. (Bs : List SomeBatch) → IsLive kept.now Bs → bodies_length bodies ≡ region_length Bs) }
     ensures short { IfOk result AreShort }
 {

@@ -36,6 +36,7 @@ impl Hash for Content<'_> {
 
     fn hash<H: Hasher>(&self, state: &mut H) {
         self.trace.key.hash(state);
+        state.write(self.trace.task.0.as_slice());
         state.write(self.trace.result.0.as_slice());
         feed(self.trace.links.as_slice(), state);
     }

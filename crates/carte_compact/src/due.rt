@@ -2,7 +2,7 @@
 ghost use Rattle.std.specs.Prelude.{◌≡◌, ◌≤◌, ◌&&◌, ◌||◌, true, false, ℕ, List, IfOk, IfSome};
 ghost use Rattle.carte_journal.specs.Regions.{IsRewritable};
 ghost use Rattle.carte_record.specs.declared.batch.Batch.{Batch as SomeBatch};
-ghost use Rattle.carte_compact.specs.Due.{can_turn, is_due, is_large, is_over, is_wide, size_of};
+ghost use Rattle.carte_compact.specs.Due.{can_turn, is_asked, is_due, is_large, is_over, is_wide, size_of};
 ghost use Rattle.carte_compact.specs.Lengths.{region_length};
 ghost use Rattle.carte_compact.specs.Live.{IsLive};
 
@@ -22,11 +22,22 @@ const BESIDE_BODY: u64 = 5;
 
 /// Whether a rewriting is to be made before this batch is committed: before the first commit of a build where it is
 /// possible and the bank is large or the batch doesn't fit, and before a later one where it is possible and the batch
-/// doesn't fit. The live length is worked out only where the batch doesn't fit, or before a first commit to a bank of more
-/// than 65,536 bytes that has more than twice what is live at least. There is no memory either where a length doesn't fit
-/// 63 bits.
+/// doesn't fit. What is kept in version 1 isn't rewritten. The live length is worked out only where the batch doesn't fit,
+/// or before a first commit to a bank of more than 65,536 bytes that has more than twice what is live at least. There is
+/// no memory either where a length doesn't fit 63 bits.
 pub fn is_due(alloc: Global, state: &State, batch: &Batch, is_first: bool) -> Result<bool, NoMemory>
     ensures due { IfOk result (λ due. (Bs : List SomeBatch) → IsLive state.now.kept Bs → due ≡ is_due state.now (region_length Bs) batch.now is_first) }
+    ensures possible { IfOk result (λ due. due ≡ true → IsRewritable state.now.journal) }
+{
+    if state.is_old() {
+        return Ok(false);
+    }
+    is_asked(alloc, state, batch, is_first)
+}
+
+// The same where what is kept is of version 2.
+fn is_asked(alloc: Global, state: &State, batch: &Batch, is_first: bool) -> Result<bool, NoMemory>
+    ensures due { IfOk result (λ due. (Bs : List SomeBatch) → IsLive state.now.kept Bs → due ≡ is_asked state.now (region_length Bs) batch.now is_first) }
     ensures possible { IfOk result (λ due. due ≡ true → IsRewritable state.now.journal) }
 {
     let bank = state.bank();

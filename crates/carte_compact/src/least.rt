@@ -8,8 +8,7 @@ ghost use Rattle.carte_value.specs.Truths.{Among, IsListOf};
 ghost use Rattle.carte_compact.specs.Lengths.{back_size, front_size, region_length};
 ghost use Rattle.carte_compact.specs.Live.{IsLive, chain_for, keys_of, names_of};
 
-use crate::batches::{is_bare, start_for};
-use carte_codec::Measured;
+use crate::batches::is_bare;
 use carte_record::{Kept, Traces};
 use carte_value::Names;
 
@@ -35,15 +34,15 @@ fn least_of(kept: &Kept) -> Option<u64>
     sum_of(front, back, 0, 0, 7)
 }
 
-// Values, links and entries come with their numbers, of 4 bytes each, and so do the marks that the first batch hasn't.
+// Values, links and entries come with their numbers, of 4 bytes each, and so do the names that are dropped, of which there
+// are none, and the marks. A byte says that the batch goes on.
 fn least_front(kept: &Kept) -> Option<u64>
     ensures { IfSome result (λ n. (names keys : List (List ℕ)) → IsListOf (Among (names_of kept.now.seen)) names → IsListOf (Among (keys_of kept.now.entries)) keys → n ≤ front_size kept.now names keys) }
 {
-    let start = start_for(kept.rules).length()?;
     let values = kept.values.length()?;
     let links = kept.seen.length()?;
     let entries = kept.entries.length()?;
-    sum_of(start, values, links, entries, 16)
+    sum_of(values, links, entries, 0, 21)
 }
 
 fn least_back(kept: &Kept) -> Option<u64>

@@ -2,13 +2,13 @@
 ghost use Rattle.std.specs.Prelude.{◌≡◌, ◌+◌, List, [], length, IfOk, IfSome};
 ghost use Rattle.std.specs.List.{flat_map};
 ghost use Rattle.carte_codec.specs.Parts.{spelled_link, spelled_list, spelled_option};
-ghost use Rattle.carte_record.specs.Bodies.{spelled_back, spelled_entry, spelled_front, spelled_names, spelled_trace};
+ghost use Rattle.carte_record.specs.Bodies.{spelled_entry, spelled_names, spelled_trace};
 ghost use Rattle.carte_record.specs.declared.batch.Batch.{Batch as SomeBatch};
 ghost use Rattle.carte_record.specs.Latest.{last_ones};
 ghost use Rattle.carte_compact.specs.Lengths.{back_size, front_size, region_length};
-ghost use Rattle.carte_compact.specs.Live.{IsLive, and_marks, chain_for, entry_at, found_at, link_at, put};
+ghost use Rattle.carte_compact.specs.Live.{IsLive, chain_for, entry_at, found_at, link_at, put, stale_at};
 
-use crate::batches::{is_bare, start_for};
+use crate::batches::is_bare;
 use crate::entries::stale_at;
 use crate::latest::last_first;
 use crate::names::{entry_keys, seen_names};
@@ -16,10 +16,6 @@ use carte_codec::{Measured, list_length};
 use carte_record::{Entries, Kept, Seen, Traces};
 use carte_value::{Name, Names, NoMemory, Seeded};
 use std::alloc::Global;
-
-/// The bytes of a batch that only marks, beside those of the marks: its kind, its start, six numbers of items, and that it
-/// has no chain.
-const BESIDE_MARKS: u64 = 27;
 
 /// The number of bytes of the live information as it is written behind roots: each body in its frame, and the gate byte
 /// behind the last. It is worked out over all that is kept, without a copy of it. There is no memory either where the
@@ -34,31 +30,26 @@ pub fn live_length(alloc: Global, kept: &Kept) -> Result<u64, NoMemory>
     let keys = entry_keys(alloc, &kept.entries)?;
     let stale = stale_at(alloc, &kept.entries, keys.as_slice())?;
     let back = back_length(alloc, kept)?;
-    let front = front_length(kept, names.as_slice(), keys.as_slice()).ok_or(NoMemory)?;
-    region_length(front, back, &stale).ok_or(NoMemory)
+    let front = front_length(kept, names.as_slice(), keys.as_slice(), &stale).ok_or(NoMemory)?;
+    region_length(front, back).ok_or(NoMemory)
 }
 
-// The region of a batch of which the front and the back are so long, and of these marks.
-fn region_length(front: u64, back: u64, stale: &Names) -> Option<u64>
-    ensures { IfSome result (λ n. (B : SomeBatch) → front ≡ length (spelled_front B) → back ≡ length (spelled_back B) → n ≡ region_length (and_marks B stale.now)) }
+// The region of a batch of which the front and the back are so long.
+fn region_length(front: u64, back: u64) -> Option<u64>
+    ensures { IfSome result (λ n. n ≡ front + back + 7) }
 {
-    let first = front.checked_add(back)?.checked_add(7)?;
-    if stale.is_empty() {
-        return Some(first);
-    }
-    let marks = stale.length()?.checked_add(BESIDE_MARKS)?;
-    first.checked_add(marks)?.checked_add(5)
+    front.checked_add(back)?.checked_add(7)
 }
 
-fn front_length(kept: &Kept, names: &[Name], keys: &[Name]) -> Option<u64>
+fn front_length(kept: &Kept, names: &[Name], keys: &[Name], stale: &Names) -> Option<u64>
+    requires { stale.now ≡ stale_at kept.now.entries keys.now }
     ensures { IfSome result (λ n. n ≡ front_size kept.now names.now keys.now) }
 {
-    start_for(kept.rules)
-        .length()?
-        .checked_add(list_length(kept.values.as_slice())?)?
+    list_length(kept.values.as_slice())?
         .checked_add(links_length(&kept.seen, names)?)?
         .checked_add(entries_length(&kept.entries, keys)?)?
-        .checked_add(12)
+        .checked_add(stale.length()?)?
+        .checked_add(13)
 }
 
 fn back_length(alloc: Global, kept: &Kept) -> Result<u64, NoMemory>

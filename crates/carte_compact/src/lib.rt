@@ -2,10 +2,10 @@
 //! counts no longer, is left out: of the links and entries of a name all but the one that is found, of equal traces all
 //! but the last, and all marks that were taken off.
 //!
-//! It is a list of batches, so that what reads a state file reads this too: none where nothing is kept, one with all but
-//! the marks, and a second one with the keys that are stale, where there are any, since the entries of a batch have no
-//! mark. Of nothing these batches make just what is kept (`live_is_kept`). Names and values stand in an order of their own
-//! there, so that the bytes are told by what is kept, but for the order of traces.
+//! It is a list of batches, so that what reads a state file reads this too: none where nothing is kept, and else one, with
+//! the keys that are stale behind the entries, since the entries of a batch have no mark. Of nothing it makes just what is
+//! kept (`live_is_kept`). Names and values stand in an order of their own there, so that the bytes are told by what is
+//! kept, but for the order of traces.
 //!
 //! Names are put in order and each looked up again in the tables that the lists have: so no list of entries is sorted,
 //! and nothing is held but names. Equal traces are told by a set of those that come later, since a key that often comes

@@ -1,5 +1,5 @@
 // Names in name order, each once.
-ghost use Rattle.std.specs.Prelude.{◌≡◌, map, IfOk};
+ghost use Rattle.std.specs.Prelude.{IfOk};
 ghost use Rattle.carte_value.specs.Truths.{Among, IsListOf};
 ghost use Rattle.carte_compact.specs.Live.{keys_of, names_of};
 

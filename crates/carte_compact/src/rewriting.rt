@@ -1,5 +1,5 @@
 // A rewriting of the file with the live information.
-ghost use Rattle.std.specs.Prelude.{◌≡◌, ◌<◌, ◌^◌, false, ℕ, List, IfOk};
+ghost use Rattle.std.specs.Prelude.{◌≡◌, ◌<◌, ◌^◌, false, ℕ, List, None, IfOk};
 ghost use Rattle.carte_journal.specs.Regions.{IsRewritable, Planned, needs_with, region_end};
 ghost use Rattle.carte_record.specs.declared.batch.Batch.{Batch as SomeBatch};
 ghost use Rattle.carte_state.specs.Around.{over_disk};
@@ -47,6 +47,7 @@ pub(crate) fn short_length(alloc: Global, kept: &Kept) -> Result<u64, NoMemory>
 pub fn rewrite<D: Disk>(alloc: Global, state: &mut State, disk: &mut D) -> Result<(), ApplyFault>
     requires whole { state.old.journal.broken ≡ false }
     requires rewritable { IsRewritable state.old.journal }
+    requires new { state.old.one ≡ None }
     ensures { Rewrites (over_disk D.tells D.story D.faults disk.old disk.new) state.old state.new result }
 {
     let region = live_region(alloc, state)?;

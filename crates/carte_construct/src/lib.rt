@@ -1,13 +1,13 @@
-//! Constructive traces: a key has the result of any earlier trace whose links are those that the needs have now.
+//! Constructive traces: a key has the result of any earlier trace of its task whose links are those that the needs have now.
 //!
 //! The job is that of all rebuilders which compare needs (`Tries`): here it gets the checks of all traces of the key whose
 //! result is in the store. So a key whose inputs are set back has its old result again, and needs no entry for it. One
 //! trace at most can hold; so in which order they are compared is a matter of cost, of which no clause speaks.
 //!
 //! What a build may rely on stands as laws, each the contract of a function that does nothing. A key is held exactly where
-//! its needs have the values of a trace (`unchanged_is_held`, `held_is_unchanged`), whatever has run beneath it
-//! (`early_cutoff`), and again where its inputs are set back (`set_back_is_held`), without an entry (`traces_alone_hold`)
-//! and in any order of its traces (`one_trace_holds`).
+//! it has the task and its needs the values of a trace (`unchanged_is_held`, `held_is_unchanged`), and by no trace of another
+//! task (`other_tasks_hold_nothing`); whatever has run beneath it (`early_cutoff`), and again where what has changed is set
+//! back (`set_back_is_held`), without an entry (`traces_alone_hold`) and in any order of its traces (`one_trace_holds`).
 //!
 //! Turned down: one look-up by the digest of all links, which finds a trace in one step, but only once each need has its
 //! value, and so has to know the needs before it looks.
@@ -16,6 +16,7 @@
 mod laws;
 
 ghost use Rattle.std.specs.Prelude.{◌≡◌, option_map, IfOk};
+ghost use Rattle.carte_book.specs.Book.{book_view};
 ghost use Rattle.carte_record.specs.Kept.{kept_view};
 ghost use Rattle.carte_record.specs.declared.way.Way.TheVariants.{Constructive};
 ghost use Rattle.carte_rebuild.specs.Traced.{AreTried};
@@ -26,8 +27,8 @@ use carte_rebuild::{Checks, Rebuilder, Tries, checks_of};
 use carte_record::{Kept, Way};
 use carte_value::{Name, NoMemory};
 pub use laws::{
-    early_cutoff, held_is_unchanged, held_links_are_present, one_trace_holds, set_back_is_held,
-    traces_alone_hold, unchanged_is_held,
+    early_cutoff, held_is_unchanged, held_links_are_present, one_trace_holds,
+    other_tasks_hold_nothing, set_back_is_held, traces_alone_hold, unchanged_is_held,
 };
 use std::alloc::Global;
 
@@ -35,11 +36,11 @@ use std::alloc::Global;
 #[derive(Clone, Copy, Debug)]
 pub struct Construct;
 
-// The checks of all traces of the key.
-fn kept_checks(alloc: Global, kept: &Kept, key: &Name) -> Result<Checks, NoMemory>
-    ensures { IfOk result (λ checks. AreTried Constructive (kept_view kept.now) key.now checks) }
+// The checks of all traces of the key with its task.
+fn kept_checks(alloc: Global, kept: &Kept, book: &Book, key: &Name) -> Result<Checks, NoMemory>
+    ensures { IfOk result (λ checks. AreTried Constructive (kept_view kept.now) (book_view book.now) key.now checks) }
 {
-    checks_of(alloc, &kept.constructive, &kept.values, key, None)
+    checks_of(alloc, book, &kept.constructive, &kept.values, key, None)
 }
 
 impl Rebuilder for Construct {
@@ -61,7 +62,7 @@ impl Rebuilder for Construct {
         book: &Book,
         key: &Name,
     ) -> Result<Tries, NoMemory> {
-        let checks = kept_checks(alloc, kept, key)?;
+        let checks = kept_checks(alloc, kept, book, key)?;
         Tries::of(alloc, book, key, checks)
     }
 

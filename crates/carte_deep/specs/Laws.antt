@@ -12,6 +12,8 @@ use Rattle.carte_tree.specs.Tree.{Tree}
 use Rattle.carte_tree.specs.Meaning.{asks}
 use Rattle.carte_book.specs.Book.{Book, rule, content, clean}
 use Rattle.carte_book.specs.Needs.{needs}
+use Rattle.carte_book.specs.Digest.{rules_digest_of}
+use Rattle.carte_table.specs.Lookups.{digest_eq}
 use Rattle.carte_effect.specs.declared.outcome.Made.{Made}
 use Rattle.carte_effect.specs.declared.outcome.Made.TheVariants.{Ran, Reused}
 use Rattle.carte_effect.specs.Outcomes.{Outcome}
@@ -35,7 +37,7 @@ use Rattle.carte_rebuild.specs.Goes.{IsPart, may_ask, GoesOver}
 use Rattle.carte_rebuild.proofs.TaskAlone.{alone_ran, alone_needs, alone_there, alone_before}
 use Rattle.carte_rebuild.proofs.Wholes.{IsRightWhole, whole_fits, whole_goes}
 use Rattle.carte_deep.specs.declared.job.DeepJob.{DeepJob}
-use Rattle.carte_deep.specs.Holding.{are_present, outcome_at, given_by, Finds}
+use Rattle.carte_deep.specs.Holding.{are_present, holds, outcome_at, given_by, Finds}
 use Rattle.carte_deep.specs.Work.{again_or, left_in}
 use Rattle.carte_deep.specs.Jobs.{IsDeepJob}
 
@@ -58,21 +60,24 @@ links_present b (l ∷ ls) (here, are) =
 
 -- an end that a trace gives
 pub record IsGiven (stored : Digest → Option Value) (b : Book) (k : List ℕ) (t : Trace) (o : Outcome) : Type 0 where
+  pub task : t.task ≡ rules_digest_of b
   pub links : AreLinks (present b) t.links
   pub value : Value
   pub told : stored t.result ≡ Some value
   pub is : o ≡ outcome_at k t value
 
 pub given_is : (stored : Digest → Option Value) (b : Book) (k : List ℕ) (t : Trace) (o : Outcome) → given_by stored b k (Some t) ≡ Some o → IsGiven stored b k t o
-given_is stored b k t o gives = on (are_present b t.links) refl gives
+given_is stored b k t o gives = on (holds b t) refl gives
   where
-    by : AreLinks (present b) t.links → (x : Option Value) → stored t.result ≡ x → option_map (outcome_at k t) x ≡ Some o → IsGiven stored b k t o
-    by are None none e = cc
-    by are (Some v) some e = record { links = are; value = v; told = some; is = (let s : o ≡ outcome_at k t v = cc in s) }
+    by : t.task ≡ rules_digest_of b → AreLinks (present b) t.links → (x : Option Value) → stored t.result ≡ x → option_map (outcome_at k t) x ≡ Some o → IsGiven stored b k t o
+    by task are None none e = cc
+    by task are (Some v) some e = record { task = task; links = are; value = v; told = some; is = (let s : o ≡ outcome_at k t v = cc in s) }
 
-    on : (c : Bool) → are_present b t.links ≡ c → cond c (option_map (outcome_at k t) (stored t.result)) None ≡ Some o → IsGiven stored b k t o
+    on : (c : Bool) → holds b t ≡ c → cond c (option_map (outcome_at k t) (stored t.result)) None ≡ Some o → IsGiven stored b k t o
     on false differs e = cc
-    on true holds e = by (present_links b t.links holds) (stored t.result) refl e
+    on true is e =
+        let both = both_true (digest_eq t.task (rules_digest_of b)) (are_present b t.links) is in
+        by (same_digest t.task (rules_digest_of b) both.0) (present_links b t.links both.1) (stored t.result) refl e
 
 -- 2. the whole of a job
 
@@ -95,7 +100,7 @@ module _ (K : SomeKept) (b : Book) (H : List Book) (base : IsBase K b H) (k : Li
   -- what a trace gives is right
   gives_right : (t : Trace) (o : Outcome) → Has (K.traces Deep k) t → IsGiven K.stored b k t o → IsRightMade (tracing Deep) K b k (Reused o)
   gives_right t o kept given =
-      let held : IsHeldBy Deep K b k t = record { kept = kept; links = given.links; trusted = tt } in
+      let held : IsHeldBy Deep K b k t = record { kept = kept; task = ap Some (sym given.task); links = given.links; trusted = tt } in
       let r = deep_held K b H base k t held in
       let both : Some given.value ≡ Some r.0.value = sym given.told ∙ r.0.stored in
       let same : given.value ≡ r.0.value = cc in
@@ -124,7 +129,9 @@ module _ (K : SomeKept) (b : Book) (H : List Book) (base : IsBase K b H) (k : Li
   none_held : Finds K b k None → ¬ (IsHeld (tracing Deep) K b k)
   none_held none (t, held) =
       let v = base.sound.trace_stored Deep k t held.kept in
-      let given : given_by K.stored b k (Some t) ≡ Some (outcome_at k t v.0) = ap (λ c. cond c (option_map (outcome_at k t) (K.stored t.result)) None) (links_present b t.links held.links) ∙ ap (option_map (outcome_at k t)) v.1 in
+      let same : rules_digest_of b ≡ t.task = (let both : Some (rules_digest_of b) ≡ Some t.task = held.task in cc) in
+      let is : holds b t ≡ true = ap (λ d. digest_eq d (rules_digest_of b) && are_present b t.links) (sym same) ∙ (ap (λ c. c && are_present b t.links) (digest_self (rules_digest_of b)) ∙ links_present b t.links held.links) in
+      let given : given_by K.stored b k (Some t) ≡ Some (outcome_at k t v.0) = ap (λ c. cond c (option_map (outcome_at k t) (K.stored t.result)) None) is ∙ ap (option_map (outcome_at k t)) v.1 in
       let never : None ≡ Some (outcome_at k t v.0) = sym (none t held.kept) ∙ given in
       cc
 

@@ -1,16 +1,17 @@
 ghost use Rattle.std.specs.Prelude.{◌≡◌, option_copied, option_map, IfOk};
 ghost use Rattle.carte_book.specs.Book.{book_view};
+ghost use Rattle.carte_book.specs.Digest.{rules_digest_of};
 ghost use Rattle.carte_record.specs.Kept.{kept_view};
 ghost use Rattle.carte_table.specs.Lookups.{first_value};
 ghost use Rattle.carte_sound.specs.Begun.{is_digest};
 ghost use Rattle.carte_sound.specs.Marks.{present};
-ghost use Rattle.carte_deep.specs.Holding.{Finds, are_present as all_present, given_by as given, outcome_at};
+ghost use Rattle.carte_deep.specs.Holding.{Finds, are_present as all_present, holds, given_by as given, outcome_at};
 
 use carte_book::{Book, Looked};
 use carte_effect::{Hashed, Reuse};
 use carte_rebuild::stored;
 use carte_record::{Kept, Store, Trace};
-use carte_value::{Link, Links, Name, NoMemory, SharedLinks};
+use carte_value::{Digest, Link, Links, Name, NoMemory, SharedLinks};
 use std::alloc::Global;
 use std::marker::Model;
 
@@ -42,7 +43,8 @@ impl Earlier {
     }
 }
 
-/// The end that a trace of a key tells of whose links the inputs of the book have now and whose value is there.
+/// The end that a trace of a key tells of that is of the rules of the book, whose links its inputs have now and whose value
+/// is there.
 pub(crate) fn held(
     alloc: Global,
     kept: &Kept,
@@ -51,11 +53,12 @@ pub(crate) fn held(
 ) -> Result<Option<Earlier>, NoMemory>
     ensures { IfOk result (Finds (kept_view kept.now) (book_view book.now) key.now) }
 {
+    let rules = book.rules_digest(alloc)?;
     let places = kept.deep.places(key);
     for newer in 0..places.len() {
         let at = places[places.len() - 1 - newer];
         let trace = kept.deep.get(at as usize);
-        if let Some(earlier) = given_by(alloc, &kept.values, book, key, trace)? {
+        if let Some(earlier) = given_by(alloc, &kept.values, book, rules, key, trace)? {
             return Ok(Some(earlier));
         }
     }
@@ -67,15 +70,25 @@ fn given_by(
     alloc: Global,
     values: &Store,
     book: &Book,
+    rules: Digest,
     key: &Name,
     trace: Option<&Trace>,
 ) -> Result<Option<Earlier>, NoMemory>
+    requires { rules ≡ rules_digest_of (book_view book.now) }
     ensures { IfOk result (λ earlier. earlier ≡ given (first_value values.now) (book_view book.now) key.now (option_copied trace.entry)) }
 {
     match trace {
-        Some(trace) if are_present(book, trace.links.list()) => told_by(alloc, values, key, trace),
+        Some(trace) if holds(book, rules, trace) => told_by(alloc, values, key, trace),
         _ => Ok(None),
     }
+}
+
+// The rules are compared first: where one has changed, no link is looked up.
+fn holds(book: &Book, rules: Digest, trace: &Trace) -> bool
+    requires { rules ≡ rules_digest_of (book_view book.now) }
+    ensures { result ≡ holds (book_view book.now) trace.now }
+{
+    trace.task == rules && are_present(book, trace.links.list())
 }
 
 fn told_by(

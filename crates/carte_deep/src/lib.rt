@@ -1,10 +1,12 @@
-//! Deep traces: a key has the result of any earlier trace whose inputs, those beneath the key, have the values of then.
+//! Deep traces: a key has the result of any earlier trace of the book's rules whose inputs, those beneath the key, have the
+//! values of then.
 //!
 //! Whether such a trace holds is known before anything is worked out, since the book has the inputs. So `start` compares
 //! the links of the key's traces with the book, one trace after another, and the job of a held key has its result from the
-//! start: it asks for nothing, and no task is made for it. Each other key runs its task. A name that is no input of the
-//! book, a digest that differs, and a result that the store lacks each count as a difference. The needs of a held key
-//! aren't looked into, so a build that changes nothing looks at its targets alone.
+//! start: it asks for nothing, and no task is made for it. Each other key runs its task. All rules are compared by one
+//! digest, so any rule that is put in, changed or taken away runs all. A name that is no input of the book, a digest that
+//! differs, and a result that the store lacks each count as a difference. The needs of a held key aren't looked into, so a
+//! build that changes nothing looks at its targets alone.
 //!
 //! The price is in the links. A trace links all inputs beneath its key, and its entry names them, so those of a chain of
 //! rules, each with an input of its own, grow with the product of the chain and its inputs: a hundred rules over a hundred
@@ -12,7 +14,8 @@
 //! though the values between are the same as before.
 //!
 //! Laws, each the contract of a function that does nothing, say which keys are held: those beneath which the inputs have the
-//! values of a trace (`unchanged_is_held`, `stays_held`), also where inputs are set back (`set_back_is_held`).
+//! values of a trace (`unchanged_is_held`, `stays_held`, `other_rules_hold_nothing`), also where what has changed is set back
+//! (`set_back_is_held`).
 //!
 //! Turned down:
 //! - A check in the job, which asks for the inputs: over a part of the values that lacks one it would stop at a name that
@@ -34,10 +37,13 @@ use carte_rebuild::Rebuilder;
 use carte_record::{Kept, Way};
 use carte_value::{Name, NoMemory};
 pub use job::DeepJob;
-pub use laws::{held_links_are_present, set_back_is_held, stays_held, unchanged_is_held};
+pub use laws::{
+    held_links_are_present, other_rules_hold_nothing, set_back_is_held, stays_held,
+    unchanged_is_held,
+};
 use std::alloc::Global;
 
-/// Reuses the result of any trace of a key whose inputs beneath it still have their digests.
+/// Reuses the result of any trace of a key that is of the book's rules and whose inputs beneath it still have their digests.
 #[derive(Clone, Copy, Debug)]
 pub struct Deep;
 

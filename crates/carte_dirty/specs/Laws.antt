@@ -1,8 +1,7 @@
 -- What a job under dirty bits makes is right.
 use Rattle.std.proofs.Common.{◌≡◌, ℕ, Bool, true, false, cond, List, [], Option, Some, None, Ok, Err, refl, ap, sym, ◌∙◌, subst}
-use Rattle.carte_value.specs.declared.value.Value.{Value}
 use Rattle.carte_value.specs.Truths.{Truth, Extends}
-use Rattle.carte_value.specs.Asks.{Asks, run}
+use Rattle.carte_value.specs.Asks.{Asks}
 use Rattle.carte_value.specs.Once.{Answers}
 use Rattle.carte_tree.specs.Tree.{Tree}
 use Rattle.carte_tree.specs.Meaning.{asks}

@@ -1,13 +1,13 @@
-//! Dirty bits: a key's old result is given again where its entry is fresh, that is, where no input beneath the key has
-//! changed since.
+//! Dirty bits: a key's old result is given again where its entry is fresh, that is, where neither its rule nor any rule or
+//! input beneath the key has changed since.
 //!
-//! Before a build the entries are marked that lead to a changed input (`kept` is what is left by that), so a fresh entry
-//! needs no look at anything: the job of such a key has one check without links, which holds at once, and asks for no
-//! name. Each other key runs its task. So the needs of a held key aren't looked into, and a build that changes nothing
-//! looks at its targets alone. The price: where a changed need has its old value again, all above it runs.
+//! Before a build the entries are marked that are of a changed rule or lead to what has changed (`kept` is what is left by
+//! that), so a fresh entry needs no look at anything: the job of such a key has one check without links, which holds at
+//! once, and asks for no name. Each other key runs its task. So the needs of a held key aren't looked into, and a build that
+//! changes nothing looks at its targets alone. The price: where a changed need has its old value again, all above it runs.
 //!
-//! Laws, each the contract of a function that does nothing, say that a key is held where nothing beneath it has changed
-//! (`unchanged_is_held`), and only there (`changed_is_not_held`).
+//! Laws, each the contract of a function that does nothing, say that a key is held where neither it nor anything beneath it
+//! has changed (`unchanged_is_held`), and only there (`changed_is_not_held`).
 //!
 //! Turned down: a job type of its own for two cases that `Tries` has already.
 #![tactic(auto)]
@@ -28,7 +28,7 @@ use carte_value::{Links, Name, NoMemory, SharedLinks, Value};
 pub use laws::{changed_is_not_held, unchanged_is_held};
 use std::alloc::Global;
 
-/// Reuses the result that a key has at last, where nothing beneath it has changed.
+/// Reuses the result that a key has at last, where neither it nor anything beneath it has changed.
 #[derive(Clone, Copy, Debug)]
 pub struct Dirty;
 

@@ -1,5 +1,5 @@
 -- What a commit of one batch comes to, and what its images keep.
-use Rattle.std.proofs.Common.{◌≡◌, ◌⊎◌, ℕ, ◌+◌, Bool, true, false, if◌then◌else◌, List, [], ◌∷◌, ◌++◌, Result, Ok, Err, refl, sym, ◌∙◌, ap, subst, inl, inr, arith}
+use Rattle.std.proofs.Common.{◌≡◌, ◌⊎◌, ℕ, ◌+◌, Bool, true, false, if◌then◌else◌, List, [], ◌∷◌, ◌++◌, None, Result, Ok, Err, refl, sym, ◌∙◌, ap, subst, inl, inr, arith}
 use Rattle.std.specs.Prelude.{MatchResult}
 use Rattle.carte_io.specs.Causes.{Rose}
 use Rattle.carte_io.specs.Disk.{LeavesOnly, Story}
@@ -9,12 +9,13 @@ use Rattle.carte_io.proofs.Images.{leaves_more, leaves_none}
 use Rattle.carte_journal.specs.Journals.{Standing, calls_of}
 use Rattle.carte_record.specs.Empty.{is_empty}
 use Rattle.carte_record.specs.Folds.{apply}
-use Rattle.carte_record.specs.Kept.{SomeKept, kept_view}
+use Rattle.carte_record.specs.Kept.{kept_view}
 use Rattle.carte_record.specs.declared.batch.Batch.{Batch}
 use Rattle.carte_state.specs.Applying.{Applies, Comes, IsStill}
 use Rattle.carte_state.specs.Around.{OverDisk}
 use Rattle.carte_state.specs.Folding.{Keeps}
-use Rattle.carte_state.specs.States.{IsKeptOn, Stand, kept_in, step_for}
+use Rattle.carte_state.specs.States.{IsKeptOn, Stand, any_in, any_of, step_for}
+use Rattle.carte_state.specs.Versions.{AnyKept, InTwo, apply_to, two_of}
 use Rattle.carte_state.specs.declared.fault.ApplyFault.{ApplyFault}
 use Rattle.carte_state.specs.declared.fault.ApplyFault.TheVariants.{DiskFault, Full, NoMemory}
 use Rattle.carte_state.proofs.Applies.{kept_leaves}
@@ -48,7 +49,7 @@ module _ (d : OverDisk) (old new : Stand) (B : Batch) where
   applies_seen result a = record { comes = comes_seen result a.comes; limit = a.limit; steps = a.steps; ordered = a.ordered }
 
   rewrites_seen : (fault : ApplyFault) → Rewrites d old new (Err fault) → Rewrites (seen d) old new (Err fault)
-  rewrites_seen fault r = record { comes = renewed_seen fault r.comes; limit = r.limit; kept = r.kept; steps = r.steps; ordered = r.ordered }
+  rewrites_seen fault r = record { comes = renewed_seen fault r.comes; limit = r.limit; kept = r.kept; one = r.one; steps = r.steps; ordered = r.ordered }
     where
       renewed_seen : (fault : ApplyFault) → Renewed d old new (Err fault) → Renewed (seen d) old new (Err fault)
       renewed_seen DiskFault b = record { region = b.region; live = b.live; room = b.room; after = b.after; later = b.later; rose = b.rose; few = b.few }
@@ -75,6 +76,7 @@ renews_until d old base r = record {
   };
   limit = r.limit;
   kept = r.kept;
+  one = r.one;
   steps = r.steps;
   ordered = r.ordered;
 }
@@ -118,9 +120,9 @@ module _ (first : Bool) where
 
   -- ---- what is told of every commit
 
-  pub ready_kept : (d : OverDisk) (old base : Stand) (B : Batch) → Readies first d old B base → kept_in base ≡ kept_in old
-  ready_kept d old base B (inl (undue, same, story, faults)) = ap kept_in same
-  ready_kept d old base B (inr (due, rewrites)) = ap kept_view rewrites.kept
+  pub ready_kept : (d : OverDisk) (old base : Stand) (B : Batch) → Readies first d old B base → any_in base ≡ any_in old
+  ready_kept d old base B (inl (undue, same, story, faults)) = ap any_in same
+  ready_kept d old base B (inr (due, rewrites)) = ap (λ o. any_of o (kept_view base.kept)) rewrites.one ∙ ap (λ K. any_of old.one (kept_view K)) rewrites.kept
 
   pub ready_limit : (d : OverDisk) (old base : Stand) (B : Batch) → Readies first d old B base → base.journal.limit ≡ old.journal.limit
   ready_limit d old base B (inl (undue, same, story, faults)) = ap (λ (s : Stand). s.journal.limit) same
@@ -141,9 +143,14 @@ module _ (first : Bool) where
   commit_limit d old new B result (inr (fault, is, inl b)) = b.rewrites.limit
   commit_limit d old new B result (inr (fault, is, inr l)) = ap (λ (s : Stand). s.journal.limit) l.still.stand
 
+-- what passed has no fault
+no_fault : (P : Type 0) (r : Result (Unit {0}) ApplyFault) (fault : ApplyFault) → r ≡ Ok tt → r ≡ Err fault → P
+no_fault P r fault passed failed = let both : Ok tt ≡ Err fault = sym passed ∙ failed in cc
+
 -- a commit that passed
 pub record HasPut (d : OverDisk) (old new : Stand) (B : Batch) : Type 0 where
-  pub kept : kept_in new ≡ apply B (kept_in old)
+  pub any : any_in new ≡ apply_to B (any_in old)
+  pub one : new.one ≡ None
   pub whole : new.journal.broken ≡ false
   pub faults : d.failed ≡ d.failed_before
   pub rest : d.tells → IsKeptOn old d.old → IsKeptOn new d.new
@@ -151,13 +158,14 @@ pub record HasPut (d : OverDisk) (old new : Stand) (B : Batch) : Type 0 where
 module _ (first : Bool) (d : OverDisk) (old new : Stand) (B : Batch) where
   pub put_follows : Commits first d old new B (Ok tt) → Follows first d old new B (Ok tt)
   put_follows (inl f) = f
-  put_follows (inr (fault, is, unready)) = cc
+  put_follows (inr (fault, is, unready)) = no_fault (Follows first d old new B (Ok tt)) (Ok tt) fault refl is
 
   pub has_put : Commits first d old new B (Ok tt) → HasPut d old new B
   has_put commits =
       let f = put_follows commits in
       record {
-        kept = f.applies.comes.after.kept ∙ ap (apply B) (ready_kept first (until d f.between) old f.base B f.ready);
+        any = f.applies.comes.after.any ∙ ap (apply_to B) (ready_kept first (until d f.between) old f.base B f.ready);
+        one = f.applies.comes.after.one;
         whole = f.applies.comes.whole;
         faults = f.applies.comes.faults;
         rest = λ told on. f.applies.comes.rest told (ready_rest first (until d f.between) old f.base B f.ready told on);
@@ -196,7 +204,7 @@ module _ (first : Bool) (d : OverDisk) (old base : Stand) (B : Batch) where
   ready_made (inl plain) = tt
   ready_made (inr turned) = again_made old
 
-  ready_last : (ready : Readies first d old B base) → last_of (kept_in old) (steps_ready first d old base B ready) ≡ kept_in old
+  ready_last : (ready : Readies first d old B base) → last_of (any_in old) (steps_ready first d old base B ready) ≡ any_in old
   ready_last (inl plain) = refl
   ready_last (inr turned) = refl
 
@@ -204,20 +212,20 @@ module _ (first : Bool) (d : OverDisk) (old base : Stand) (B : Batch) where
   ready_calls (inl (undue, same, story, faults)) told = omega (arith, ap (λ (u : Story). u.now.passed) (story told))
   ready_calls (inr (due, rewrites)) told = omega (arith, rewrites.comes.calls told)
 
-  ready_through : (ready : Readies first d old B base) → d.tells → IsKeptOn old d.old → StepsThrough (Keeps old.journal.limit) (kept_in old) (steps_ready first d old base B ready) d.old d.new
+  ready_through : (ready : Readies first d old B base) → d.tells → IsKeptOn old d.old → StepsThrough (Keeps old.journal.limit) (any_in old) (steps_ready first d old base B ready) d.old d.new
   ready_through (inl (undue, same, story, faults)) told on = none_through old d.old d.new (story told) on
   ready_through (inr (due, rewrites)) told on = rewrites.steps told on
 
 module _ (first : Bool) (d : OverDisk) (old new : Stand) (B : Batch) where
   module _ (result : Result (Unit {0}) ApplyFault) where
-    abbrev steps : Commits first d old new B result → List (Step SomeKept)
+    abbrev steps : Commits first d old new B result → List (Step AnyKept)
     steps commits = steps_once first d old new B result commits
 
     -- each makes some call
     pub once_made : (commits : Commits first d old new B result) → AreMade (steps commits)
     once_made (inl f) =
-        both_made (steps_ready first (until d f.between) old f.base B f.ready) (step_begun f.base.journal (kept_in old) B result)
-        (ready_made first (until d f.between) old f.base B f.ready) (begun_made f.base.journal (kept_in old) B result)
+        both_made (steps_ready first (until d f.between) old f.base B f.ready) (step_begun f.base.journal (any_in old) B result)
+        (ready_made first (until d f.between) old f.base B f.ready) (begun_made f.base.journal (any_in old) B result)
     once_made (inr (fault, is, inl b)) = again_made old
     once_made (inr (fault, is, inr l)) = tt
 
@@ -227,37 +235,37 @@ module _ (first : Bool) (d : OverDisk) (old new : Stand) (B : Batch) where
     once_well (inr (fault, is, inr l)) told = inl (refl, l.still.disk.story)
 
     -- what was acknowledged stands
-    pub once_through : (commits : Commits first d old new B result) → d.tells → IsKeptOn old d.old → StepsThrough (Keeps old.journal.limit) (kept_in old) (steps commits) d.old d.new
+    pub once_through : (commits : Commits first d old new B result) → d.tells → IsKeptOn old d.old → StepsThrough (Keeps old.journal.limit) (any_in old) (steps commits) d.old d.new
     once_through (inl f) told on =
         let e = until d f.between in
         let front = steps_ready first e old f.base B f.ready in
-        let back : SomeKept → List (Step SomeKept) = λ K. step_begun f.base.journal K B result in
+        let back : AnyKept → List (Step AnyKept) = λ K. step_begun f.base.journal K B result in
         let here = begun_through (behind d f.between) f.base new B result f.applies told (ready_rest first e old f.base B f.ready told on) in
         let there = subst (λ K. StepsThrough (Keeps f.base.journal.limit) K (back K) f.between d.new) (ready_kept first e old f.base B f.ready) here in
-        let under = subst (λ limit. StepsThrough (Keeps limit) (kept_in old) (back (kept_in old)) f.between d.new) (ready_limit first e old f.base B f.ready) there in
-        both_through (Keeps old.journal.limit) (kept_in old) front (back (kept_in old)) d.old f.between d.new (ready_through first e old f.base B f.ready told on) (ready_calls first e old f.base B f.ready told)
-        (inr (f.applies.ordered told)) (begun_made f.base.journal (kept_in old) B result)
-        (subst (λ K. StepsThrough (Keeps old.journal.limit) K (back (kept_in old)) f.between d.new) (sym (ready_last first e old f.base B f.ready)) under)
+        let under = subst (λ limit. StepsThrough (Keeps limit) (any_in old) (back (any_in old)) f.between d.new) (ready_limit first e old f.base B f.ready) there in
+        both_through (Keeps old.journal.limit) (any_in old) front (back (any_in old)) d.old f.between d.new (ready_through first e old f.base B f.ready told on) (ready_calls first e old f.base B f.ready told)
+        (inr (f.applies.ordered told)) (begun_made f.base.journal (any_in old) B result)
+        (subst (λ K. StepsThrough (Keeps old.journal.limit) K (back (any_in old)) f.between d.new) (sym (ready_last first e old f.base B f.ready)) under)
     once_through (inr (fault, is, inl b)) told on = b.rewrites.steps told on
     once_through (inr (fault, is, inr l)) told on = none_through old d.old d.new l.still.disk.story on
 
   -- of those of a batch that was put the last one leads to what is kept then
-  pub once_last : (commits : Commits first d old new B (Ok tt)) → last_of (kept_in old) (steps_once first d old new B (Ok tt) commits) ≡ kept_in new
+  pub once_last : (commits : Commits first d old new B (Ok tt)) → last_of (any_in old) (steps_once first d old new B (Ok tt) commits) ≡ any_in new
   once_last (inl f) =
       let e = until d f.between in
-      last_of-append (kept_in old) (steps_ready first e old f.base B f.ready) (step_for f.base.journal (kept_in old) B)
-      ∙ (ap (λ K. last_of K (step_for f.base.journal (kept_in old) B)) (ready_last first e old f.base B f.ready)
-      ∙ (batch_last f.base.journal (kept_in old) B
-      ∙ sym (f.applies.comes.after.kept ∙ ap (apply B) (ready_kept first e old f.base B f.ready))))
-  once_last (inr (fault, is, unready)) = cc
+      last_of-append (any_in old) (steps_ready first e old f.base B f.ready) (step_for f.base.journal (any_in old) B)
+      ∙ (ap (λ K. last_of K (step_for f.base.journal (any_in old) B)) (ready_last first e old f.base B f.ready)
+      ∙ (batch_last f.base.journal (any_in old) B
+      ∙ sym (f.applies.comes.after.any ∙ ap (apply_to B) (ready_kept first e old f.base B f.ready))))
+  once_last (inr (fault, is, unready)) = no_fault _ (Ok tt) fault refl is
 
   -- and so many calls have passed
   pub once_calls : (commits : Commits first d old new B (Ok tt)) → d.tells → d.new.now.passed ≡ d.old.now.passed + calls_in (steps_once first d old new B (Ok tt) commits)
   once_calls (inl f) told =
       let e = until d f.between in
-      both_calls (steps_ready first e old f.base B f.ready) (step_for f.base.journal (kept_in old) B) d.old.now.passed f.between.now.passed d.new.now.passed (ready_calls first e old f.base B f.ready told)
-      (omega (arith, f.applies.comes.calls told, batch_calls f.base.journal (kept_in old) B))
-  once_calls (inr (fault, is, unready)) told = cc
+      both_calls (steps_ready first e old f.base B f.ready) (step_for f.base.journal (any_in old) B) d.old.now.passed f.between.now.passed d.new.now.passed (ready_calls first e old f.base B f.ready told)
+      (omega (arith, f.applies.comes.calls told, batch_calls f.base.journal (any_in old) B))
+  once_calls (inr (fault, is, unready)) told = no_fault _ (Ok tt) fault refl is
 
   -- or not all, where the disk failed
   pub once_passed : (fault : ApplyFault) (commits : Commits first d old new B (Err fault)) → d.tells → HasPassed d d.old (steps_once first d old new B (Err fault) commits) fault
@@ -265,9 +273,9 @@ module _ (first : Bool) (d : OverDisk) (old new : Stand) (B : Batch) where
       let e = until d f.between in
       let front = steps_ready first e old f.base B f.ready in
       let made : f.between.now.passed ≡ d.old.now.passed + calls_in front = ready_calls first e old f.base B f.ready told in
-      let back = step_begun f.base.journal (kept_in old) B (Err fault) in
+      let back = step_begun f.base.journal (any_in old) B (Err fault) in
       passed_since d d.old f.between (front ++ back) fault (omega (arith, made))
-      (both_passed d f.between f.between front back fault made (begun_passed (behind d f.between) f.base new B (kept_in old) fault f.applies told))
+      (both_passed d f.between f.between front back fault made (begun_passed (behind d f.between) f.base new B (any_in old) fault f.applies told))
   once_passed fault (inr (other, is, inl b)) told = broken fault (let same : fault ≡ other = cc in same ∙ b.is) b.rewrites
     where
       broken : (fault : ApplyFault) → fault ≡ DiskFault → Rewrites d old new (Err DiskFault) → HasPassed d d.old (step_again old) fault
@@ -285,29 +293,30 @@ module _ (first : Bool) (d : OverDisk) (old new : Stand) (B : Batch) where
 
 module _ (first : Bool) (d : OverDisk) (old : Stand) (B : Batch) (told : d.tells) (on : IsKeptOn old d.old) where
   abbrev Stays : List ℕ → Type 0
-  Stays file = Keeps old.journal.limit (kept_in old) file ⊎ Keeps old.journal.limit (apply B (kept_in old)) file
+  Stays file = Keeps old.journal.limit (any_in old) file ⊎ Keeps old.journal.limit (apply_to B (any_in old)) file
 
-  at_batch : (empty : Bool) (calls : ℕ) (file : List ℕ) → IsAtOneOf (Keeps old.journal.limit) (kept_in old) (if empty then [] else let step : Step SomeKept = record { calls = calls; to = apply B (kept_in old) } in step ∷ []) file → Stays file
+  at_batch : (empty : Bool) (calls : ℕ) (file : List ℕ) → IsAtOneOf (Keeps old.journal.limit) (any_in old) (if empty then [] else let step : Step AnyKept = record { calls = calls; to = InTwo (apply B (two_of (any_in old))) } in step ∷ []) file
+      → Keeps old.journal.limit (any_in old) file ⊎ Keeps old.journal.limit (if empty then any_in old else InTwo (apply B (two_of (any_in old)))) file
   at_batch true calls file at = inl at
   at_batch false calls file at = at
 
-  at_begun : (j : Standing) (result : Result (Unit {0}) ApplyFault) (file : List ℕ) → IsAtOneOf (Keeps old.journal.limit) (kept_in old) (step_begun j (kept_in old) B result) file → Stays file
+  at_begun : (j : Standing) (result : Result (Unit {0}) ApplyFault) (file : List ℕ) → IsAtOneOf (Keeps old.journal.limit) (any_in old) (step_begun j (any_in old) B result) file → Stays file
   at_begun j (Ok done) file at = at_batch (is_empty B) (calls_of j) file at
   at_begun j (Err DiskFault) file at = at_batch (is_empty B) (calls_of j) file at
   at_begun j (Err (Full needed limit)) file at = inl at
   at_begun j (Err NoMemory) file at = inl at
 
   at_ready : (e : OverDisk) (base : Stand) (result : Result (Unit {0}) ApplyFault) (ready : Readies first e old B base) (file : List ℕ)
-      → IsAtOneOf (Keeps old.journal.limit) (kept_in old) (steps_ready first e old base B ready ++ step_begun base.journal (kept_in old) B result) file → Stays file
+      → IsAtOneOf (Keeps old.journal.limit) (any_in old) (steps_ready first e old base B ready ++ step_begun base.journal (any_in old) B result) file → Stays file
   at_ready e base result (inl plain) file at = at_begun base.journal result file at
   at_ready e base result (inr turned) file (inl at) = inl at
   at_ready e base result (inr turned) file (inr at) = at_begun base.journal result file at
 
   pub commit_leaves : (new : Stand) (result : Result (Unit {0}) ApplyFault) → Commits first d old new B result → LeavesOnly d.old d.new Stays
   commit_leaves new result (inl f) =
-      leaves_more d.old d.new (IsAtOneOf (Keeps old.journal.limit) (kept_in old) (steps_once first d old new B result (inl f))) Stays (at_ready (until d f.between) f.base result f.ready)
-      (steps_leave (Keeps old.journal.limit) (kept_in old) (steps_once first d old new B result (inl f)) d.old d.new (f.applies.ordered told) (once_through first d old new B result (inl f) told on))
+      leaves_more d.old d.new (IsAtOneOf (Keeps old.journal.limit) (any_in old) (steps_once first d old new B result (inl f))) Stays (at_ready (until d f.between) f.base result f.ready)
+      (steps_leave (Keeps old.journal.limit) (any_in old) (steps_once first d old new B result (inl f)) d.old d.new (f.applies.ordered told) (once_through first d old new B result (inl f) told on))
   commit_leaves new result (inr (fault, is, inl b)) =
-      leaves_more d.old d.new (Keeps old.journal.limit (kept_in old)) Stays (λ file at. inl at)
+      leaves_more d.old d.new (Keeps old.journal.limit (any_in old)) Stays (λ file at. inl at)
       (kept_throughout old d.old d.new (b.rewrites.ordered told) (b.rewrites.steps told on))
   commit_leaves new result (inr (fault, is, inr l)) = leaves_none d.old d.new Stays l.still.disk.story (λ file image. inl (kept_leaves old d.old on file image))

@@ -1,8 +1,7 @@
 -- What the batch that empties a state makes of it.
-use Rattle.std.proofs.Common.{◌≡◌, ℕ, Bool, true, false, ◌&&◌, List, [], Option, Some, None, length, is_none, refl, ap, sym, ◌∙◌}
+use Rattle.std.proofs.Common.{◌≡◌, ℕ, Bool, true, false, not, ◌&&◌, List, [], Option, Some, None, length, is_some, refl, ap, sym, ◌∙◌}
 use Rattle.std.specs.Prelude.{◌==◌, if◌then◌else◌}
 use Rattle.std.proofs.Math.Path.{fun_ext}
-use Rattle.carte_value.specs.declared.digest.Digest.{Digest}
 use Rattle.carte_value.specs.declared.link.Link.{Link}
 use Rattle.carte_value.specs.declared.value.Value.{Value}
 use Rattle.carte_codec.specs.Each.{EachFits}
@@ -22,29 +21,25 @@ use Rattle.carte_record.specs.Lookups.{first_entry}
 use Rattle.carte_sound.specs.LeadsTo.{empty_batch}
 use Rattle.carte_sound.proofs.Emptied.{empty_applied}
 use Rattle.carte_plan.proofs.Lists.{both, empty_is, no_items}
-use Rattle.carte_state.specs.States.{Stand, kept_in}
-use Rattle.carte_engine.specs.Clearing.{clearing, is_bare}
-
-none_from : {A : Type 0} (o : Option A) → is_none o ≡ true → o ≡ None
-none_from None is = refl
-none_from (Some x) is = cc
+use Rattle.carte_record_one.specs.declared.kept.KeptOne.{KeptOne}
+use Rattle.carte_state.specs.States.{Stand, any_in, any_of}
+use Rattle.carte_state.specs.Versions.{Begins, InTwo, apply_to}
+use Rattle.carte_engine.specs.Clearing.{clearing, is_bare, keeps_nothing}
+use Rattle.carte_engine.proofs.Raising.{apply_two}
 
 -- where no list has an item nothing is kept
 bare_kept : (K : Kept) → is_bare K ≡ true → kept_view K ≡ nothing_kept
 bare_kept K is =
-    let halves = both ((is_none K.rules && length K.chain == 0) && (length K.seen == 0 && length K.entries == 0))
-    ((length K.verifying == 0 && length K.constructive == 0) && (length K.deep == 0 && length K.values == 0)) is in
-    let fronts = both (is_none K.rules && length K.chain == 0) (length K.seen == 0 && length K.entries == 0) halves.0 in
+    let halves = both (length K.chain == 0 && (length K.seen == 0 && length K.entries == 0)) ((length K.verifying == 0 && length K.constructive == 0) && (length K.deep == 0 && length K.values == 0)) is in
+    let first = both (length K.chain == 0) (length K.seen == 0 && length K.entries == 0) halves.0 in
+    let second = both (length K.seen == 0) (length K.entries == 0) first.1 in
     let backs = both (length K.verifying == 0 && length K.constructive == 0) (length K.deep == 0 && length K.values == 0) halves.1 in
-    let first = both (is_none K.rules) (length K.chain == 0) fronts.0 in
-    let second = both (length K.seen == 0) (length K.entries == 0) fronts.1 in
     let third = both (length K.verifying == 0) (length K.constructive == 0) backs.0 in
     let fourth = both (length K.deep == 0) (length K.values == 0) backs.1 in
-    ap (λ (r : Option Digest). record (kept_view K) { rules = r }) (none_from K.rules first.0)
-    ∙ ap (λ (ks : List (List ℕ)). record (kept_view K) { rules = None; chain = ks }) (no_items K.chain first.1)
-    ∙ ap (λ (ls : List Link). record (kept_view K) { rules = None; chain = []; seen = first_link ls }) (no_items K.seen second.0)
-    ∙ ap (λ (es : List Entry). record (kept_view K) { rules = None; chain = []; seen = λ k. None; entries = first_entry es }) (no_items K.entries second.1)
-    ∙ ap (λ (vs : List Value). record (kept_view K) { rules = None; chain = []; seen = λ k. None; entries = λ k. None; stored = first_value vs }) (no_items K.values fourth.1)
+    ap (λ (ks : List (List ℕ)). record (kept_view K) { chain = ks }) (no_items K.chain first.0)
+    ∙ ap (λ (ls : List Link). record (kept_view K) { chain = []; seen = first_link ls }) (no_items K.seen second.0)
+    ∙ ap (λ (es : List Entry). record (kept_view K) { chain = []; seen = λ k. None; entries = first_entry es }) (no_items K.entries second.1)
+    ∙ ap (λ (vs : List Value). record (kept_view K) { chain = []; seen = λ k. None; entries = λ k. None; stored = first_value vs }) (no_items K.values fourth.1)
     ∙ ap (λ (f : Way → List Trace). record nothing_kept { traces = λ w k. traces_in k (f w) [] }) (fun_ext (no_traces (no_items K.verifying third.0) (no_items K.constructive third.1) (no_items K.deep fourth.0)))
   where
     no_traces : K.verifying ≡ [] → K.constructive ≡ [] → K.deep ≡ [] → (w : Way) → kept_traces w K ≡ []
@@ -61,7 +56,7 @@ unmarked_by true = tt
 unmarked_by false = tt
 
 pub clearing_unmarked : (s : Stand) → EachFits IsUnmarked (clearing s).entries
-clearing_unmarked s = unmarked_by (is_bare s.kept)
+clearing_unmarked s = unmarked_by (keeps_nothing s)
 
 no_trace : (w : Way) → batch_traces w (record empty_batch { start = Cleared }) ≡ []
 no_trace Verifying = refl
@@ -72,12 +67,24 @@ empties_by : (K : SomeKept) (bare : Bool) → (bare ≡ true → K ≡ nothing_k
 empties_by K true nothing = empty_applied K ∙ nothing refl
 empties_by K false nothing = ap (λ (f : Way → List Trace). record nothing_kept { traces = λ w k. traces_in k (f w) [] }) (fun_ext no_trace)
 
-pub clearing_empties : (s : Stand) → apply (clearing s) (kept_in s) ≡ nothing_kept
-clearing_empties s = empties_by (kept_in s) (is_bare s.kept) (bare_kept s.kept)
+-- nothing is kept behind it, of either version
+module _ (K : Kept) where
+  empties : (o : Option KeptOne) → apply_to (cleared_by (not (is_some o) && is_bare K)) (any_of o (kept_view K)) ≡ InTwo nothing_kept
+  empties None = apply_two (kept_view K) (cleared_by (is_bare K)) ∙ ap InTwo (empties_by (kept_view K) (is_bare K) (bare_kept K))
+  empties (Some J) = ap InTwo (empties_by nothing_kept false (λ never. refl))
 
-pub clears : (s : Stand) (K : Kept) (bare : Bool) (B : Batch) → is_empty B ≡ true → K ≡ s.kept → bare ≡ is_bare K → bare ≡ false → record B { start = Cleared } ≡ clearing s
-clears s K bare B empty kept test is =
-    ap (λ (C : Batch). record C { start = Cleared }) (empty_is B empty) ∙ sym (ap cleared_by (ap is_bare (sym kept) ∙ (sym test ∙ is)))
+  begins : (o : Option KeptOne) → Begins (any_of o (kept_view K)) (cleared_by (not (is_some o) && is_bare K))
+  begins None = tt
+  begins (Some J) = refl
 
-pub leaves_bare : (s : Stand) (K : Kept) (bare : Bool) (B : Batch) → is_empty B ≡ true → K ≡ s.kept → bare ≡ is_bare K → bare ≡ true → B ≡ clearing s
-leaves_bare s K bare B empty kept test is = empty_is B empty ∙ sym (ap cleared_by (ap is_bare (sym kept) ∙ (sym test ∙ is)))
+pub clearing_empties : (s : Stand) → apply_to (clearing s) (any_in s) ≡ InTwo nothing_kept
+clearing_empties s = empties s.kept s.one
+
+pub clearing_begins : (s : Stand) → Begins (any_in s) (clearing s)
+clearing_begins s = begins s.kept s.one
+
+pub clears : (s : Stand) (bare : Bool) (B : Batch) → is_empty B ≡ true → bare ≡ keeps_nothing s → bare ≡ false → record B { start = Cleared } ≡ clearing s
+clears s bare B empty test is = ap (λ (C : Batch). record C { start = Cleared }) (empty_is B empty) ∙ sym (ap cleared_by (sym test ∙ is))
+
+pub leaves_bare : (s : Stand) (bare : Bool) (B : Batch) → is_empty B ≡ true → bare ≡ keeps_nothing s → bare ≡ true → B ≡ clearing s
+leaves_bare s bare B empty test is = empty_is B empty ∙ sym (ap cleared_by (sym test ∙ is))

@@ -5,6 +5,8 @@ pub mod Marking
 pub mod Succeeding
 pub mod Refusing
 pub mod Planning
+pub mod Raising
+pub mod Found
 pub mod Keeping
 pub mod Enduring
 pub mod Emptying

@@ -3,11 +3,12 @@ use Rattle.std.proofs.Common.{◌≡◌, ℕ, Bool, true, false, List, [], ◌�
 use Rattle.carte_io.specs.Disk.{Story}
 use Rattle.carte_record.specs.declared.batch.Batch.{Batch}
 use Rattle.carte_state.specs.Around.{OverDisk}
-use Rattle.carte_state.specs.States.{Stand}
+use Rattle.carte_state.specs.Runs.{applied_to}
+use Rattle.carte_state.specs.States.{Stand, any_in}
 use Rattle.carte_state.specs.declared.fault.ApplyFault.{ApplyFault}
 use Rattle.carte_engine.specs.Committing.{Commits, CommitsAll, PutsAll, StopsAt, behind, is_first, until}
 use Rattle.carte_engine.proofs.Committing.{commits_seen, has_put}
-use Rattle.carte_engine.proofs.Several.{first_behind, is_first_behind, puts_faults}
+use Rattle.carte_engine.proofs.Several.{first_behind, is_first_behind, puts_faults, puts_kept}
 
 -- one batch more
 more_put : (first : Bool) (d : OverDisk) (between : Story) (old : Stand) (Bs : List Batch) (mid : Stand) (B : Batch) (new : Stand) → PutsAll first (until d between) old Bs mid
@@ -27,6 +28,10 @@ more_put first d between old (C ∷ Bs) mid B new (next, earlier, commits_first,
 -- the batches so far were put, by the disk's story and its faults
 abbrev pub SoFar : Type 0 → Story → Story → ℕ → ℕ → Stand → List Batch → Stand → Type 0
 SoFar tells old new before now state done mid = PutsAll true (record { tells = tells; old = old; new = new; failed_before = before; failed = now; same = Unit {0} }) state done mid
+
+pub so_far_kept : (tells : Type 0) (old new : Story) (before now : ℕ) (state : Stand) (done : List Batch) (mid : Stand) → SoFar tells old new before now state done mid → any_in mid ≡ applied_to (any_in state) done
+so_far_kept tells old new before now state done mid so =
+    puts_kept true (record { tells = tells; old = old; new = new; failed_before = before; failed = now; same = Unit {0} }) state done mid so
 
 module _ (tells : Type 0) (old between new : Story) (before mid now : ℕ) (same : Type 0) (state : Stand) (done : List Batch) (at : Stand) (B : Batch) (after : Stand) (so : SoFar tells old between before mid state done at) where
   abbrev Last : ℕ → ℕ → Type 0 → OverDisk

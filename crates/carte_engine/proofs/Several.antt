@@ -6,13 +6,12 @@ use Rattle.carte_io.specs.Stations.{Step, StepsThrough, calls_in, last_of}
 use Rattle.carte_io.proofs.Acknowledged.{AreMade, last_of-append}
 use Rattle.carte_io.proofs.Images.{leaves_more, leaves_none, leaves_then}
 use Rattle.carte_record.specs.Empty.{is_empty}
-use Rattle.carte_record.specs.Folds.{apply}
-use Rattle.carte_record.specs.Kept.{SomeKept}
 use Rattle.carte_record.specs.declared.batch.Batch.{Batch}
-use Rattle.carte_sound.specs.Parts.{applied}
 use Rattle.carte_state.specs.Around.{OverDisk}
 use Rattle.carte_state.specs.Folding.{Keeps}
-use Rattle.carte_state.specs.States.{HasRoom, IsKeptOn, Stand, kept_in, needs_for}
+use Rattle.carte_state.specs.Runs.{applied_to}
+use Rattle.carte_state.specs.States.{HasRoom, IsKeptOn, Stand, any_in, needs_for}
+use Rattle.carte_state.specs.Versions.{AnyKept, apply_to}
 use Rattle.carte_state.specs.declared.fault.ApplyFault.{ApplyFault}
 use Rattle.carte_state.specs.declared.fault.ApplyFault.TheVariants.{DiskFault, Full, NoMemory}
 use Rattle.carte_state.proofs.Applies.{kept_leaves}
@@ -20,16 +19,16 @@ use Rattle.carte_engine.specs.Committing.{Commits, CommitsAll, FitAll, HasPassed
 use Rattle.carte_engine.proofs.Committing.{commit_leaves, commit_limit, failed_commit, full_commit, full_faults, has_put, once_calls, once_last, once_made, once_passed, once_through, once_well, put_follows, ready_base, ready_limit, short_faults}
 use Rattle.carte_engine.proofs.Steps.{EndsWell, both_calls, both_made, both_passed, both_through, both_well, none_through}
 
-pub applied-append : (K : SomeKept) (Bs Cs : List Batch) → applied K (Bs ++ Cs) ≡ applied (applied K Bs) Cs
-applied-append K [] Cs = refl
-applied-append K (B ∷ Bs) Cs = applied-append (apply B K) Bs Cs
+pub applied_to-append : (A : AnyKept) (Bs Cs : List Batch) → applied_to A (Bs ++ Cs) ≡ applied_to (applied_to A Bs) Cs
+applied_to-append A [] Cs = refl
+applied_to-append A (B ∷ Bs) Cs = applied_to-append (apply_to B A) Bs Cs
 
 -- ---- all were put
 
-pub puts_kept : (first : Bool) (d : OverDisk) (old : Stand) (Bs : List Batch) (new : Stand) → PutsAll first d old Bs new → kept_in new ≡ applied (kept_in old) Bs
-puts_kept first d old [] new puts = ap kept_in puts.0
+pub puts_kept : (first : Bool) (d : OverDisk) (old : Stand) (Bs : List Batch) (new : Stand) → PutsAll first d old Bs new → any_in new ≡ applied_to (any_in old) Bs
+puts_kept first d old [] new puts = ap any_in puts.0
 puts_kept first d old (B ∷ Bs) new (mid, between, commits, puts) =
-    puts_kept false (behind d between) mid Bs new puts ∙ ap (λ K. applied K Bs) (has_put first (until d between) old mid B commits).kept
+    puts_kept false (behind d between) mid Bs new puts ∙ ap (λ K. applied_to K Bs) (has_put first (until d between) old mid B commits).any
 
 pub puts_limit : (first : Bool) (d : OverDisk) (old : Stand) (Bs : List Batch) (new : Stand) → PutsAll first d old Bs new → new.journal.limit ≡ old.journal.limit
 puts_limit first d old [] new puts = ap (λ (s : Stand). s.journal.limit) puts.0
@@ -58,10 +57,10 @@ puts_made first d old (B ∷ Bs) new (mid, between, commits, puts) =
     both_made (steps_once first (until d between) old mid B (Ok tt) commits) (steps_put false (behind d between) mid Bs new puts)
     (once_made first (until d between) old mid B (Ok tt) commits) (puts_made false (behind d between) mid Bs new puts)
 
-puts_last : (first : Bool) (d : OverDisk) (old : Stand) (Bs : List Batch) (new : Stand) (puts : PutsAll first d old Bs new) → last_of (kept_in old) (steps_put first d old Bs new puts) ≡ kept_in new
-puts_last first d old [] new puts = sym (ap kept_in puts.0)
+puts_last : (first : Bool) (d : OverDisk) (old : Stand) (Bs : List Batch) (new : Stand) (puts : PutsAll first d old Bs new) → last_of (any_in old) (steps_put first d old Bs new puts) ≡ any_in new
+puts_last first d old [] new puts = sym (ap any_in puts.0)
 puts_last first d old (B ∷ Bs) new (mid, between, commits, puts) =
-    last_of-append (kept_in old) (steps_once first (until d between) old mid B (Ok tt) commits) (steps_put false (behind d between) mid Bs new puts)
+    last_of-append (any_in old) (steps_once first (until d between) old mid B (Ok tt) commits) (steps_put false (behind d between) mid Bs new puts)
     ∙ (ap (λ K. last_of K (steps_put false (behind d between) mid Bs new puts)) (once_last first (until d between) old mid B commits)
     ∙ puts_last false (behind d between) mid Bs new puts)
 
@@ -79,15 +78,15 @@ puts_calls first d old (B ∷ Bs) new (mid, between, commits, puts) told =
 
 -- what was acknowledged stands
 pub puts_through : (first : Bool) (d : OverDisk) (old : Stand) (Bs : List Batch) (new : Stand) (puts : PutsAll first d old Bs new) → d.tells → IsKeptOn old d.old
-    → StepsThrough (Keeps old.journal.limit) (kept_in old) (steps_put first d old Bs new puts) d.old d.new
+    → StepsThrough (Keeps old.journal.limit) (any_in old) (steps_put first d old Bs new puts) d.old d.new
 puts_through first d old [] new puts told on = none_through old d.old d.new puts.1 on
 puts_through first d old (B ∷ Bs) new (mid, between, commits, puts) told on =
     let e = until d between in
     let front = steps_once first e old mid B (Ok tt) commits in
     let back = steps_put false (behind d between) mid Bs new puts in
     let here = puts_through false (behind d between) mid Bs new puts told ((has_put first e old mid B commits).rest told on) in
-    let there = subst (λ limit. StepsThrough (Keeps limit) (kept_in mid) back between d.new) (commit_limit first e old mid B (Ok tt) commits) here in
-    both_through (Keeps old.journal.limit) (kept_in old) front back d.old between d.new (once_through first e old mid B (Ok tt) commits told on) (once_calls first e old mid B commits told)
+    let there = subst (λ limit. StepsThrough (Keeps limit) (any_in mid) back between d.new) (commit_limit first e old mid B (Ok tt) commits) here in
+    both_through (Keeps old.journal.limit) (any_in old) front back d.old between d.new (once_through first e old mid B (Ok tt) commits told on) (once_calls first e old mid B commits told)
     (puts_well false (behind d between) mid Bs new puts told) (puts_made false (behind d between) mid Bs new puts)
     (subst (λ K. StepsThrough (Keeps old.journal.limit) K back between d.new) (sym (once_last first e old mid B commits)) there)
 
@@ -106,10 +105,10 @@ module _ (d : OverDisk) (old : Stand) (Bs : List Batch) (new : Stand) where
   stops_faults NoMemory s other = short_faults (is_first s.front) (behind d s.between) s.mid new s.batch s.stops
 
   module _ (fault : ApplyFault) (stops : StopsAt d old Bs new fault) (told : d.tells) where
-    abbrev steps_front : List (Step SomeKept)
+    abbrev steps_front : List (Step AnyKept)
     steps_front = steps_put true (until d stops.between) old stops.front stops.mid stops.puts
 
-    abbrev steps_next : List (Step SomeKept)
+    abbrev steps_next : List (Step AnyKept)
     steps_next = steps_once (is_first stops.front) (behind d stops.between) stops.mid new stops.batch (Err fault) stops.stops
 
     pub stops_calls : HasPassed d stops.between (steps_stopped d old Bs new fault stops) fault
@@ -117,13 +116,13 @@ module _ (d : OverDisk) (old : Stand) (Bs : List Batch) (new : Stand) where
         both_passed d stops.between stops.between steps_front steps_next fault (puts_calls true (until d stops.between) old stops.front stops.mid stops.puts told)
         (once_passed (is_first stops.front) (behind d stops.between) stops.mid new stops.batch fault stops.stops told)
 
-    pub stops_through : IsKeptOn old d.old → StepsThrough (Keeps old.journal.limit) (kept_in old) (steps_stopped d old Bs new fault stops) d.old d.new
+    pub stops_through : IsKeptOn old d.old → StepsThrough (Keeps old.journal.limit) (any_in old) (steps_stopped d old Bs new fault stops) d.old d.new
     stops_through on =
         let e = until d stops.between in
         let kept : IsKeptOn stops.mid stops.between = puts_rest true e old stops.front stops.mid stops.puts told on in
         let here = once_through (is_first stops.front) (behind d stops.between) stops.mid new stops.batch (Err fault) stops.stops told kept in
-        let there = subst (λ limit. StepsThrough (Keeps limit) (kept_in stops.mid) steps_next stops.between d.new) (puts_limit true e old stops.front stops.mid stops.puts) here in
-        both_through (Keeps old.journal.limit) (kept_in old) steps_front steps_next d.old stops.between d.new
+        let there = subst (λ limit. StepsThrough (Keeps limit) (any_in stops.mid) steps_next stops.between d.new) (puts_limit true e old stops.front stops.mid stops.puts) here in
+        both_through (Keeps old.journal.limit) (any_in old) steps_front steps_next d.old stops.between d.new
         (puts_through true e old stops.front stops.mid stops.puts told on) (puts_calls true e old stops.front stops.mid stops.puts told)
         (once_well (is_first stops.front) (behind d stops.between) stops.mid new stops.batch (Err fault) stops.stops told)
         (once_made (is_first stops.front) (behind d stops.between) stops.mid new stops.batch (Err fault) stops.stops)
@@ -131,59 +130,59 @@ module _ (d : OverDisk) (old : Stand) (Bs : List Batch) (new : Stand) where
 
 -- ---- what a crash leaves: the first batches, each whole
 
-abbrev pub KeepsSome : ℕ → SomeKept → List Batch → List ℕ → Type 0
-KeepsSome limit K Bs file = (some : List Batch) × (rest : List Batch) × (Bs ≡ some ++ rest) × Keeps limit (applied K some) file
+abbrev pub KeepsSome : ℕ → AnyKept → List Batch → List ℕ → Type 0
+KeepsSome limit K Bs file = (some : List Batch) × (rest : List Batch) × (Bs ≡ some ++ rest) × Keeps limit (applied_to K some) file
 
 puts_leave : (first : Bool) (d : OverDisk) (old : Stand) (Bs : List Batch) (new : Stand) → PutsAll first d old Bs new → d.tells → IsKeptOn old d.old
-    → LeavesOnly d.old d.new (KeepsSome old.journal.limit (kept_in old) Bs)
-puts_leave first d old [] new puts told on = leaves_none d.old d.new (KeepsSome old.journal.limit (kept_in old) []) puts.1 (λ file image. ([], [], refl, kept_leaves old d.old on file image))
+    → LeavesOnly d.old d.new (KeepsSome old.journal.limit (any_in old) Bs)
+puts_leave first d old [] new puts told on = leaves_none d.old d.new (KeepsSome old.journal.limit (any_in old) []) puts.1 (λ file image. ([], [], refl, kept_leaves old d.old on file image))
 puts_leave first d old (B ∷ Bs) new (mid, between, commits, puts) told on =
     let e = until d between in
     let put = has_put first e old mid B commits in
     let limit = old.journal.limit in
-    let K = kept_in old in
+    let K = any_in old in
     leaves_then d.old between d.new (KeepsSome limit K (B ∷ Bs))
-    (leaves_more d.old between (λ file. Keeps limit K file ⊎ Keeps limit (apply B K) file) (KeepsSome limit K (B ∷ Bs))
+    (leaves_more d.old between (λ file. Keeps limit K file ⊎ Keeps limit (apply_to B K) file) (KeepsSome limit K (B ∷ Bs))
     (λ file at. elim at [ inl before ↦ ([], B ∷ Bs, refl, before) | inr after ↦ (B ∷ [], Bs, refl, after) ])
     (commit_leaves first e old B told on mid (Ok tt) commits))
-    (leaves_more between d.new (KeepsSome mid.journal.limit (kept_in mid) Bs) (KeepsSome limit K (B ∷ Bs))
+    (leaves_more between d.new (KeepsSome mid.journal.limit (any_in mid) Bs) (KeepsSome limit K (B ∷ Bs))
     (λ file at. (
       B ∷ at.0,
       at.1,
       ap (λ Cs. B ∷ Cs) at.2,
-      subst (λ n. Keeps n (applied (apply B K) at.0) file) (commit_limit first e old mid B (Ok tt) commits)
-          (subst (λ L. Keeps mid.journal.limit (applied L at.0) file) put.kept at.3),
+      subst (λ n. Keeps n (applied_to (apply_to B K) at.0) file) (commit_limit first e old mid B (Ok tt) commits)
+          (subst (λ L. Keeps mid.journal.limit (applied_to L at.0) file) put.any at.3),
     ))
     (puts_leave false (behind d between) mid Bs new puts told (put.rest told on)))
 
 stops_leave : (d : OverDisk) (old : Stand) (Bs : List Batch) (new : Stand) (fault : ApplyFault) → StopsAt d old Bs new fault → d.tells → IsKeptOn old d.old
-    → LeavesOnly d.old d.new (KeepsSome old.journal.limit (kept_in old) Bs)
+    → LeavesOnly d.old d.new (KeepsSome old.journal.limit (any_in old) Bs)
 stops_leave d old Bs new fault s told on =
     let e = until d s.between in
     let limit = old.journal.limit in
-    let K = kept_in old in
-    let L = applied K s.front in
+    let K = any_in old in
+    let L = applied_to K s.front in
     let kept : IsKeptOn s.mid s.between = puts_rest true e old s.front s.mid s.puts told on in
     subst (λ Cs. LeavesOnly d.old d.new (KeepsSome limit K Cs)) (sym s.all)
     (leaves_then d.old s.between d.new (KeepsSome limit K (s.front ++ s.batch ∷ s.rest))
     (leaves_more d.old s.between (KeepsSome limit K s.front) (KeepsSome limit K (s.front ++ s.batch ∷ s.rest))
     (λ file at. (at.0, at.1 ++ s.batch ∷ s.rest, ap (λ Cs. Cs ++ s.batch ∷ s.rest) at.2 ∙ append_assoc at.0 at.1 (s.batch ∷ s.rest), at.3))
     (puts_leave true e old s.front s.mid s.puts told on))
-    (leaves_more s.between d.new (λ file. Keeps s.mid.journal.limit (kept_in s.mid) file ⊎ Keeps s.mid.journal.limit (apply s.batch (kept_in s.mid)) file) (KeepsSome limit K (s.front ++ s.batch ∷ s.rest))
+    (leaves_more s.between d.new (λ file. Keeps s.mid.journal.limit (any_in s.mid) file ⊎ Keeps s.mid.journal.limit (apply_to s.batch (any_in s.mid)) file) (KeepsSome limit K (s.front ++ s.batch ∷ s.rest))
     (λ file at. elim at [
       | inl before ↦ (s.front, s.batch ∷ s.rest, refl, here L kept_is file before)
-      | inr after ↦ (s.front ++ s.batch ∷ [], s.rest, sym (append_assoc s.front (s.batch ∷ []) s.rest), here (applied K (s.front ++ s.batch ∷ [])) (ap (apply s.batch) kept_is ∙ sym (applied-append K s.front (s.batch ∷ []))) file after)
+      | inr after ↦ (s.front ++ s.batch ∷ [], s.rest, sym (append_assoc s.front (s.batch ∷ []) s.rest), here (applied_to K (s.front ++ s.batch ∷ [])) (ap (apply_to s.batch) kept_is ∙ sym (applied_to-append K s.front (s.batch ∷ []))) file after)
     ])
     (commit_leaves (is_first s.front) (behind d s.between) s.mid s.batch told kept new (Err fault) s.stops)))
   where
-    kept_is : kept_in s.mid ≡ applied (kept_in old) s.front
+    kept_is : any_in s.mid ≡ applied_to (any_in old) s.front
     kept_is = puts_kept true (until d s.between) old s.front s.mid s.puts
 
-    here : {M : SomeKept} (N : SomeKept) → M ≡ N → (file : List ℕ) → Keeps s.mid.journal.limit M file → Keeps old.journal.limit N file
+    here : {M : AnyKept} (N : AnyKept) → M ≡ N → (file : List ℕ) → Keeps s.mid.journal.limit M file → Keeps old.journal.limit N file
     here {M = M} N is file keeps = subst (λ n. Keeps n N file) (puts_limit true (until d s.between) old s.front s.mid s.puts) (subst (λ X. Keeps s.mid.journal.limit X file) is keeps)
 
 pub all_leaves : (d : OverDisk) (old new : Stand) (Bs : List Batch) (result : Result (Unit {0}) ApplyFault) → CommitsAll d old new Bs result → d.tells → IsKeptOn old d.old
-    → LeavesOnly d.old d.new (λ file. (some : List Batch) × (rest : List Batch) × (Bs ≡ some ++ rest) × Keeps old.journal.limit (applied (kept_in old) some) file)
+    → LeavesOnly d.old d.new (λ file. (some : List Batch) × (rest : List Batch) × (Bs ≡ some ++ rest) × Keeps old.journal.limit (applied_to (any_in old) some) file)
 all_leaves d old new Bs (Ok done) commits = puts_leave true d old Bs new commits
 all_leaves d old new Bs (Err fault) commits = stops_leave d old Bs new fault commits
 

@@ -12,7 +12,7 @@ use Rattle.carte_book.specs.Reason.{AllClean, IsClean}
 use Rattle.carte_book.proofs.Clean.{clean_input, clean_nothing}
 use Rattle.carte_record.specs.Kept.{SomeKept}
 use Rattle.carte_table.proofs.Names.{name_eq_self}
-use Rattle.carte_sound.specs.Begun.{AreMarks, begin}
+use Rattle.carte_sound.specs.Begun.{Beginning, IsBeginning, begin}
 use Rattle.carte_sound.specs.Chains.{IsRightChain}
 use Rattle.carte_sound.specs.Held.{How, IsHeld}
 use Rattle.carte_sound.specs.Left.{keys_of}
@@ -133,10 +133,10 @@ gives_few h M b targets w built few straight reckoned = record {
   none = λ right. reckoned.given_up ∙ none_given_up w.runs (straight right);
 }
 
-pub succeeds : (s : Scheduler) (h : How) (K : SomeKept) (b : Book) (targets marks : List (List ℕ)) (w : Work) (built : Built) → AreMarks K b marks → IsServed s b targets
-    → IsWork h (begin K b marks) b (IsDoneBy s h (begin K b marks) b targets) w → IsReckoned b targets w built → StartsBy s h (begin K b marks) b targets built → IsSuccess s h K b targets built
-succeeds s h K b targets marks w built marked served work reckoned starts =
-    let M = begin K b marks in
+pub succeeds : (s : Scheduler) (h : How) (K : SomeKept) (b : Book) (targets : List (List ℕ)) (x : Beginning) (w : Work) (built : Built) → IsBeginning K b x → IsServed s b targets
+    → IsWork h (begin K x) b (IsDoneBy s h (begin K x) b targets) w → IsReckoned b targets w built → StartsBy s h (begin K x) b targets built → IsSuccess s h K b targets built
+succeeds s h K b targets x w built begins served work reckoned starts =
+    let M = begin K x in
     let fs = w.finished in
     let keys = keys_of (finishes_of fs) in
     let done = sorted_list keys in
@@ -146,11 +146,11 @@ succeeds s h K b targets marks w built marked served work reckoned starts =
     record {
       served = served;
       values = subst (AreValues (clean b) targets) (sym reckoned.values) (values_are h M b fs targets each (served_clean s b targets served));
-      marks = marks;
-      marked = marked;
+      begun = x;
+      begins = begins;
       ran = record {
         rising = reckoned.ran.rising;
-        only = λ k there. let x = ran_only h M b fs k work.right (reckoned.ran.only k there) in (work.order.only k x.0, x.1);
+        only = λ k there. let ran = ran_only h M b fs k work.right (reckoned.ran.only k there) in (work.order.only k ran.0, ran.1);
         each = λ k run. reckoned.ran.each k (ran_each h M b fs k work.right (work.order.each k run.0) run.1);
       };
       done = sorted keys;

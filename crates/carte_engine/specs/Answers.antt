@@ -7,13 +7,12 @@ use Rattle.carte_book.specs.Book.{Book, clean}
 use Rattle.carte_book.specs.declared.reason.Reason.{Reason}
 use Rattle.carte_record.specs.declared.batch.Batch.{Batch}
 use Rattle.carte_record.specs.Kept.{SomeKept}
-use Rattle.carte_sound.specs.Base.{HasDistinctDigests}
-use Rattle.carte_sound.specs.Begun.{AreMarks, begin}
+use Rattle.carte_sound.specs.Begun.{Beginning, IsBeginning, begin}
 use Rattle.carte_sound.specs.Chains.{IsRightChain}
 use Rattle.carte_sound.specs.Held.{How}
 use Rattle.carte_sound.specs.Parts.{PartsInOrder, PartsRefused, PartsRestarting, PartsSuspending}
-use Rattle.carte_sound.specs.Sound.{IsSound}
 use Rattle.carte_sound.specs.Treated.{IsDoneRestarting, IsDoneSuspending, IsRun, IsTreated, IsTreatedRestarting}
+use Rattle.carte_state.specs.Versions.{AnyKept}
 use Rattle.carte_rebuild.specs.Ends.{GivesUp, StartsAnew}
 use Rattle.carte_engine.specs.declared.answer.Answer.{Answer}
 use Rattle.carte_engine.specs.declared.answer.Answer.TheVariants as answer
@@ -21,13 +20,18 @@ use Rattle.carte_engine.specs.declared.answer.Built.{Built}
 use Rattle.carte_engine.specs.declared.scheduler.Scheduler.{Scheduler}
 use Rattle.carte_engine.specs.declared.scheduler.Scheduler.TheVariants.{Topological, Restarting, Suspending}
 use Rattle.carte_engine.specs.Schedulers.{IsDoneBy, IsServed, IsRefusedFor}
+use Rattle.carte_engine.specs.Versions.{OverFound, kept_for}
 
--- the batches that a build with such an answer may commit, one after another
-abbrev pub Leads : Scheduler → How → SomeKept → Book → List (List ℕ) → Answer → List Batch → Type 0
-Leads Topological h K b targets (answer.Built built) Bs = PartsInOrder h K b targets Bs
-Leads Topological h K b targets (answer.Refused reason runs) Bs = PartsRefused h K b Bs
-Leads Restarting h K b targets a Bs = PartsRestarting h K b targets Bs
-Leads Suspending h K b targets a Bs = PartsSuspending h K b targets Bs
+-- the batches that a build with such an answer may commit over what it finds, one after another
+abbrev pub LeadsOver : Scheduler → How → Book → List (List ℕ) → Answer → SomeKept → List Batch → Type 0
+LeadsOver Topological h b targets (answer.Built built) K Bs = PartsInOrder h K b targets Bs
+LeadsOver Topological h b targets (answer.Refused reason runs) K Bs = PartsRefused h K b Bs
+LeadsOver Restarting h b targets a K Bs = PartsRestarting h K b targets Bs
+LeadsOver Suspending h b targets a K Bs = PartsSuspending h K b targets Bs
+
+-- and over what is kept, of either version
+abbrev pub Leads : Scheduler → How → AnyKept → Book → List (List ℕ) → Answer → List Batch → Type 0
+Leads s h A b targets a Bs = OverFound (LeadsOver s h b targets a) A b Bs
 
 -- these are the names' values, in their order
 abbrev pub AreValues : Truth → List (List ℕ) → List Value → Type 0
@@ -61,14 +65,14 @@ StartsBy Suspending h M b targets built = HasStarted built.ran built.runs × (bu
 pub record IsSuccess (s : Scheduler) (h : How) (K : SomeKept) (b : Book) (targets : List (List ℕ)) (built : Built) : Type 0 where
   pub served : IsServed s b targets
   pub values : AreValues (clean b) targets built.values
-  pub marks : List (List ℕ)
-  pub marked : AreMarks K b marks
-  pub ran : IsListOf (IsRun h (begin K b marks) b (IsDoneBy s h (begin K b marks) b targets)) built.ran
+  pub begun : Beginning
+  pub begins : IsBeginning K b begun
+  pub ran : IsListOf (IsRun h (begin K begun) b (IsDoneBy s h (begin K begun) b targets)) built.ran
   pub done : List (List ℕ)
-  pub all_done : IsListOf (IsDoneBy s h (begin K b marks) b targets) done
+  pub all_done : IsListOf (IsDoneBy s h (begin K begun) b targets) done
   pub count : length built.ran + built.reused ≡ length done
   pub ended : HasEnded built.ran built.runs
-  pub started : StartsBy s h (begin K b marks) b targets built
+  pub started : StartsBy s h (begin K begun) b targets built
   pub given_up : built.given_up ≡ left_open built.runs
 
 -- which rules of a refused build are done: by order none, since it is refused before any is worked out
@@ -92,11 +96,11 @@ StartsRefused Suspending h M b targets r = StartsOnce (IsTreated h M b targets) 
 -- Some target has no value, for this reason; and in the ledger the tasks of just the rules that are done and not held have ended, each once.
 pub record IsRefusal (s : Scheduler) (h : How) (K : SomeKept) (b : Book) (targets : List (List ℕ)) (reason : Reason) (runs : Ledger) : Type 0 where
   pub refused : IsRefusedFor s b targets reason
-  pub marks : List (List ℕ)
-  pub marked : AreMarks K b marks
+  pub begun : Beginning
+  pub begins : IsBeginning K b begun
   pub once : NoneTwice runs.ends
-  pub ended : (k : List ℕ) → Among runs.ends k ↔ IsRun h (begin K b marks) b (IsDoneRefused s h (begin K b marks) b targets) k
-  pub started : StartsRefused s h (begin K b marks) b targets runs
+  pub ended : (k : List ℕ) → Among runs.ends k ↔ IsRun h (begin K begun) b (IsDoneRefused s h (begin K begun) b targets) k
+  pub started : StartsRefused s h (begin K begun) b targets runs
 
 abbrev pub IsAnswer : Scheduler → How → SomeKept → Book → List (List ℕ) → Answer → Type 0
 IsAnswer s h K b targets (answer.Built built) = IsSuccess s h K b targets built
@@ -106,11 +110,7 @@ IsAnswer s h K b targets (answer.Refused reason runs) = IsRefusal s h K b target
 abbrev pub OnRefusal : Reason → (Answer → Type 0) → Type 0
 OnRefusal reason P = (runs : Ledger) × P (answer.Refused reason runs)
 
--- the answer is right, and the batches are those that it may commit
-pub record IsPlan (s : Scheduler) (h : How) (K : SomeKept) (b : Book) (targets : List (List ℕ)) (Bs : List Batch) (a : Answer) : Type 0 where
-  pub leads : Leads s h K b targets a Bs
-  pub right : IsAnswer s h K b targets a
-
--- whatever history what is kept is sound for
-abbrev pub Under : SomeKept → Book → Type 0 → Type 0
-Under K b P = (H : List Book) → IsSound K H → HasDistinctDigests (H ++ b ∷ []) → P
+-- the answer is right over what the build finds, and the batches are those that it may commit
+pub record IsPlan (s : Scheduler) (h : How) (A : AnyKept) (b : Book) (targets : List (List ℕ)) (Bs : List Batch) (a : Answer) : Type 0 where
+  pub leads : Leads s h A b targets a Bs
+  pub right : IsAnswer s h (kept_for A b) b targets a

@@ -5,13 +5,13 @@ use Rattle.carte_io.specs.Disk.{Story}
 use Rattle.carte_io.specs.Stations.{Step, calls_in}
 use Rattle.carte_journal.specs.Journals.{Standing}
 use Rattle.carte_journal.specs.Regions.{Planned, rewritten}
-use Rattle.carte_record.specs.Kept.{SomeKept}
 use Rattle.carte_record.specs.declared.batch.Batch.{Batch}
 use Rattle.carte_record.specs.Empty.{is_empty}
 use Rattle.carte_state.specs.Applying.{Applies, IsStill}
 use Rattle.carte_state.specs.Around.{OverDisk}
 use Rattle.carte_state.specs.Rewriting.{with_journal}
-use Rattle.carte_state.specs.States.{HasRoom, IsAfter, Stand, kept_in, needs_for, step_for}
+use Rattle.carte_state.specs.States.{HasRoom, IsAfter, Stand, any_in, needs_for, step_for}
+use Rattle.carte_state.specs.Versions.{AnyKept}
 use Rattle.carte_state.specs.declared.fault.ApplyFault.{ApplyFault}
 use Rattle.carte_state.specs.declared.fault.ApplyFault.TheVariants.{DiskFault, Full, NoMemory}
 use Rattle.carte_compact.specs.Due.{is_due}
@@ -51,7 +51,7 @@ Readies first d old B base =
     (IsNotDue first old B × (base ≡ old) × (d.tells → d.new ≡ d.old) × (d.failed ≡ d.failed_before)) ⊎ (IsDue first old B × Rewrites d old base (Ok tt))
 
 -- as steps: none, or one from what is kept to the same
-abbrev pub steps_ready : (first : Bool) (d : OverDisk) (old base : Stand) (B : Batch) → Readies first d old B base → List (Step SomeKept)
+abbrev pub steps_ready : (first : Bool) (d : OverDisk) (old base : Stand) (B : Batch) → Readies first d old B base → List (Step AnyKept)
 steps_ready first d old base B (inl plain) = []
 steps_ready first d old base B (inr turned) = step_again old
 
@@ -84,15 +84,15 @@ abbrev pub Commits : Bool → OverDisk → Stand → Stand → Batch → Result 
 Commits first d old new B result = Follows first d old new B result ⊎ ((fault : ApplyFault) × (result ≡ Err fault) × Unreadied first d old new B fault)
 
 -- as a step: that of the batch, where a call of it was made
-abbrev pub step_begun : Standing → SomeKept → Batch → Result (Unit {0}) ApplyFault → List (Step SomeKept)
+abbrev pub step_begun : Standing → AnyKept → Batch → Result (Unit {0}) ApplyFault → List (Step AnyKept)
 step_begun j K B (Ok done) = step_for j K B
 step_begun j K B (Err DiskFault) = step_for j K B
 step_begun j K B (Err (Full needed limit)) = []
 step_begun j K B (Err NoMemory) = []
 
 -- as steps: that of the rewriting, where one was begun, and that of the batch
-abbrev pub steps_once : (first : Bool) (d : OverDisk) (old new : Stand) (B : Batch) (result : Result (Unit {0}) ApplyFault) → Commits first d old new B result → List (Step SomeKept)
-steps_once first d old new B result (inl f) = steps_ready first (until d f.between) old f.base B f.ready ++ step_begun f.base.journal (kept_in old) B result
+abbrev pub steps_once : (first : Bool) (d : OverDisk) (old new : Stand) (B : Batch) (result : Result (Unit {0}) ApplyFault) → Commits first d old new B result → List (Step AnyKept)
+steps_once first d old new B result (inl f) = steps_ready first (until d f.between) old f.base B f.ready ++ step_begun f.base.journal (any_in old) B result
 steps_once first d old new B result (inr (fault, is, inl breaks)) = step_again old
 steps_once first d old new B result (inr (fault, is, inr lacks)) = []
 
@@ -103,7 +103,7 @@ abbrev pub PutsAll : Bool → OverDisk → Stand → List Batch → Stand → Ty
 PutsAll first d old [] new = (new ≡ old) × (d.new ≡ d.old) × (d.failed ≡ d.failed_before)
 PutsAll first d old (B ∷ Bs) new = (mid : Stand) × (between : Story) × Commits first (until d between) old mid B (Ok tt) × PutsAll false (behind d between) mid Bs new
 
-abbrev pub steps_put : (first : Bool) (d : OverDisk) (old : Stand) (Bs : List Batch) (new : Stand) → PutsAll first d old Bs new → List (Step SomeKept)
+abbrev pub steps_put : (first : Bool) (d : OverDisk) (old : Stand) (Bs : List Batch) (new : Stand) → PutsAll first d old Bs new → List (Step AnyKept)
 steps_put first d old [] new none = []
 steps_put first d old (B ∷ Bs) new (mid, between, commits, puts) =
     steps_once first (until d between) old mid B (Ok tt) commits ++ steps_put false (behind d between) mid Bs new puts
@@ -124,7 +124,7 @@ pub record StopsAt (d : OverDisk) (old : Stand) (Bs : List Batch) (new : Stand) 
   pub puts : PutsAll true (until d between) old front mid
   pub stops : Commits (is_first front) (behind d between) mid new batch (Err fault)
 
-abbrev pub steps_stopped : (d : OverDisk) (old : Stand) (Bs : List Batch) (new : Stand) (fault : ApplyFault) → StopsAt d old Bs new fault → List (Step SomeKept)
+abbrev pub steps_stopped : (d : OverDisk) (old : Stand) (Bs : List Batch) (new : Stand) (fault : ApplyFault) → StopsAt d old Bs new fault → List (Step AnyKept)
 steps_stopped d old Bs new fault s =
     steps_put true (until d s.between) old s.front s.mid s.puts ++ steps_once (is_first s.front) (behind d s.between) s.mid new s.batch (Err fault) s.stops
 
@@ -133,12 +133,12 @@ abbrev pub CommitsAll : OverDisk → Stand → Stand → List Batch → Result (
 CommitsAll d old new Bs (Ok done) = PutsAll true d old Bs new
 CommitsAll d old new Bs (Err fault) = StopsAt d old Bs new fault
 
-abbrev pub steps_all : (d : OverDisk) (old new : Stand) (Bs : List Batch) (result : Result (Unit {0}) ApplyFault) → CommitsAll d old new Bs result → List (Step SomeKept)
+abbrev pub steps_all : (d : OverDisk) (old new : Stand) (Bs : List Batch) (result : Result (Unit {0}) ApplyFault) → CommitsAll d old new Bs result → List (Step AnyKept)
 steps_all d old new Bs (Ok done) puts = steps_put true d old Bs new puts
 steps_all d old new Bs (Err fault) stops = steps_stopped d old Bs new fault stops
 
 -- how many calls have passed: those of all steps; or, where the disk failed, fewer, and no fewer than those of the batches in front, behind which that was the story
-abbrev pub HasPassed : OverDisk → Story → List (Step SomeKept) → ApplyFault → Type 0
+abbrev pub HasPassed : OverDisk → Story → List (Step AnyKept) → ApplyFault → Type 0
 HasPassed d between steps DiskFault = (between.now.passed ≤ d.new.now.passed) × (d.new.now.passed < d.old.now.passed + calls_in steps)
 HasPassed d between steps (Full needed limit) = d.new.now.passed ≡ d.old.now.passed + calls_in steps
 HasPassed d between steps NoMemory = d.new.now.passed ≡ d.old.now.passed + calls_in steps

@@ -1,14 +1,14 @@
 -- Builds one after another over one state, each committed whole, or in part where a crash cut it off.
 use Rattle.std.specs.Prelude.{ℕ, List, [], ◌∷◌, ◌++◌, take}
 use Rattle.carte_book.specs.Book.{Book}
-use Rattle.carte_record.specs.Kept.{SomeKept, nothing_kept}
 use Rattle.carte_sound.specs.Base.{HasDistinctDigests}
 use Rattle.carte_sound.specs.Held.{How}
-use Rattle.carte_sound.specs.Parts.{applied}
-use Rattle.carte_sound.specs.Sound.{IsSound}
+use Rattle.carte_state.specs.Runs.{applied_to}
+use Rattle.carte_state.specs.Versions.{AnyKept}
 use Rattle.carte_engine.specs.declared.answer.Plan.{Plan}
 use Rattle.carte_engine.specs.declared.scheduler.Scheduler.{Scheduler}
-use Rattle.carte_engine.specs.Answers.{IsPlan, Under}
+use Rattle.carte_engine.specs.Answers.{IsPlan}
+use Rattle.carte_engine.specs.Versions.{IsSoundAny, Under}
 
 -- a build, and how many of its batches were committed, from the first one on: of each all, or none
 pub record Run : Type 0 where
@@ -24,27 +24,27 @@ books_of [] = []
 books_of (run ∷ runs) = run.book ∷ books_of runs
 
 -- what is kept behind it
-abbrev pub kept_behind : SomeKept → Run → SomeKept
-kept_behind K run = applied K (take run.committed run.plan.batches.items)
+abbrev pub kept_behind : AnyKept → Run → AnyKept
+kept_behind A run = applied_to A (take run.committed run.plan.batches.items)
 
-abbrev pub kept_after : SomeKept → List Run → SomeKept
-kept_after K [] = K
-kept_after K (run ∷ runs) = kept_after (kept_behind K run) runs
+abbrev pub kept_after : AnyKept → List Run → AnyKept
+kept_after A [] = A
+kept_after A (run ∷ runs) = kept_after (kept_behind A run) runs
 
 -- the plan is one for what is kept, whatever history that is sound for, as the call that made it promises
-abbrev pub IsPlanned : SomeKept → Run → Type 0
-IsPlanned K run = Under K run.book (IsPlan run.scheduler run.how K run.book run.targets run.plan.batches.items run.plan.answer)
+abbrev pub IsPlanned : AnyKept → Run → Type 0
+IsPlanned A run = Under A run.book (IsPlan run.scheduler run.how A run.book run.targets run.plan.batches.items run.plan.answer)
 
-abbrev pub AreRuns : SomeKept → List Run → Type 0
-AreRuns K [] = Unit {0}
-AreRuns K (run ∷ runs) = IsPlanned K run × AreRuns (kept_behind K run) runs
+abbrev pub AreRuns : AnyKept → List Run → Type 0
+AreRuns A [] = Unit {0}
+AreRuns A (run ∷ runs) = IsPlanned A run × AreRuns (kept_behind A run) runs
 
 -- the plan of the first of them is right over what is kept
-abbrev pub IsRightNext : SomeKept → List Run → Type 0
-IsRightNext K [] = Unit {0}
-IsRightNext K (run ∷ runs) = IsPlan run.scheduler run.how K run.book run.targets run.plan.batches.items run.plan.answer
+abbrev pub IsRightNext : AnyKept → List Run → Type 0
+IsRightNext A [] = Unit {0}
+IsRightNext A (run ∷ runs) = IsPlan run.scheduler run.how A run.book run.targets run.plan.batches.items run.plan.answer
 
--- from nothing kept on, behind each run, what is kept is sound for the books so far, and the next answer is right
+-- from what is kept, of either version and sound for the books before, behind each run what is kept is sound for the books so far, and the next answer is right
 abbrev pub HistoryIsRight : Type 0
-HistoryIsRight = (before after : List Run) → AreRuns nothing_kept (before ++ after) → HasDistinctDigests (books_of (before ++ after))
-    → IsSound (kept_after nothing_kept before) (books_of before) × IsRightNext (kept_after nothing_kept before) after
+HistoryIsRight = (A : AnyKept) (H : List Book) (before after : List Run) → IsSoundAny A H → AreRuns A (before ++ after) → HasDistinctDigests (H ++ books_of (before ++ after))
+    → IsSoundAny (kept_after A before) (H ++ books_of before) × IsRightNext (kept_after A before) after

@@ -1,8 +1,10 @@
+pub mod Versions
 pub mod Schedulers
 pub mod Answers
 pub mod Building
 pub mod Clearing
 pub mod Committing
+pub mod Working
 pub mod Reckoned
 pub mod Histories
 pub mod Faults

@@ -7,15 +7,15 @@ use Rattle.carte_rebuild.specs.Ends.{IsWork, NothingGivenUp}
 use Rattle.carte_rebuild.specs.declared.work.Work.{Work}
 use Rattle.carte_rebuild.specs.declared.work.WorkEnd.{WorkEnd}
 use Rattle.carte_rebuild.specs.declared.work.WorkEnd.TheVariants.{All, Refused}
-use Rattle.carte_sound.specs.Begun.{AreMarks, begin}
+use Rattle.carte_sound.specs.Begun.{Beginning, IsBeginning, begin}
 use Rattle.carte_sound.specs.Held.{How}
 use Rattle.carte_sound.specs.Treated.{IsDoneSuspending}
 
 -- the work of a build that lets keys wait for what they need, where each target has a value
 pub record IsPreview (h : How) (K : SomeKept) (b : Book) (targets : List (List ℕ)) (w : Work) : Type 0 where
-  pub marks : List (List ℕ)
-  pub marked : AreMarks K b marks
-  pub work : IsWork h (begin K b marks) b (IsDoneSuspending h (begin K b marks) b targets) w
+  pub begun : Beginning
+  pub begins : IsBeginning K b begun
+  pub work : IsWork h (begin K begun) b (IsDoneSuspending h (begin K begun) b targets) w
   pub none_given_up : NothingGivenUp w
   pub clean : AllClean b targets
 

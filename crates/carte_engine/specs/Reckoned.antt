@@ -14,7 +14,7 @@ use Rattle.carte_record.specs.Kept.{SomeKept}
 use Rattle.carte_rebuild.specs.declared.work.Work.{Work}
 use Rattle.carte_rebuild.specs.declared.work.WorkEnd.{WorkEnd}
 use Rattle.carte_rebuild.specs.Ends.{EndsInOrder, EndsRestarting, EndsSuspending, IsNewChain}
-use Rattle.carte_sound.specs.Begun.{begin}
+use Rattle.carte_sound.specs.Begun.{Beginning, begin}
 use Rattle.carte_sound.specs.Held.{How}
 use Rattle.carte_sound.specs.Parts.{PartsRestarting}
 use Rattle.carte_sound.specs.Treated.{IsDoneRestarting}
@@ -52,6 +52,6 @@ pub record IsReckoned (b : Book) (targets : List (List ℕ)) (w : Work) (built :
   pub runs : built.runs ≡ w.runs
 
 -- The batches of work that was done over M: those of its finished keys, part by part, and with the new chain in the last where the work has one.
-pub record AreBatchesOf (h : How) (K M : SomeKept) (b : Book) (marks : List (List ℕ)) (w : Work) (Bs : List Batch) : Type 0 where
-  pub plain : w.chain ≡ None → PlansParts h K b marks w.finished Bs
-  pub chained : (targets : List (List ℕ)) → IsNewChain M w → IsBuilt h K b marks (IsDoneRestarting h (begin K b marks) b targets) w.finished → PartsRestarting h K b targets Bs
+pub record AreBatchesOf (h : How) (K M : SomeKept) (b : Book) (x : Beginning) (w : Work) (Bs : List Batch) : Type 0 where
+  pub plain : w.chain ≡ None → PlansParts h K b x w.finished Bs
+  pub chained : (targets : List (List ℕ)) → IsNewChain M w → IsBuilt h K b x (IsDoneRestarting h (begin K x) b targets) w.finished → PartsRestarting h K b targets Bs

@@ -7,7 +7,7 @@ use Rattle.carte_book.specs.Reason.{AllClean, IsReason}
 use Rattle.carte_book.specs.declared.reason.Reason.{Reason}
 use Rattle.carte_record.specs.Kept.{SomeKept}
 use Rattle.carte_record.specs.declared.way.Way.TheVariants.{Verifying, Constructive, Deep}
-use Rattle.carte_sound.specs.Begun.{AreMarks, begin}
+use Rattle.carte_sound.specs.Begun.{Beginning, IsBeginning, begin}
 use Rattle.carte_sound.specs.Held.{How, dirty, tracing}
 use Rattle.carte_sound.specs.Results.{IsKeptNow}
 use Rattle.carte_sound.specs.Treated.{IsDoneInOrder, IsDoneRestarting, IsDoneSuspending}
@@ -42,7 +42,7 @@ KeepsReached L b targets = (k : List ℕ) → Reaches b targets k → IsRule b k
 
 -- each rule that is done over what a build of K begins with
 abbrev pub KeepsDone : Scheduler → How → SomeKept → SomeKept → Book → List (List ℕ) → Type 0
-KeepsDone s h K L b targets = (marks : List (List ℕ)) → AreMarks K b marks → (k : List ℕ) → IsDoneBy s h (begin K b marks) b targets k → IsKeptNow L b k
+KeepsDone s h K L b targets = (x : Beginning) → IsBeginning K b x → (k : List ℕ) → IsDoneBy s h (begin K x) b targets k → IsKeptNow L b k
 
 -- What a build that was served keeps: all that is reached, but where deep traces leave what lies beneath a held key alone; there all that is done.
 abbrev pub KeepsBy : Scheduler → How → SomeKept → SomeKept → Book → List (List ℕ) → Type 0

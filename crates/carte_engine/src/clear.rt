@@ -1,22 +1,26 @@
 // The batch that empties a state.
-ghost use Rattle.std.specs.Prelude.{◌≡◌, ◌&&◌, ◌==◌, is_none, length};
-ghost use Rattle.carte_engine.specs.Clearing.{clearing, is_bare};
+ghost use Rattle.std.specs.Prelude.{◌≡◌, ◌&&◌, ◌==◌, length};
+ghost use Rattle.carte_engine.specs.Clearing.{clearing, is_bare, keeps_nothing};
 
 use carte_record::{Batch, Kept, Start};
 use carte_state::State;
 use std::alloc::Global;
 
-/// An empty batch where nothing is kept. Lists are looked at one by one: no build leaves an item without rules, but what a
-/// file keeps may be of another origin.
+/// An empty batch where nothing is kept, of either version.
 pub(crate) fn clearing(alloc: Global, state: &State) -> Batch
     ensures { result ≡ clearing state.now }
 {
-    let kept = state.kept();
-    let mut batch = Batch::new(alloc, kept.hasher());
-    if !is_bare(kept) {
+    let mut batch = Batch::new(alloc, state.kept().hasher());
+    if !keeps_nothing(state) {
         batch.start = Start::Cleared;
     }
     batch
+}
+
+fn keeps_nothing(state: &State) -> bool
+    ensures { result ≡ keeps_nothing state.now }
+{
+    !state.is_old() && is_bare(state.kept())
 }
 
 fn is_bare(kept: &Kept) -> bool
@@ -26,10 +30,9 @@ fn is_bare(kept: &Kept) -> bool
 }
 
 fn has_no_entry(kept: &Kept) -> bool
-    ensures { result ≡ ((is_none kept.now.rules && length kept.now.chain == 0) && (length kept.now.seen == 0 && length kept.now.entries == 0)) }
+    ensures { result ≡ (length kept.now.chain == 0 && (length kept.now.seen == 0 && length kept.now.entries == 0)) }
 {
-    (kept.rules.is_none() && kept.chain.is_empty())
-        && (kept.seen.is_empty() && kept.entries.is_empty())
+    kept.chain.is_empty() && (kept.seen.is_empty() && kept.entries.is_empty())
 }
 
 fn has_no_trace(kept: &Kept) -> bool

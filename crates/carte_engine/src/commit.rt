@@ -4,8 +4,9 @@ ghost use Rattle.carte_codec.specs.Each.{EachFits};
 ghost use Rattle.carte_record.specs.Bodies.{IsUnmarked};
 ghost use Rattle.carte_record.specs.Kept.{nothing_kept};
 ghost use Rattle.carte_state.specs.Around.{over_disk};
-ghost use Rattle.carte_state.specs.Runs.{AreUnmarked};
-ghost use Rattle.carte_state.specs.States.{kept_in};
+ghost use Rattle.carte_state.specs.Runs.{AreUnmarked, BeginAll};
+ghost use Rattle.carte_state.specs.States.{any_in};
+ghost use Rattle.carte_state.specs.Versions.{Begins, InTwo};
 ghost use Rattle.carte_engine.specs.Clearing.{clearing};
 ghost use Rattle.carte_engine.specs.Committing.{Commits, CommitsAll, Readies, Unreadied};
 
@@ -23,7 +24,7 @@ impl Engine {
     /// first one the file is rewritten with what is live, where that is possible and the file is large beside it or has no
     /// room for the batch; before a later one only where it has no room. So a state doesn't grow without end, and is full
     /// only where a rewriting doesn't help. An empty batch makes no call. A rewriting that was made stands, and keeps the
-    /// same.
+    /// same. What is kept of version 1 isn't rewritten, and the first batch has to clear it, as that of a plan does.
     pub fn commit<D: Disk>(
         &mut self,
         alloc: Global,
@@ -32,6 +33,7 @@ impl Engine {
     ) -> Result<(), ApplyFault>
         requires whole { self.old.journal.broken ≡ false }
         requires unmarked { AreUnmarked batches.items }
+        requires begins { BeginAll (any_in self.old) batches.items }
         ensures { CommitsAll (over_disk D.tells D.story D.faults disk.old disk.new) self.old self.new batches.items result }
     {
         let mut first = true;
@@ -42,10 +44,11 @@ impl Engine {
         Ok(())
     }
 
-    /// Empties the state: commits a batch that clears it, or nothing where nothing is kept.
+    /// Empties the state: commits a batch that clears it, or nothing where nothing is kept. A state of version 1 becomes one
+    /// of version 2 by it.
     pub fn clean<D: Disk>(&mut self, alloc: Global, disk: &mut D) -> Result<(), ApplyFault>
         requires whole { self.old.journal.broken ≡ false }
-        ensures cleaned { OnOk result (kept_in self.new ≡ nothing_kept) }
+        ensures cleaned { OnOk result (any_in self.new ≡ InTwo nothing_kept) }
         ensures commits { CommitsAll (over_disk D.tells D.story D.faults disk.old disk.new) self.old self.new (clearing self.old ∷ []) result }
     {
         let batch = clearing(alloc, &self.state);
@@ -62,13 +65,14 @@ impl Engine {
     ) -> Result<(), ApplyFault>
         requires whole { self.old.journal.broken ≡ false }
         requires unmarked { EachFits IsUnmarked batch.entries }
+        requires begins { Begins (any_in self.old) batch }
         ensures { Commits first (over_disk D.tells D.story D.faults disk.old disk.new) self.old self.new batch result }
     {
         self.make_ready(alloc, disk, &batch, first)?;
         self.state.apply(alloc, disk, batch)
     }
 
-    // Rewrites the file, where that is due before this batch.
+    // Rewrites the file, where that is due before this batch. It isn't where what is kept is of version 1.
     fn make_ready<D: Disk>(
         &mut self,
         alloc: Global,
@@ -82,6 +86,9 @@ impl Engine {
             (λ fault. Unreadied first (over_disk D.tells D.story D.faults disk.old disk.new) self.old self.new batch.now fault) }
         ensures whole { OnOk result (self.new.journal.broken ≡ false) }
     {
+        if self.state.is_old() {
+            return Ok(());
+        }
         if !is_due(alloc, &self.state, batch, first)? {
             return Ok(());
         }

@@ -1,22 +1,22 @@
-ghost use Rattle.std.specs.Prelude.{◌≡◌, ◌<◌, ◌^◌, ℕ, List, false, IfOk, Err};
-ghost use Rattle.carte_state.specs.Around.{over_disk};
+ghost use Rattle.std.specs.Prelude.{◌≡◌, ◌<◌, ◌^◌, ℕ, false, is_some, IfOk, Err};
 ghost use Rattle.carte_io.specs.Causes.{HasCauseOf};
-ghost use Rattle.carte_book.specs.Book.{Book as SomeBook, book_view};
-ghost use Rattle.carte_book.specs.Digest.{rules_digest_of};
+ghost use Rattle.carte_book.specs.Book.{book_view};
+ghost use Rattle.carte_record.specs.Kept.{kept_view};
 ghost use Rattle.carte_state.specs.Folding.{IsBadState};
-ghost use Rattle.carte_state.specs.Runs.{AreUnmarked};
-ghost use Rattle.carte_state.specs.States.{IsLoaded, kept_in};
-ghost use Rattle.carte_engine.specs.Answers.{IsPlan, Under};
+ghost use Rattle.carte_state.specs.Runs.{AreUnmarked, BeginAll};
+ghost use Rattle.carte_state.specs.States.{IsLoaded, any_in, kept_in};
+ghost use Rattle.carte_engine.specs.Answers.{IsPlan};
+ghost use Rattle.carte_engine.specs.Versions.{Under, kept_for, kept_or};
 
-use crate::planned::plan_over;
+use crate::basis::{begin_on, raised};
+use crate::planned::{plan_over, raising};
 use crate::{Plan, Scheduler};
 use carte_book::Book;
 use carte_io::Disk;
-use carte_mark::begin;
 use carte_rebuild::Rebuilder;
 use carte_record::Kept;
 use carte_state::{LoadFault, State};
-use carte_value::{Digest, Names, NoMemory, Seeded, Value};
+use carte_value::{Names, NoMemory, Seeded};
 use carte_wave::Gate;
 use std::alloc::Global;
 use std::marker::{Model, Sync};
@@ -79,11 +79,39 @@ impl Engine {
         Ok(Engine { state })
     }
 
-    /// What is kept.
+    /// What is kept; of version 1 nothing, until a commit makes version 2 of it.
     pub fn kept(&self) -> &Kept
         ensures { result.now ≡ self.now.kept }
     {
         self.state.kept()
+    }
+
+    /// Whether what is kept is of version 1. Then a build asks for the digest of the book's rules, which the book should
+    /// know, as under deep traces.
+    pub fn is_old(&self) -> bool
+        ensures { result ≡ is_some self.now.one }
+    {
+        self.state.is_old()
+    }
+
+    /// What a build of the book finds to be kept, as a second one: what became of it by the book's rules, where it is of
+    /// version 1. It copies all that is kept: whoever only looks takes `raised`, and else `kept`.
+    pub fn kept_for(&self, alloc: Global, book: &Book) -> Result<Kept, NoMemory>
+        ensures { IfOk result (λ kept. kept_view kept ≡ kept_for (any_in self.now) (book_view book.now)) }
+    {
+        match self.raised(alloc, book)? {
+            Some(kept) => Ok(kept),
+            None => self.kept().copy(alloc),
+        }
+    }
+
+    /// What becomes of what is kept of version 1 by the book's rules. None just where it is of version 2, and there what a
+    /// build finds is `kept`.
+    pub fn raised(&self, alloc: Global, book: &Book) -> Result<Option<Kept>, NoMemory>
+        ensures finds { IfOk result (λ made. kept_or (kept_in self.now) made ≡ kept_for (any_in self.now) (book_view book.now)) }
+        ensures old { IfOk result (λ made. is_some made ≡ is_some self.now.one) }
+    {
+        raised(alloc, &self.state, book)
     }
 
     /// Whether a commit met a fault of the disk. What the file keeps is then not known, and it has to be loaded again.
@@ -94,7 +122,11 @@ impl Engine {
     }
 
     /// Works out a build of the targets: what it answers, and the batches that it brings to the state. Nothing is changed,
-    /// and no call of a disk is made. What is known of it holds where what is kept is sound, for whatever history.
+    /// and no call of a disk is made. What is known of it holds where what is kept is sound, for whatever history. Where
+    /// that is of version 1, the first batch makes version 2 of it, and the build is worked out over what that leaves.
+    ///
+    /// Under deep traces, and over a state of version 1, the digest of the book's rules is asked for, so whoever builds lets
+    /// the book know it first (`Book::know_digest`): else each key works it out.
     ///
     /// Where rules wait for what they need, several workers drive side by side those that can go on, and `gate` is passed
     /// by each of them. No clause names them: what is told is told for any number. Other schedulers take no notice of them.
@@ -111,57 +143,24 @@ impl Engine {
     ) -> Result<Plan, NoMemory>
         ensures kept { self.new ≡ self.old }
         ensures unmarked { IfOk result (λ p. AreUnmarked p.batches.items) }
-        ensures plans { Under (kept_in self.old) (book_view book.now)
-            (IfOk result (λ p. IsPlan scheduler (R.how rebuilder.now) (kept_in self.old) (book_view book.now) targets.now p.batches.items p.answer)) }
+        ensures begins { IfOk result (λ p. BeginAll (any_in self.old) p.batches.items) }
+        ensures plans { Under (any_in self.old) (book_view book.now)
+            (IfOk result (λ p. IsPlan scheduler (R.how rebuilder.now) (any_in self.old) (book_view book.now) targets.now p.batches.items p.answer)) }
     {
-        let rules = book.rules_digest(alloc)?;
-        self.plan_under(
-            rt, alloc, book, &rules, rebuilder, scheduler, workers, targets, gate,
-        )
-    }
-
-    /// The same for whoever has the digest of the book's rules. It is worked out over all rules, and no input changes it.
-    pub fn plan_under<R: Rebuilder, G: Gate, T: Threads + Sync>(
-        &mut self,
-        rt: &T,
-        alloc: Global,
-        book: &Book,
-        rules: &Digest,
-        rebuilder: &R,
-        scheduler: Scheduler,
-        workers: usize,
-        targets: &Names,
-        gate: &G,
-    ) -> Result<Plan, NoMemory>
-        requires { rules.now ≡ rules_digest_of (book_view book.now) }
-        ensures kept { self.new ≡ self.old }
-        ensures unmarked { IfOk result (λ p. AreUnmarked p.batches.items) }
-        ensures plans { Under (kept_in self.old) (book_view book.now)
-            (IfOk result (λ p. IsPlan scheduler (R.how rebuilder.now) (kept_in self.old) (book_view book.now) targets.now p.batches.items p.answer)) }
-    {
-        let begun = begin(alloc, self.state.kept(), book, rules)?;
-        if !begun.same {
-            let nothing = Kept::empty(alloc, book.hasher());
-            return plan_over(
-                rt, alloc, rebuilder, &begun, &nothing, *rules, book, scheduler, workers, targets,
-                gate,
-            );
-        }
-        self.state.mark(&begun.marks);
+        let basis = begin_on(alloc, &mut self.state, book)?;
         let plan = plan_over(
             rt,
             alloc,
             rebuilder,
-            &begun,
-            self.state.kept(),
-            *rules,
+            &basis.begun,
+            basis.base(&self.state),
             book,
             scheduler,
             workers,
             targets,
             gate,
         );
-        self.state.unmark(&begun.marks);
-        plan
+        basis.leave(&mut self.state);
+        raising(alloc, &self.state, book, plan?)
     }
 }

@@ -1,12 +1,18 @@
 // From the end of a build to its plan.
-ghost use Rattle.std.specs.Prelude.{◌≡◌, IfOk};
+ghost use Rattle.std.specs.Prelude.{◌≡◌, ◌∷◌, IfOk};
 ghost use Rattle.carte_book.specs.Book.{book_view};
-ghost use Rattle.carte_book.specs.Digest.{rules_digest_of};
-ghost use Rattle.carte_mark.specs.Bases.{BeginsWith};
+ghost use Rattle.carte_codec.specs.Each.{EachFits};
+ghost use Rattle.carte_mark.specs.Bases.{BeginsWith, beginning_of};
+ghost use Rattle.carte_record.specs.Bodies.{IsUnmarked};
 ghost use Rattle.carte_record.specs.Kept.{SomeKept, kept_view};
+ghost use Rattle.carte_record.specs.declared.batch.Batch.{Batch as SomeBatch};
+ghost use Rattle.carte_record_one.specs.Kept.{kept_one_view};
 ghost use Rattle.carte_state.specs.Runs.{AreUnmarked};
+ghost use Rattle.carte_state.specs.States.{any_in};
+ghost use Rattle.carte_state.specs.Versions.{InTwo};
 ghost use Rattle.carte_engine.specs.declared.scheduler.Scheduler.{Scheduler as SomeScheduler};
-ghost use Rattle.carte_engine.specs.Answers.{IsPlan, Under};
+ghost use Rattle.carte_engine.specs.Answers.{IsPlan};
+ghost use Rattle.carte_engine.specs.Versions.{IsUp, Raises, Under};
 ghost use Rattle.carte_plan.specs.Cuts.{AllUnmarked};
 ghost use Rattle.carte_engine.specs.Reckoned.{EndsBy, AreBatchesOf};
 
@@ -14,38 +20,39 @@ use crate::reckon::reckon;
 use crate::{Answer, Plan, Scheduler};
 use carte_book::Book;
 use carte_mark::Begun;
+use carte_migrate::up;
 use carte_plan::{plan_parts, plan_parts_chained};
 use carte_rebuild::{Rebuilder, Work, WorkEnd};
 use carte_record::{Batch, Kept};
-use carte_value::{Digest, Names, NoMemory};
+use carte_record_one::KeptOne;
+use carte_state::State;
+use carte_value::{Names, NoMemory};
 use carte_wave::Gate;
 use std::alloc::Global;
 use std::marker::Sync;
 use std::thread::Threads;
 
-/// The plan of a build that begins so, over what it begins with. `rules` is the digest of the book's rules.
+/// The plan of a build that begins so, over what it begins with.
 pub(crate) fn plan_over<R: Rebuilder, G: Gate, T: Threads + Sync>(
     rt: &T,
     alloc: Global,
     rebuilder: &R,
     begun: &Begun,
     base: &Kept,
-    rules: Digest,
     book: &Book,
     scheduler: Scheduler,
     workers: usize,
     targets: &Names,
     gate: &G,
 ) -> Result<Plan, NoMemory>
-    requires { rules ≡ rules_digest_of (book_view book.now) }
     ensures unmarked { IfOk result (λ p. AreUnmarked p.batches.items) }
     ensures plans { let h = R.how rebuilder.now in let b = book_view book.now in (K : SomeKept) → BeginsWith K b begun.now (kept_view base.now)
-        → Under K b (IfOk result (λ p. IsPlan scheduler h K b targets.now p.batches.items p.answer)) }
+        → Under (InTwo K) b (IfOk result (λ p. IsPlan scheduler h (InTwo K) b targets.now p.batches.items p.answer)) }
 {
     let end = run(
         rt, alloc, rebuilder, base, book, scheduler, workers, targets, gate,
     )?;
-    planned(alloc, rebuilder, begun, base, rules, book, targets, end)
+    planned(alloc, rebuilder, begun, base, book, targets, end)
 }
 
 // The build that the scheduler makes. Where one that suspends has several workers, it goes in waves.
@@ -78,19 +85,17 @@ fn planned<R: Rebuilder>(
     rebuilder: &R,
     begun: &Begun,
     base: &Kept,
-    rules: Digest,
     book: &Book,
     targets: &Names,
     end: WorkEnd,
 ) -> Result<Plan, NoMemory>
-    requires { rules ≡ rules_digest_of (book_view book.now) }
     ensures unmarked { IfOk result (λ p. AreUnmarked p.batches.items) }
     ensures plans { let h = R.how rebuilder.now in let b = book_view book.now in (s : SomeScheduler) (K : SomeKept) → BeginsWith K b begun.now (kept_view base.now)
-        → EndsBy s h (kept_view base.now) b targets.now end → Under K b (IfOk result (λ p. IsPlan s h K b targets.now p.batches.items p.answer)) }
+        → EndsBy s h (kept_view base.now) b targets.now end → Under (InTwo K) b (IfOk result (λ p. IsPlan s h (InTwo K) b targets.now p.batches.items p.answer)) }
 {
     match end {
         WorkEnd::All(work) => {
-            let batches = batches_of(alloc, rebuilder, begun, base, rules, book, &work)?;
+            let batches = batches_of(alloc, rebuilder, begun, base, book, &work)?;
             let built = reckon(alloc, book, targets, work)?;
             Ok(Plan {
                 batches,
@@ -98,7 +103,7 @@ fn planned<R: Rebuilder>(
             })
         }
         WorkEnd::Refused(work, reason) => {
-            let batches = batches_of(alloc, rebuilder, begun, base, rules, book, &work)?;
+            let batches = batches_of(alloc, rebuilder, begun, base, book, &work)?;
             Ok(Plan {
                 batches,
                 answer: Answer::Refused(reason, work.runs),
@@ -113,20 +118,45 @@ fn batches_of<R: Rebuilder>(
     rebuilder: &R,
     begun: &Begun,
     base: &Kept,
-    rules: Digest,
     book: &Book,
     work: &Work,
 ) -> Result<Vec<Batch>, NoMemory>
-    requires { rules ≡ rules_digest_of (book_view book.now) }
     ensures unmarked { IfOk result (λ batches. AllUnmarked batches.items) }
     ensures brings { let h = R.how rebuilder.now in let b = book_view book.now in let M = kept_view base.now in (K : SomeKept) → BeginsWith K b begun.now M
-        → IfOk result (λ batches. AreBatchesOf h K M b begun.now.marks work.now batches.items) }
+        → IfOk result (λ batches. AreBatchesOf h K M b (beginning_of begun.now) work.now batches.items) }
 {
     let finished = &work.finished;
     match &work.chain {
-        Some(chain) => {
-            plan_parts_chained(alloc, rebuilder, begun, base, rules, book, finished, chain)
-        }
-        None => plan_parts(alloc, rebuilder, begun, base, rules, book, finished),
+        Some(chain) => plan_parts_chained(alloc, rebuilder, begun, base, book, finished, chain),
+        None => plan_parts(alloc, rebuilder, begun, base, book, finished),
     }
+}
+
+/// The plan of a build over what is kept, from that over what the build finds: of version 1 the batch that makes version 2
+/// of it comes first.
+pub(crate) fn raising(
+    alloc: Global,
+    state: &State,
+    book: &Book,
+    plan: Plan,
+) -> Result<Plan, NoMemory>
+    ensures raises { IfOk result (Raises (any_in state.now) (book_view book.now) plan) }
+    ensures unmarked { AreUnmarked plan.batches.items → IfOk result (λ raised. AreUnmarked raised.batches.items) }
+{
+    match state.old() {
+        Some(old) => behind_up(alloc, old, book, plan),
+        None => Ok(plan),
+    }
+}
+
+fn behind_up(alloc: Global, old: &KeptOne, book: &Book, plan: Plan) -> Result<Plan, NoMemory>
+    ensures raises { IfOk result (λ raised. (raised.answer ≡ plan.answer)
+        × ((first : SomeBatch) × IsUp (kept_one_view old.now) (book_view book.now) first × EachFits IsUnmarked first.entries × (raised.batches.items ≡ first ∷ plan.batches.items))) }
+{
+    let Plan {
+        mut batches,
+        answer,
+    } = plan;
+    batches.insert(0, up(alloc, old, book)?)?;
+    Ok(Plan { batches, answer })
 }

@@ -1,12 +1,11 @@
 -- The first link of a trace that differs names a need of the key.
-use Rattle.std.proofs.Common.{◌≡◌, ℕ, List, [], ◌∷◌, ◌++◌, Option, Some, None, refl, ap, sym, ◌∙◌, subst, inl, inr}
+use Rattle.std.proofs.Common.{◌≡◌, ℕ, List, [], ◌∷◌, ◌++◌, Option, Some, refl, ap, sym, ◌∙◌, subst, inl, inr}
 use Rattle.carte_value.specs.declared.digest.Digest.{Digest}
 use Rattle.carte_value.specs.declared.link.Link.{Link}
 use Rattle.carte_value.specs.declared.value.Value.{Value}
 use Rattle.carte_value.specs.Spelling.{digest_of}
 use Rattle.carte_value.specs.Truths.{Truth, Among}
 use Rattle.carte_value.specs.Asks.{asked, firsts}
-use Rattle.carte_value.specs.Lists.{Has}
 use Rattle.carte_value.proofs.Firsts.{firsts_among}
 use Rattle.carte_value.proofs.Members.{among_left, among_right}
 use Rattle.carte_tree.specs.Tree.{Tree}
@@ -16,13 +15,13 @@ use Rattle.carte_book.specs.Needs.{needs}
 use Rattle.carte_record.specs.declared.trace.Trace.{Trace}
 use Rattle.carte_record.specs.declared.way.Way.{Way}
 use Rattle.carte_record.specs.Kept.{SomeKept}
-use Rattle.carte_sound.specs.True.{digest_or, links_to, linked}
+use Rattle.carte_sound.specs.True.{digest_or, links_to, or_none, wanted_task}
 use Rattle.carte_sound.specs.Sound.{IsTraceOfSome}
 use Rattle.carte_sound.specs.Base.{IsBase}
 use Rattle.carte_sound.specs.Held.{AreLinks, clean_digest}
-use Rattle.carte_sound.proofs.Held.{needs_rule, need_has_value, same_rules, digest_value}
+use Rattle.carte_sound.proofs.Held.{needs_rule, need_has_value, same_rule, digest_value}
 use Rattle.carte_rebuild.proofs.Parting.{Parted, firsts_parted, AsksToo, asks_too}
-use Rattle.carte_rebuild.proofs.TracedChecks.{OfNeeds, links_needs}
+use Rattle.carte_rebuild.proofs.TracedChecks.{OfNeeds, links_needs, wanted_needs}
 
 -- names whose links are parted at a link
 pub record NamesParted (t : Truth) (ks : List (List ℕ)) (before : List Link) (l : Link) : Type 0 where
@@ -49,8 +48,8 @@ link_of now t (k ∷ ks) are i (inl same) = subst (λ j. now j ≡ Some (digest_
 link_of now t (k ∷ ks) are i (inr later) = link_of now t ks are.1 i later
 
 module _ (w : Way) (of : OfNeeds w) (K : SomeKept) (b : Book) (H : List Book) (base : IsBase K b H) (k : List ℕ) where
-  pub asks_first : (t : Trace) → IsTraceOfSome K H w k t → (before behind : List Link) (l : Link) → t.links ≡ before ++ l ∷ behind → AreLinks (clean_digest b) before → Among (needs b k) l.name
-  asks_first t s before behind l is are =
+  pub asks_first : (t : Trace) → IsTraceOfSome K H w k t → wanted_task w b k ≡ Some t.task → (before behind : List Link) (l : Link) → t.links ≡ before ++ l ∷ behind → AreLinks (clean_digest b) before → Among (needs b k) l.name
+  asks_first t s task before behind l is are =
       subst (λ ks. Among ks j) (sym (needs_rule b k f rule_b)) (firsts_among (asked (clean b) (asks b.kind f)) j (subst (λ ks. Among ks j) (sym too.is) (among_right whole.before (j ∷ too.behind) j (inl refl))))
     where
       j : List ℕ
@@ -62,11 +61,14 @@ module _ (w : Way) (of : OfNeeds w) (K : SomeKept) (b : Book) (H : List Book) (b
       f : Tree
       f = s.trace.formula
 
+      same : (c.kind ≡ b.kind) × (content b k ≡ Some (rule f))
+      same = same_rule K b H base w k t s (ap (λ (x : Trace). x.task) s.trace.trace ∙ ap or_none (wanted_needs w of c k)) (sym (wanted_needs w of b k) ∙ task)
+
       rule_b : content b k ≡ Some (rule f)
-      rule_b = (same_rules K b H base c s.stood).rules k f s.trace.is_rule
+      rule_b = same.1
 
       names : needs c k ≡ firsts (asked (clean c) (asks b.kind f))
-      names = needs_rule c k f s.trace.is_rule ∙ ap (λ q. fetched q (clean c) f) (same_rules K b H base c s.stood).kind
+      names = needs_rule c k f s.trace.is_rule ∙ ap (λ q. fetched q (clean c) f) same.0
 
       links : t.links ≡ links_to (clean c) (needs c k)
       links = ap (λ (x : Trace). x.links) s.trace.trace ∙ ap (links_to (clean c)) (links_needs w of c k)
@@ -83,7 +85,7 @@ module _ (w : Way) (of : OfNeeds w) (K : SomeKept) (b : Book) (H : List Book) (b
           let now : clean_digest b i ≡ Some (digest_or (clean c i)) = link_of (clean_digest b) (clean c) split.front (subst (AreLinks (clean_digest b)) split.links are) i here in
           let has = digest_value b i (digest_or (clean c i)) now in
           let same : digest_of had.0 ≡ digest_of has.0 = ap digest_or (sym had.1) ∙ sym has.2 in
-          let equal : had.0 ≡ has.0 = base.distinct.values c b i i had.0 has.0 s.stood.stood base.present had.1 has.1 same in
+          let equal : had.0 ≡ has.0 = base.distinct.values c b i i had.0 has.0 s.stood base.present had.1 has.1 same in
           (has.0, had.1 ∙ ap Some equal, has.1)
 
       too : AsksToo (clean b) (asks b.kind f) whole.before j

@@ -1,57 +1,64 @@
 -- Why a key ran, from what its work found.
-use Rattle.std.proofs.Common.{◌≡◌, ℕ, Bool, true, false, not, ◌&&◌, ◌||◌, cond, List, [], ◌∷◌, ◌++◌, Option, Some, None, option_map, refl, ap, sym, ◌∙◌, subst, inl, inr}
+use Rattle.std.proofs.Common.{◌≡◌, ℕ, Bool, true, false, ◌&&◌, cond, List, [], ◌∷◌, ◌++◌, Option, Some, None, option_map, refl, ap, sym, ◌∙◌, subst, inl, inr}
 use Rattle.std.specs.Prelude.{find, is_none, unwrap_or}
 use Rattle.carte_value.specs.declared.digest.Digest.{Digest}
 use Rattle.carte_value.specs.declared.link.Link.{Link}
 use Rattle.carte_value.specs.declared.value.Value.{Value}
 use Rattle.carte_value.specs.declared.value.Value.TheVariants.{Empty}
 use Rattle.carte_value.specs.Lists.{Has}
-use Rattle.carte_name.specs.Names.{name_eq}
 use Rattle.carte_value.specs.Spelling.{digest_of}
 use Rattle.carte_value.specs.Truths.{Among}
+use Rattle.carte_name.specs.Names.{name_eq}
 use Rattle.carte_tree.specs.Tree.{Tree}
 use Rattle.carte_book.specs.Book.{Book, Item, input, rule, content, clean}
-use Rattle.carte_book.proofs.Clean.{clean_nothing}
 use Rattle.carte_book.specs.Digest.{rules_digest_of}
-use Rattle.carte_book.specs.Needs.{IsRule, needs}
+use Rattle.carte_book.specs.Needs.{IsRule}
 use Rattle.carte_book.specs.Reason.{AllClean, IsClean}
+use Rattle.carte_book.specs.Task.{task_digest_of}
+use Rattle.carte_book.proofs.Clean.{clean_nothing}
+use Rattle.carte_book.proofs.Tasks.{task_of_rule}
 use Rattle.carte_effect.specs.declared.outcome.Made.{Made}
 use Rattle.carte_effect.specs.declared.outcome.Made.TheVariants.{Ran, Reused}
+use Rattle.carte_note.specs.declared.finished.Finished.{Finished}
 use Rattle.carte_note.specs.Lists.{finished_of}
 use Rattle.carte_note.specs.Right.{Came, has_run}
-use Rattle.carte_sound.specs.Sound.{IsSound}
-use Rattle.carte_sound.proofs.Begins.{begun_base, behind_sound, has_last}
-use Rattle.carte_note.specs.declared.finished.Finished.{Finished}
 use Rattle.carte_record.specs.declared.entry.Entry.{Entry}
 use Rattle.carte_record.specs.declared.kept.Kept.{Kept}
 use Rattle.carte_record.specs.declared.trace.Trace.{Trace}
 use Rattle.carte_record.specs.declared.way.Way.{Way}
 use Rattle.carte_record.specs.declared.way.Way.TheVariants.{Verifying, Constructive, Deep}
-use Rattle.carte_record.specs.Folds.{is_among, with_marks}
-use Rattle.carte_record.specs.Kept.{SomeKept, kept_traces, kept_view, nothing_kept, staled, traces_in, is_fresh}
+use Rattle.carte_record.specs.Folds.{is_among}
+use Rattle.carte_record.specs.Kept.{SomeKept, kept_view, staled}
 use Rattle.carte_record.specs.Lookups.{first_entry, is_trace_of}
 use Rattle.carte_rebuild.proofs.TracedChecks.{OfNeeds, of_constructive, of_verifying}
 use Rattle.carte_rebuild.proofs.TracesOf.{traces_there, traces_only}
 use Rattle.carte_rebuild.specs.Ends.{IsWork}
 use Rattle.carte_rebuild.specs.declared.work.Work.{Work}
 use Rattle.carte_sound.specs.Base.{HasDistinctDigests, IsBase}
-use Rattle.carte_sound.specs.Begun.{AreMarks, begin, has_rules_of, is_digest}
-use Rattle.carte_sound.specs.Held.{How, dirty, tracing, AreLinks, clean_digest, digest_now, IsFollowed, IsHeld, IsTrusted}
-use Rattle.carte_sound.specs.Marks.{IsMarked}
+use Rattle.carte_sound.specs.Begun.{Beginning, IsBeginning, IsByRole, begin}
+use Rattle.carte_sound.specs.Held.{How, dirty, tracing, AreLinks, clean_digest, digest_now, IsHeld}
+use Rattle.carte_sound.specs.Marks.{IsChanged, IsMarked}
+use Rattle.carte_sound.specs.Sound.{IsSound, IsTraceOfSome}
 use Rattle.carte_sound.specs.Treated.{IsTreated, IsDoneSuspending}
 use Rattle.carte_sound.specs.Treated as treated
+use Rattle.carte_sound.specs.True.{wanted_task}
+use Rattle.carte_sound.proofs.Begins.{begun_base, behind_sound, has_last}
+use Rattle.carte_sound.proofs.ByRole.{by_role}
 use Rattle.carte_sound.proofs.Held.{need_has_value}
-use Rattle.carte_sound.proofs.Tests.{name_self, staled_from, tested_among}
-use Rattle.carte_explain.specs.Found.{Finds, FindsCause, FindsEntry, FindsMark, digest_found, is_apart, is_match, is_of_needs, matching_why, other_why, path_why, stored_why, traces_why, verifying_why}
-use Rattle.carte_explain.specs.Paths.{IsChangedAnswer}
-use Rattle.carte_explain.specs.Why.{IsCause, IsEntered, IsNew, IsWhy, NoneMatches, how_of}
+use Rattle.carte_sound.proofs.Tests.{staled_from, tested_among}
+use Rattle.carte_table.specs.Lookups.{digest_eq}
+use Rattle.carte_explain.specs.Found.{FindsCause, FindsEntry, FindsMark, digest_found, is_apart, is_match, is_of_needs, matching_why, path_why, stored_why, traces_why, tracing_why, verifying_why, way_why}
+use Rattle.carte_explain.specs.Paths.{EndsIn, IsChangedAnswer, is_seen_changed, needs_at}
+use Rattle.carte_explain.specs.Why.{IsCause, IsEntered, IsNew, IsWhy, how_of}
 use Rattle.carte_explain.specs.declared.why.RebuilderKind.{RebuilderKind}
 use Rattle.carte_explain.specs.declared.why.RebuilderKind.TheVariants as kind
 use Rattle.carte_explain.specs.declared.why.Why.{Why}
-use Rattle.carte_explain.specs.declared.why.Why.TheVariants.{Input, Reusable}
+use Rattle.carte_explain.specs.declared.why.Why.TheVariants.{DirtyInput, DirtyRule, Input, Reusable}
 use Rattle.carte_explain.proofs.Asking.{asks_first}
-use Rattle.carte_explain.proofs.Leading.{no_change}
-use Rattle.carte_explain.proofs.Tracing.{Tells, from_newest, links_match, match_found}
+use Rattle.carte_explain.proofs.Changing.{ends_other, ends_seen}
+use Rattle.carte_explain.proofs.Leading.{no_change, path_ends}
+use Rattle.carte_explain.proofs.Parts.{both, find_has, find_none}
+use Rattle.carte_explain.proofs.Tracing.{Tells, from_newest, has_task, links_match, match_found, of_task}
 use Rattle.carte_explain.proofs.Working.{clean_found, finished_among, finished_there, found_clean, found_deep, right_of}
 
 needs_way : (w : Way) → OfNeeds w → is_of_needs w ≡ true
@@ -79,8 +86,8 @@ pub tells_needs : (w : Way) → OfNeeds w → (M : SomeKept) (b : Book) (H : Lis
     → (k : List ℕ) → IsTreated (tracing w) M b targets k → ¬ (IsHeld (tracing w) M b k) → (e : Tree) (v : Value) → content b k ≡ Some (rule e) → clean b k ≡ Some v → Tells w M b x.finished k
 tells_needs w of M b H base targets x work k is_treated unheld e v is_rule is_clean = record {
   more = λ j d found. as_clean w of b j ∙ found_clean (tracing w) M b w x.finished (needs_way w of) work.right j d found;
-  here = λ t kept before behind l parted same.
-      let need = asks_first w of M b H base k t (base.sound.traces w k t kept) before behind l parted (are_as w of b before same) in
+  here = λ t kept task before behind l parted same.
+      let need = asks_first w of M b H base k t (base.sound.traces w k t kept) task before behind l parted (are_as w of b before same) in
       let has = need_has_value b k e v is_rule is_clean l.name need in
       let found = clean_found (tracing w) M b w x.finished (needs_way w of) work.right l.name has.0 has.1 (λ ruled. work.order.each l.name (treated.IsTreated.need is_treated (λ held. absurd (unheld held)) need ruled, has)) in
       let now = as_clean w of b l.name ∙ ap (option_map digest_of) has.1 in
@@ -90,100 +97,124 @@ tells_needs w of M b H base targets x work k is_treated unheld e v is_rule is_cl
 pub tells_deep : (M : SomeKept) (b : Book) (fs : List Finished) (k : List ℕ) → Tells Deep M b fs k
 tells_deep M b fs k = record {
   more = λ j d found. sym (found_deep b fs j) ∙ found;
-  here = λ t kept before behind l parted same. (found_deep b fs l.name, ap (λ o. unwrap_or o (digest_of Empty)) (found_deep b fs l.name));
+  here = λ t kept task before behind l parted same. (found_deep b fs l.name, ap (λ o. unwrap_or o (digest_of Empty)) (found_deep b fs l.name));
 }
-
--- what is looked for among items
-find_has : {A : Type 0} (p : A → Bool) (xs : List A) (x : A) → find p xs ≡ Some x → Has xs x × (p x ≡ true)
-find_has p [] x is = cc
-find_has {A = A} p (y ∷ ys) x is = on (p y) refl is (find_has p ys x)
-  where
-    on : (t : Bool) → p y ≡ t → cond t (Some y) (find p ys) ≡ Some x → (find p ys ≡ Some x → Has ys x × (p x ≡ true)) → Has (y ∷ ys) x × (p x ≡ true)
-    on true passes is rest = let e : y ≡ x = cc in (inl (sym e), subst (λ z. p z ≡ true) e passes)
-    on false fails is rest = let r = rest is in (inr r.0, r.1)
-
-find_none : {A : Type 0} (p : A → Bool) (xs : List A) (x : A) → find p xs ≡ None → Has xs x → p x ≡ false
-find_none p [] x none has = absurd has
-find_none {A = A} p (y ∷ ys) x none has = on (p y) refl none (λ less later. find_none p ys x less later)
-  where
-    on : (t : Bool) → p y ≡ t → cond t (Some y) (find p ys) ≡ None → (find p ys ≡ None → Has ys x → p x ≡ false) → p x ≡ false
-    on true passes none rest = cc
-    on false fails none rest = elim has [
-      | inl same ↦ ap p same ∙ fails
-      | inr later ↦ rest none later
-    ]
-
-both : (a c : Bool) → (a && c) ≡ true → (a ≡ true) × (c ≡ true)
-both true c is = (refl, is)
-both false c is = cc
 
 is_nothing : {A : Type 0} (o : Option A) → is_none o ≡ true → o ≡ None
 is_nothing None is = refl
 is_nothing (Some x) is = cc
 
-module _ (K : Kept) (b : Book) (H : List Book) (marks : List (List ℕ)) (same : has_rules_of (kept_view K) b ≡ true) (marked : AreMarks (kept_view K) b marks) (base : IsBase (with_marks (kept_view K) marks) b H) (fs : List Finished) (k : List ℕ) (is_rule : IsRule b k) where
-  from_verifying : Tells Verifying (with_marks (kept_view K) marks) b fs k → ¬ (IsHeld (tracing Verifying) (with_marks (kept_view K) marks) b k) → IsCause (tracing Verifying) (kept_view K) (with_marks (kept_view K) marks) b k (verifying_why K b fs k)
-  from_verifying tells unheld = on (find (is_match (digest_found Verifying b fs) k) K.verifying) refl
-    where
-      on : (o : Option Trace) → find (is_match (digest_found Verifying b fs) k) K.verifying ≡ o → IsCause (tracing Verifying) (kept_view K) (with_marks (kept_view K) marks) b k (matching_why o (first_entry K.entries k) (traces_why Verifying K b fs k))
-      on None none = from_newest Verifying (with_marks (kept_view K) marks) b fs k tells (kept_view K) K refl is_rule unheld never never
-        where
-          never : (t : Trace) → Has (traces_in k K.verifying []) t → ¬ (AreLinks (digest_now Verifying b) t.links)
-          never t kept are = elim (traces_only k K.verifying [] t kept) [
-            | inl (there, of_key) ↦
-                let fails = find_none (is_match (digest_found Verifying b fs) k) K.verifying t none there in
-                let passes : (name_eq k t.key && is_none (find (is_apart (digest_found Verifying b fs)) t.links)) ≡ true = rw (of_key, match_found Verifying (with_marks (kept_view K) marks) b fs k tells t kept are) refl in
-                let n : true ≡ false = sym passes ∙ fails in
-                cc
-            | inr nowhere ↦ absurd nowhere
-          ]
-      on (Some t) found =
-          let has = find_has (is_match (digest_found Verifying b fs) k) K.verifying t found in
-          let parts = both (is_trace_of k t) (is_none (find (is_apart (digest_found Verifying b fs)) t.links)) has.1 in
-          let kept = traces_there k K.verifying [] t has.0 parts.0 in
-          let links = links_match Verifying (with_marks (kept_view K) marks) b fs k tells t (is_nothing (find (is_apart (digest_found Verifying b fs)) t.links) parts.1) in
-          let s = base.sound.traces Verifying k t kept in
-          let from = staled_from (is_among marks k) (first_entry K.entries k) s.entry s.kept in
-          let result : s.entry.result ≡ from.0.result = ap (λ (e : Entry). e.result) from.2 in
-          subst (λ o. IsCause (tracing Verifying) (kept_view K) (with_marks (kept_view K) marks) b k (stored_why o t)) (sym from.1) (
-            is_rule,
-            unheld,
-            record {
-              trace = t;
-              kept = kept;
-              links = links;
-              entry = s.entry;
-              entered = s.kept;
-              stored_is = sym result;
-              result_is = refl;
-              differs = λ equal. unheld (t, record { kept = kept; links = links; trusted = (s.entry, s.kept, result ∙ equal) });
-            },
-          )
+-- a rule has a task of each kind
+has_wanted : (w : Way) (b : Book) (k : List ℕ) → IsRule b k → (d : Digest) × (wanted_task w b k ≡ Some d)
+has_wanted Verifying b k is_rule = (task_digest_of b.kind is_rule.0, task_of_rule b k is_rule.0 is_rule.1)
+has_wanted Constructive b k is_rule = (task_digest_of b.kind is_rule.0, task_of_rule b k is_rule.0 is_rule.1)
+has_wanted Deep b k is_rule = (rules_digest_of b, refl)
+
+-- a rule that isn't held, over what the build begins with
+module _ (K : Kept) (b : Book) (H : List Book) (x : Beginning) (begins : IsBeginning (kept_view K) b x) (base : IsBase (begin (kept_view K) x) b H) (role : IsByRole (kept_view K) b x (begin (kept_view K) x)) (fs : List Finished) (k : List ℕ) (is_rule : IsRule b k) where
+  abbrev M : SomeKept
+  M = begin (kept_view K) x
+
+  module _ (task : Digest) (wanted : wanted_task Verifying b k ≡ Some task) (tells : Tells Verifying M b fs k) (unheld : ¬ (IsHeld (tracing Verifying) M b k)) where
+    abbrev matches : Trace → Bool
+    matches = is_match (digest_found Verifying b fs) k task
+
+    never : find matches K.verifying ≡ None → (t : Trace) → Has (M.traces Verifying k) t → wanted_task Verifying b k ≡ Some t.task → ¬ (AreLinks (digest_now Verifying b) t.links)
+    never none t kept is_task are = elim (traces_only k K.verifying [] t (subst (λ ts. Has ts t) (role.traces Verifying k is_rule) kept)) [
+      | inl (there, of_key) ↦
+          let fails : ((name_eq k t.key && digest_eq task t.task) && is_none (find (is_apart (digest_found Verifying b fs)) t.links)) ≡ false = find_none matches K.verifying t none there in
+          let passes : ((name_eq k t.key && digest_eq task t.task) && is_none (find (is_apart (digest_found Verifying b fs)) t.links)) ≡ true =
+          rw (of_key, has_task Verifying M b fs k task wanted tells t is_task, match_found Verifying M b fs k task wanted tells t kept is_task are) refl in
+          let n : true ≡ false = sym passes ∙ fails in
+          cc
+      | inr nowhere ↦ absurd nowhere
+    ]
+
+    other_result : (t : Trace) → find matches K.verifying ≡ Some t → IsCause (tracing Verifying) (kept_view K) M b k (stored_why (first_entry K.entries k) t)
+    other_result t found = subst (λ o. IsCause (tracing Verifying) (kept_view K) M b k (stored_why o t)) (sym from.1) (
+      is_rule,
+      unheld,
+      record {
+        trace = t;
+        kept = kept;
+        task = is_task;
+        links = links;
+        entry = s.entry;
+        entered = s.kept;
+        stored_is = sym result;
+        result_is = refl;
+        differs = λ equal. unheld (t, record { kept = kept; task = is_task; links = links; trusted = (s.entry, s.kept, result ∙ equal) });
+      },
+    )
+      where
+        has : Has K.verifying t × (matches t ≡ true)
+        has = find_has matches K.verifying t found
+
+        parts : ((is_trace_of k t && digest_eq task t.task) ≡ true) × (is_none (find (is_apart (digest_found Verifying b fs)) t.links) ≡ true)
+        parts = both (is_trace_of k t && digest_eq task t.task) (is_none (find (is_apart (digest_found Verifying b fs)) t.links)) has.1
+
+        of_key : (is_trace_of k t ≡ true) × (digest_eq task t.task ≡ true)
+        of_key = both (is_trace_of k t) (digest_eq task t.task) parts.0
+
+        kept : Has (M.traces Verifying k) t
+        kept = subst (λ ts. Has ts t) (sym (role.traces Verifying k is_rule)) (traces_there k K.verifying [] t has.0 of_key.0)
+
+        is_task : wanted_task Verifying b k ≡ Some t.task
+        is_task = of_task Verifying M b fs k task wanted tells t of_key.1
+
+        links : AreLinks (digest_now Verifying b) t.links
+        links = links_match Verifying M b fs k task wanted tells t (is_nothing (find (is_apart (digest_found Verifying b fs)) t.links) parts.1)
+
+        s : IsTraceOfSome M H Verifying k t
+        s = base.sound.traces Verifying k t kept
+
+        from : (e : Entry) × (first_entry K.entries k ≡ Some e) × (s.entry ≡ staled (is_among x.marks k) e)
+        from = staled_from (is_among x.marks k) (first_entry K.entries k) s.entry (sym (role.entry k is_rule) ∙ s.kept)
+
+        result : s.entry.result ≡ from.0.result
+        result = ap (λ (e : Entry). e.result) from.2
+
+    from_verifying : IsCause (tracing Verifying) (kept_view K) M b k (verifying_why K b fs k task)
+    from_verifying = on (find matches K.verifying) refl
+      where
+        on : (o : Option Trace) → find matches K.verifying ≡ o → IsCause (tracing Verifying) (kept_view K) M b k (matching_why o (first_entry K.entries k) (traces_why Verifying K b fs k task))
+        on None none = from_newest Verifying M b fs k task wanted tells (kept_view K) K (role.traces Verifying k is_rule) is_rule unheld (never none) (never none)
+        on (Some t) found = other_result t found
 
   -- a fresh entry that isn't held leads to a change
-  leads_on : (e : Entry) → first_entry K.entries k ≡ Some e → e.stale ≡ false → e.shallow ≡ false → ¬ (IsHeld dirty (with_marks (kept_view K) marks) b k) → IsMarked (kept_view K) b k
-  leads_on e is fresh full unheld = on (is_among marks k) refl
+  leads_on : (e : Entry) → first_entry K.entries k ≡ Some e → e.stale ≡ false → e.shallow ≡ false → ¬ (IsHeld dirty M b k) → IsMarked (kept_view K) b k
+  leads_on e is fresh full unheld = on (is_among x.marks k) refl
     where
-      on : (m : Bool) → is_among marks k ≡ m → IsMarked (kept_view K) b k
-      on true there = (marked.same same).only k (tested_among marks k there)
+      on : (m : Bool) → is_among x.marks k ≡ m → IsMarked (kept_view K) b k
+      on true there = begins.marks.only k (tested_among x.marks k there)
       on false apart = absurd (unheld (record {
         entry = staled false e;
-        kept = ap (option_map (staled (is_among marks k))) is ∙ ap (λ m. Some (staled m e)) apart;
+        kept = role.entry k is_rule ∙ ap (option_map (staled (is_among x.marks k))) is ∙ ap (λ m. Some (staled m e)) apart;
         fresh = rw (fresh, full) refl;
       }))
 
-  from_entry : ¬ (IsHeld dirty (with_marks (kept_view K) marks) b k) → (why : Why) → FindsEntry (first_entry K.entries k) (kept_view K) b k why → IsCause dirty (kept_view K) (with_marks (kept_view K) marks) b k why
+  pub from_entry : ¬ (IsHeld dirty M b k) → (why : Why) → FindsEntry (first_entry K.entries k) (kept_view K) b k why → IsCause dirty (kept_view K) M b k why
   from_entry unheld why = on (first_entry K.entries k) refl
     where
       Causes : Why → Type 0
-      Causes = IsCause dirty (kept_view K) (with_marks (kept_view K) marks) b k
+      Causes = IsCause dirty (kept_view K) M b k
 
-      entered : (e : Entry) → first_entry K.entries k ≡ Some e → IsEntered (with_marks (kept_view K) marks) k
-      entered e is = (staled (is_among marks k) e, ap (option_map (staled (is_among marks k))) is)
+      entered : (e : Entry) → first_entry K.entries k ≡ Some e → IsEntered M k
+      entered e is = (staled (is_among x.marks k) e, role.entry k is_rule ∙ ap (option_map (staled (is_among x.marks k))) is)
 
-      path : (e : Entry) → first_entry K.entries k ≡ Some e → e.stale ≡ false → e.shallow ≡ false → (o : Option (List (List ℕ))) → IsChangedAnswer (kept_view K) b k o → Causes (path_why o)
+      way : (e : Entry) → first_entry K.entries k ≡ Some e → e.stale ≡ false → e.shallow ≡ false → (path : List (List ℕ)) → IsChangedAnswer (kept_view K) b k (Some path) → Causes (path_why (kept_view K) b (Some path))
+      way e is fresh full path first = subst (λ o. Causes (cond (is_seen_changed (kept_view K) b o) (DirtyInput path) (DirtyRule path))) (sym ends.1) (by (is_seen_changed (kept_view K) b (Some ends.0)) refl)
+        where
+          ends : EndsIn (IsChanged (kept_view K) b) path
+          ends = path_ends (needs_at (kept_view K)) (IsChanged (kept_view K) b) (k ∷ []) path first.is_path
+
+          by : (t : Bool) → is_seen_changed (kept_view K) b (Some ends.0) ≡ t → Causes (cond t (DirtyInput path) (DirtyRule path))
+          by true test = (is_rule, unheld, entered e is, (e, is, fresh, full), first, ends_seen (kept_view K) b path ends test)
+          by false test = (is_rule, unheld, entered e is, (e, is, fresh, full), first, ends_other (kept_view K) b path ends test)
+
+      path : (e : Entry) → first_entry K.entries k ≡ Some e → e.stale ≡ false → e.shallow ≡ false → (o : Option (List (List ℕ))) → IsChangedAnswer (kept_view K) b k o → Causes (path_why (kept_view K) b o)
       path e is fresh full None nothing = absurd (no_change (kept_view K) b k nothing (leads_on e is fresh full unheld))
-      path e is fresh full (Some first_path) first = (is_rule, unheld, entered e is, (e, is, fresh, full), first)
+      path e is fresh full (Some first_path) first = way e is fresh full first_path first
 
       mark : (e : Entry) → first_entry K.entries k ≡ Some e → (s t : Bool) → e.stale ≡ s → e.shallow ≡ t → FindsMark s t (kept_view K) b k why → Causes why
       mark e is true t is_stale is_shallow found = subst Causes (sym found) (is_rule, unheld, entered e is, (e, is, is_stale))
@@ -191,51 +222,33 @@ module _ (K : Kept) (b : Book) (H : List Book) (marks : List (List ℕ)) (same :
       mark e is false false fresh full found = subst Causes (sym found.2) (path e is fresh full found.0 found.1)
 
       on : (o : Option Entry) → first_entry K.entries k ≡ o → FindsEntry o (kept_view K) b k why → Causes why
-      on None is found = subst Causes (sym found) (is_rule, unheld, ap (option_map (staled (is_among marks k))) is)
+      on None is found = subst Causes (sym found) (is_rule, unheld, role.entry k is_rule ∙ ap (option_map (staled (is_among x.marks k))) is)
       on (Some e) is found = mark e is e.stale e.shallow refl refl found
 
-begin_same : (S : SomeKept) (b : Book) (marks : List (List ℕ)) → has_rules_of S b ≡ true → begin S b marks ≡ with_marks S marks
-begin_same S b marks same = ap (λ t. cond t (with_marks S marks) nothing_kept) same
-
-begin_other : (S : SomeKept) (b : Book) (marks : List (List ℕ)) → has_rules_of S b ≡ false → begin S b marks ≡ nothing_kept
-begin_other S b marks other = ap (λ t. cond t (with_marks S marks) nothing_kept) other
-
--- a key that isn't held, over whatever the build begins with
-module _ (K : Kept) (b : Book) (H : List Book) (marks : List (List ℕ)) (marked : AreMarks (kept_view K) b marks) (targets : List (List ℕ)) (x : Work) (k : List ℕ) (is_rule : IsRule b k) (is_clean : IsClean b k) where
-  pub same_cause : (r : RebuilderKind) → has_rules_of (kept_view K) b ≡ true → IsBase (with_marks (kept_view K) marks) b H → IsWork (how_of r) (with_marks (kept_view K) marks) b (IsDoneSuspending (how_of r) (with_marks (kept_view K) marks) b targets) x
-      → IsTreated (how_of r) (with_marks (kept_view K) marks) b targets k → ¬ (IsHeld (how_of r) (with_marks (kept_view K) marks) b k) → (why : Why) → FindsCause r K b x.finished k why → IsCause (how_of r) (kept_view K) (with_marks (kept_view K) marks) b k why
-  same_cause kind.Dirty same base work is_treated unheld why found = from_entry K b H marks same marked base x.finished k is_rule unheld why found
-  same_cause kind.Verifying same base work is_treated unheld why found =
-      let tells = tells_needs Verifying of_verifying (with_marks (kept_view K) marks) b H base targets x work k is_treated unheld is_rule.0 is_clean.0 is_rule.1 is_clean.1 in
-      subst (IsCause (tracing Verifying) (kept_view K) (with_marks (kept_view K) marks) b k) (sym found) (from_verifying K b H marks same marked base x.finished k is_rule tells unheld)
-  same_cause kind.Constructive same base work is_treated unheld why found =
-      let M = with_marks (kept_view K) marks in
-      let tells = tells_needs Constructive of_constructive M b H base targets x work k is_treated unheld is_rule.0 is_clean.0 is_rule.1 is_clean.1 in
-      subst (IsCause (tracing Constructive) (kept_view K) M b k) (sym found)
-      (from_newest Constructive M b x.finished k tells (kept_view K) K refl is_rule unheld (λ t kept are. unheld (t, record { kept = kept; links = are; trusted = tt })) tt)
-  same_cause kind.Deep same base work is_treated unheld why found =
-      let M = with_marks (kept_view K) marks in
-      subst (IsCause (tracing Deep) (kept_view K) M b k) (sym found)
-      (from_newest Deep M b x.finished k (tells_deep M b x.finished k) (kept_view K) K refl is_rule unheld (λ t kept are. unheld (t, record { kept = kept; links = are; trusted = tt })) tt)
-
-  pub other_cause : (r : RebuilderKind) → ¬ (IsHeld (how_of r) nothing_kept b k) → IsCause (how_of r) (kept_view K) nothing_kept b k (other_why r)
-  other_cause kind.Dirty unheld = (is_rule, unheld, refl)
-  other_cause kind.Verifying unheld = (is_rule, unheld, refl)
-  other_cause kind.Constructive unheld = (is_rule, unheld, refl)
-  other_cause kind.Deep unheld = (is_rule, unheld, refl)
-
-  pub caused : (r : RebuilderKind) (why : Why) → Finds (has_rules_of (kept_view K) b) r K b x.finished k why → IsBase (begin (kept_view K) b marks) b H
-      → IsWork (how_of r) (begin (kept_view K) b marks) b (IsDoneSuspending (how_of r) (begin (kept_view K) b marks) b targets) x
-      → IsTreated (how_of r) (begin (kept_view K) b marks) b targets k → ¬ (IsHeld (how_of r) (begin (kept_view K) b marks) b k) → IsCause (how_of r) (kept_view K) (begin (kept_view K) b marks) b k why
-  caused r why = on (has_rules_of (kept_view K) b) refl
+  -- by the traces of a kind
+  pub from_way : (w : Way) → Tells w M b fs k → ¬ (IsHeld (tracing w) M b k) → (why : Why) → why ≡ tracing_why w K b fs k (wanted_task w b k) → IsCause (tracing w) (kept_view K) M b k why
+  from_way w tells unheld why found =
+      let has = has_wanted w b k is_rule in
+      subst (IsCause (tracing w) (kept_view K) M b k) (sym (found ∙ ap (tracing_why w K b fs k) has.1)) (by w has.0 has.1 tells unheld)
     where
-      Causes : SomeKept → Type 0
-      Causes M = IsBase M b H → IsWork (how_of r) M b (IsDoneSuspending (how_of r) M b targets) x → IsTreated (how_of r) M b targets k → ¬ (IsHeld (how_of r) M b k) → IsCause (how_of r) (kept_view K) M b k why
+      by : (v : Way) (task : Digest) → wanted_task v b k ≡ Some task → Tells v M b fs k → ¬ (IsHeld (tracing v) M b k) → IsCause (tracing v) (kept_view K) M b k (way_why v K b fs k task)
+      by Verifying task wanted told apart = from_verifying task wanted told apart
+      by Constructive task wanted told apart =
+          from_newest Constructive M b fs k task wanted told (kept_view K) K (role.traces Constructive k is_rule) is_rule apart (λ t kept is_task are. apart (t, record { kept = kept; task = is_task; links = are; trusted = tt })) tt
+      by Deep task wanted told apart = from_newest Deep M b fs k task wanted told (kept_view K) K (role.traces Deep k is_rule) is_rule apart (λ t kept is_task are. apart (t, record { kept = kept; task = is_task; links = are; trusted = tt })) tt
 
-      on : (t : Bool) → has_rules_of (kept_view K) b ≡ t → Finds t r K b x.finished k why → Causes (begin (kept_view K) b marks)
-      on true same found = subst Causes (sym (begin_same (kept_view K) b marks same)) (λ base work is_treated unheld. same_cause r same base work is_treated unheld why found)
-      on false other found = subst Causes (sym (begin_other (kept_view K) b marks other)) (λ base work is_treated unheld.
-          subst (IsCause (how_of r) (kept_view K) nothing_kept b k) (sym found) (other_cause r unheld))
+-- by what its work found
+module _ (K : Kept) (b : Book) (H : List Book) (x : Beginning) (begins : IsBeginning (kept_view K) b x) (base : IsBase (begin (kept_view K) x) b H) (role : IsByRole (kept_view K) b x (begin (kept_view K) x)) (targets : List (List ℕ)) (work : Work) (k : List ℕ) (is_rule : IsRule b k) (is_clean : IsClean b k) where
+  pub caused : (r : RebuilderKind) → IsWork (how_of r) (begin (kept_view K) x) b (IsDoneSuspending (how_of r) (begin (kept_view K) x) b targets) work → IsTreated (how_of r) (begin (kept_view K) x) b targets k → ¬ (IsHeld (how_of r) (begin (kept_view K) x) b k)
+      → (why : Why) → FindsCause r K b work.finished k why → IsCause (how_of r) (kept_view K) (begin (kept_view K) x) b k why
+  caused kind.Dirty is_work is_treated unheld why found = from_entry K b H x begins base role work.finished k is_rule unheld why found
+  caused kind.Verifying is_work is_treated unheld why found =
+      let tells = tells_needs Verifying of_verifying (begin (kept_view K) x) b H base targets work is_work k is_treated unheld is_rule.0 is_clean.0 is_rule.1 is_clean.1 in
+      from_way K b H x begins base role work.finished k is_rule Verifying tells unheld why found
+  caused kind.Constructive is_work is_treated unheld why found =
+      let tells = tells_needs Constructive of_constructive (begin (kept_view K) x) b H base targets work is_work k is_treated unheld is_rule.0 is_clean.0 is_rule.1 is_clean.1 in
+      from_way K b H x begins base role work.finished k is_rule Constructive tells unheld why found
+  caused kind.Deep is_work is_treated unheld why found = from_way K b H x begins base role work.finished k is_rule Deep (tells_deep (begin (kept_view K) x) b work.finished k) unheld why found
 
 none_left : {A : Type 0} (f : Finished → A) (o : Option Finished) → None ≡ option_map f o → o ≡ None
 none_left f None is = refl
@@ -258,40 +271,43 @@ clean_among b [] k all nowhere = absurd nowhere
 clean_among b (j ∷ js) k all (inl same) = subst (IsClean b) (sym same) all.0
 clean_among b (j ∷ js) k all (inr later) = clean_among b js k all.1 later
 
-module _ (K : Kept) (b : Book) (r : RebuilderKind) (H : List Book) (targets marks : List (List ℕ)) (x : Work) (k : List ℕ) (sound : IsSound (kept_view K) H) (distinct : HasDistinctDigests (H ++ b ∷ [])) (marked : AreMarks (kept_view K) b marks)
-    (work : IsWork (how_of r) (begin (kept_view K) b marks) b (IsDoneSuspending (how_of r) (begin (kept_view K) b marks) b targets) x) (all : AllClean b targets) (among : Among targets k) where
-  base : IsBase (begin (kept_view K) b marks) b (H ++ b ∷ [])
-  base = begun_base (kept_view K) b (H ++ b ∷ []) marks (behind_sound (kept_view K) H (b ∷ []) sound) (has_last H b) distinct marked
+module _ (K : Kept) (b : Book) (r : RebuilderKind) (H : List Book) (targets : List (List ℕ)) (x : Beginning) (work : Work) (k : List ℕ) (sound : IsSound (kept_view K) H) (distinct : HasDistinctDigests (H ++ b ∷ [])) (begins : IsBeginning (kept_view K) b x)
+    (is_work : IsWork (how_of r) (begin (kept_view K) x) b (IsDoneSuspending (how_of r) (begin (kept_view K) x) b targets) work) (all : AllClean b targets) (among : Among targets k) where
+  base : IsBase (begin (kept_view K) x) b (H ++ b ∷ [])
+  base = begun_base (kept_view K) b (H ++ b ∷ []) x (behind_sound (kept_view K) H (b ∷ []) sound) (has_last H b) distinct begins
 
-  done : (f : Finished) → finished_of x.finished k ≡ Some f → IsDoneSuspending (how_of r) (begin (kept_view K) b marks) b targets k
-  done f is = work.order.only k (finished_among x.finished k f is)
+  role : IsByRole (kept_view K) b x (begin (kept_view K) x)
+  role = by_role (kept_view K) H b sound x begins
 
-  ruled : (f : Finished) → finished_of x.finished k ≡ Some f → IsRule b k
+  done : (f : Finished) → finished_of work.finished k ≡ Some f → IsDoneSuspending (how_of r) (begin (kept_view K) x) b targets k
+  done f is = is_work.order.only k (finished_among work.finished k f is)
+
+  ruled : (f : Finished) → finished_of work.finished k ≡ Some f → IsRule b k
   ruled f is = by (done f is).0
     where
-      by : {j : List ℕ} → IsTreated (how_of r) (begin (kept_view K) b marks) b targets j → IsRule b j
+      by : {j : List ℕ} → IsTreated (how_of r) (begin (kept_view K) x) b targets j → IsRule b j
       by (treated.IsTreated.target there is_rule) = is_rule
       by (treated.IsTreated.need above followed there is_rule) = is_rule
 
-  pub why_ran : (why : Why) → Finds (has_rules_of (kept_view K) b) r K b x.finished k why → Some true ≡ option_map (λ f. has_run f.made) (finished_of x.finished k) → IsWhy (how_of r) (kept_view K) b k why
+  pub why_ran : (why : Why) → FindsCause r K b work.finished k why → Some true ≡ option_map (λ f. has_run f.made) (finished_of work.finished k) → IsWhy (how_of r) (kept_view K) b k why
   why_ran why found is =
-      let f = some_left (λ f. has_run f.made) (finished_of x.finished k) true is in
-      let right = right_of (how_of r) (begin (kept_view K) b marks) b x.finished k f.0 work.right f.1 in
-      let unheld = came_ran (how_of r) (begin (kept_view K) b marks) b k f.0.made f.2 right.made.came in
-      (marks, marked, caused K b (H ++ b ∷ []) marks marked targets x k (ruled f.0 f.1) (clean_among b targets k all among) r why found base work (done f.0 f.1).0 unheld)
+      let f = some_left (λ f. has_run f.made) (finished_of work.finished k) true is in
+      let right = right_of (how_of r) (begin (kept_view K) x) b work.finished k f.0 is_work.right f.1 in
+      let unheld = came_ran (how_of r) (begin (kept_view K) x) b k f.0.made f.2 right.made.came in
+      (x, begins, caused K b (H ++ b ∷ []) x begins base role targets work k (ruled f.0 f.1) (clean_among b targets k all among) r is_work (done f.0 f.1).0 unheld why found)
 
-  pub why_reused : Some false ≡ option_map (λ f. has_run f.made) (finished_of x.finished k) → IsWhy (how_of r) (kept_view K) b k Reusable
+  pub why_reused : Some false ≡ option_map (λ f. has_run f.made) (finished_of work.finished k) → IsWhy (how_of r) (kept_view K) b k Reusable
   why_reused is =
-      let f = some_left (λ f. has_run f.made) (finished_of x.finished k) false is in
-      let right = right_of (how_of r) (begin (kept_view K) b marks) b x.finished k f.0 work.right f.1 in
-      (marks, marked, (ruled f.0 f.1, came_reused (how_of r) (begin (kept_view K) b marks) b k f.0.made f.2 right.made.came))
+      let f = some_left (λ f. has_run f.made) (finished_of work.finished k) false is in
+      let right = right_of (how_of r) (begin (kept_view K) x) b work.finished k f.0 is_work.right f.1 in
+      (x, begins, (ruled f.0 f.1, came_reused (how_of r) (begin (kept_view K) x) b k f.0.made f.2 right.made.came))
 
-  pub why_input : None ≡ option_map (λ f. has_run f.made) (finished_of x.finished k) → IsWhy (how_of r) (kept_view K) b k Input
-  why_input is = (marks, marked, on (content b k) refl)
+  pub why_input : None ≡ option_map (λ f. has_run f.made) (finished_of work.finished k) → IsWhy (how_of r) (kept_view K) b k Input
+  why_input is = (x, begins, on (content b k) refl)
     where
       on : (o : Option Item) → content b k ≡ o → (v : Value) × (content b k ≡ Some (input v))
       on None nothing = absurd (let had = clean_among b targets k all among in let e : Some had.0 ≡ None = sym had.1 ∙ clean_nothing b k nothing in cc)
       on (Some (input v)) there = (v, there)
       on (Some (rule e)) there =
-          let f = finished_there x.finished k (work.order.each k (treated.IsTreated.target among (e, there), clean_among b targets k all among)) in
-          absurd (let n : None ≡ Some f.0 = sym (none_left (λ f. has_run f.made) (finished_of x.finished k) is) ∙ f.1 in cc)
+          let f = finished_there work.finished k (is_work.order.each k (treated.IsTreated.target among (e, there), clean_among b targets k all among)) in
+          absurd (let n : None ≡ Some f.0 = sym (none_left (λ f. has_run f.made) (finished_of work.finished k) is) ∙ f.1 in cc)

@@ -1,9 +1,11 @@
 pub mod Finding
 pub mod Heads
+pub mod Digests
 pub mod Parts
 pub mod Asking
 pub mod Working
 pub mod Tracing
-pub mod Explaining
+pub mod Changing
 pub mod Leading
+pub mod Explaining
 pub mod Noding

@@ -1,5 +1,5 @@
--- The names that may stand on a path, and what has changed.
-use Rattle.std.proofs.Common.{◌≡◌, ℕ, ◌+◌, ◌<◌, Bool, true, false, not, cond, List, [], ◌∷◌, ◌++◌, Option, Some, None, map, take, get_or, length, refl, ap, sym, ◌∙◌, subst, inl, inr}
+-- The names that may stand on a path.
+use Rattle.std.proofs.Common.{◌≡◌, ℕ, ◌+◌, ◌<◌, Bool, true, false, cond, List, [], ◌∷◌, ◌++◌, Option, Some, None, map, take, get_or, length, refl, ap, sym, ◌∙◌, subst, inl, inr}
 use Rattle.std.specs.Prelude.{find}
 use Rattle.std.specs.BTreeSet.{BTreeSet, contains}
 use Rattle.std.specs.Ordering.{eq_by_cmp}
@@ -12,16 +12,14 @@ use Rattle.carte_value.proofs.Members.{among_append}
 use Rattle.carte_book.specs.Book.{Book}
 use Rattle.carte_record.specs.declared.entry.Entry.{Entry}
 use Rattle.carte_record.specs.declared.kept.Kept.{Kept}
-use Rattle.carte_record.specs.Kept.{SomeKept, kept_view}
+use Rattle.carte_record.specs.Kept.{kept_view}
 use Rattle.carte_table.specs.Lookups.{digest_in, first_link, is_link_of}
 use Rattle.carte_record.specs.Lookups.{first_entry, is_entry_of}
 use Rattle.carte_table.proofs.Names.{name_eq_is}
 use Rattle.carte_mark.specs.Marking.{PutsIf}
-use Rattle.carte_mark.specs.Reached.{has_changed}
-use Rattle.carte_search.specs.Search.{HasNodes}
-use Rattle.carte_sound.specs.Begun.{is_digest}
-use Rattle.carte_sound.specs.Marks.{IsChanged, present}
-use Rattle.carte_sound.proofs.Tests.{digest_self, same_digest}
+use Rattle.carte_search.specs.Search.{HasNodes, IsNode}
+use Rattle.carte_sound.specs.Marks as marks
+use Rattle.carte_sound.specs.Marks.{IsChanged}
 use Rattle.carte_explain.specs.Nodes.{AddsAll, AreNodes, keys_in, names_in}
 use Rattle.carte_explain.specs.Paths.{needs_at, needs_in}
 
@@ -74,31 +72,14 @@ seen_name (l ∷ ls) k d is = on (name_eq k l.name) refl is (seen_name ls k d)
 
 pub has_nodes : (K : Kept) (b : Book) (nodes : BTreeSet (List ℕ)) → AreNodes K.entries K.seen nodes → HasNodes (needs_at (kept_view K)) (IsChanged (kept_view K) b) nodes
 has_nodes K b nodes are = record {
-  goals = λ k changed. are.seen k (seen_name K.seen k changed.digest changed.seen);
+  goals = λ k changed. goal k changed;
   inner = λ k j among. are.keys k (needing k j (first_entry K.entries k) refl among);
 }
   where
+    goal : (k : List ℕ) → IsChanged (kept_view K) b k → IsNode nodes k
+    goal k (marks.IsChanged.seen d seen differs) = are.seen k (seen_name K.seen k d seen)
+    goal k (marks.IsChanged.task e kept differs) = are.keys k (entry_key K.entries k e kept)
+
     needing : (k j : List ℕ) (o : Option Entry) → first_entry K.entries k ≡ o → Among (needs_in o) j → Among (keys_in K.entries) k
     needing k j None is among = absurd among
     needing k j (Some e) is among = entry_key K.entries k e is
-
--- the test tells what has changed
-pub changed : (K : SomeKept) (b : Book) (k : List ℕ) (o : Option Digest) → K.seen k ≡ o → has_changed o (present b k) ≡ true → IsChanged K b k
-changed K b k None is test = cc
-changed K b k (Some d) is test = record { digest = d; seen = is; differs = apart (is_digest (present b k) d) refl test }
-  where
-    apart : (t : Bool) → is_digest (present b k) d ≡ t → not t ≡ true → ¬ (present b k ≡ Some d)
-    apart true tells off same = cc
-    apart false tells off same = let e : false ≡ true = sym tells ∙ (ap (λ x. is_digest x d) same ∙ digest_self d) in cc
-
-pub unchanged : (K : SomeKept) (b : Book) (k : List ℕ) (o : Option Digest) → K.seen k ≡ o → has_changed o (present b k) ≡ false → ¬ (IsChanged K b k)
-unchanged K b k None is test c = let e : None ≡ Some c.digest = sym is ∙ c.seen in cc
-unchanged K b k (Some d) is test c = c.differs (same (present b k) (on (is_digest (present b k) d) test) ∙ (sym is ∙ c.seen))
-  where
-    on : (t : Bool) → not t ≡ false → t ≡ true
-    on true off = refl
-    on false off = cc
-
-    same : (p : Option Digest) → is_digest p d ≡ true → p ≡ Some d
-    same None tells = cc
-    same (Some c) tells = ap Some (same_digest c d tells)

@@ -12,7 +12,7 @@ use Rattle.carte_note.specs.declared.finished.Finished.{Finished}
 use Rattle.carte_note.specs.Lists.{finished_of}
 use Rattle.carte_note.specs.Right.{AreRight, IsRightFinished, finishes_of, key_of}
 use Rattle.carte_record.specs.declared.way.Way.{Way}
-use Rattle.carte_record.specs.declared.way.Way.TheVariants.{Verifying, Constructive, Deep}
+use Rattle.carte_record.specs.declared.way.Way.TheVariants.{Deep}
 use Rattle.carte_record.specs.Kept.{SomeKept}
 use Rattle.carte_sound.specs.Held.{How, clean_digest}
 use Rattle.carte_sound.specs.Left.{keys_of}

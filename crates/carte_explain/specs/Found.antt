@@ -16,12 +16,14 @@ use Rattle.carte_record.specs.declared.way.Way.TheVariants.{Verifying, Construct
 use Rattle.carte_record.specs.Kept.{SomeKept, kept_traces, kept_view}
 use Rattle.carte_table.specs.Lookups.{find_last}
 use Rattle.carte_record.specs.Lookups.{first_entry, is_trace_of}
+use Rattle.carte_rebuild.specs.Earlier.{is_wanted}
 use Rattle.carte_sound.specs.Begun.{is_digest}
-use Rattle.carte_explain.specs.Paths.{IsChangedAnswer}
+use Rattle.carte_sound.specs.True.{wanted_task}
+use Rattle.carte_explain.specs.Paths.{IsChangedAnswer, end_of, is_seen_changed}
 use Rattle.carte_explain.specs.declared.why.RebuilderKind.{RebuilderKind}
 use Rattle.carte_explain.specs.declared.why.RebuilderKind.TheVariants as kind
 use Rattle.carte_explain.specs.declared.why.Why.{Why}
-use Rattle.carte_explain.specs.declared.why.Why.TheVariants.{Reusable, NoTrace, FirstDifference, StoredDiffers, NoEntry, Stale, Shallow, DirtyInput}
+use Rattle.carte_explain.specs.declared.why.Why.TheVariants.{Reusable, NoTrace, RuleChanged, FirstDifference, StoredDiffers, NoEntry, Stale, Shallow, DirtyInput, DirtyRule}
 
 abbrev pub is_of_needs : Way → Bool
 is_of_needs Verifying = true
@@ -44,8 +46,12 @@ digest_found w b fs k = digest_at w (content b k) (finished_of fs k)
 abbrev pub is_apart : (List ℕ → Option Digest) → Link → Bool
 is_apart now l = not (is_digest (now l.name) l.digest)
 
-abbrev pub is_match : (List ℕ → Option Digest) → List ℕ → Trace → Bool
-is_match now k t = is_trace_of k t && is_none (find (is_apart now) t.links)
+-- a trace of the key, where a task is wanted of this task
+abbrev pub is_trace_with : List ℕ → Option Digest → Trace → Bool
+is_trace_with k wanted t = is_trace_of k t && is_wanted wanted t.task
+
+abbrev pub is_match : (List ℕ → Option Digest) → List ℕ → Digest → Trace → Bool
+is_match now k task t = is_trace_with k (Some task) t && is_none (find (is_apart now) t.links)
 
 abbrev pub differing_why : (List ℕ → Option Digest) → Link → Why
 differing_why now l = FirstDifference l.name l.digest (unwrap_or (now l.name) (digest_of Empty))
@@ -57,12 +63,21 @@ apart_why now (Some l) = differing_why now l
 abbrev pub trace_why : (List ℕ → Option Digest) → Trace → Why
 trace_why now t = apart_why now (find (is_apart now) t.links)
 
-abbrev pub newest_why : (List ℕ → Option Digest) → Option Trace → Why
-newest_why now None = NoTrace
-newest_why now (Some t) = trace_why now t
+-- by any trace of the key, where none is of the present task
+abbrev pub untold_why : Option Trace → Why
+untold_why None = NoTrace
+untold_why (Some t) = RuleChanged
 
-abbrev pub traces_why : Way → Kept → Book → List Finished → List ℕ → Why
-traces_why w K b fs k = newest_why (digest_found w b fs) (find_last (is_trace_of k) (kept_traces w K))
+-- by the newest trace, and by the newest one of the present task
+abbrev pub newest_why : (List ℕ → Option Digest) → Option Trace → Option Trace → Why
+newest_why now any None = untold_why any
+newest_why now any (Some t) = trace_why now t
+
+abbrev pub newest_of : Way → Kept → List ℕ → Option Digest → Option Trace
+newest_of w K k wanted = find_last (is_trace_with k wanted) (kept_traces w K)
+
+abbrev pub traces_why : Way → Kept → Book → List Finished → List ℕ → Digest → Why
+traces_why w K b fs k task = newest_why (digest_found w b fs) (newest_of w K k None) (newest_of w K k (Some task))
 
 abbrev pub stored_why : Option Entry → Trace → Why
 stored_why None t = NoEntry
@@ -72,16 +87,26 @@ abbrev pub matching_why : Option Trace → Option Entry → Why → Why
 matching_why None o why = why
 matching_why (Some t) o why = stored_why o t
 
-abbrev pub verifying_why : Kept → Book → List Finished → List ℕ → Why
-verifying_why K b fs k = matching_why (find (is_match (digest_found Verifying b fs) k) K.verifying) (first_entry K.entries k) (traces_why Verifying K b fs k)
+abbrev pub verifying_why : Kept → Book → List Finished → List ℕ → Digest → Why
+verifying_why K b fs k task = matching_why (find (is_match (digest_found Verifying b fs) k task) K.verifying) (first_entry K.entries k) (traces_why Verifying K b fs k task)
+
+abbrev pub way_why : Way → Kept → Book → List Finished → List ℕ → Digest → Why
+way_why Verifying K b fs k task = verifying_why K b fs k task
+way_why Constructive K b fs k task = traces_why Constructive K b fs k task
+way_why Deep K b fs k task = traces_why Deep K b fs k task
+
+-- what is no rule has no task, and no trace either
+abbrev pub tracing_why : Way → Kept → Book → List Finished → List ℕ → Option Digest → Why
+tracing_why w K b fs k None = NoTrace
+tracing_why w K b fs k (Some task) = way_why w K b fs k task
 
 -- where nothing that the key leads to has changed, which no history brings about, there is nothing to tell
-abbrev pub path_why : Option (List (List ℕ)) → Why
-path_why None = Reusable
-path_why (Some path) = DirtyInput path
+abbrev pub path_why : SomeKept → Book → Option (List (List ℕ)) → Why
+path_why K b None = Reusable
+path_why K b (Some path) = if is_seen_changed K b (end_of path) then DirtyInput path else DirtyRule path
 
 abbrev pub FindsPath : SomeKept → Book → List ℕ → Why → Type 0
-FindsPath K b k why = (o : Option (List (List ℕ))) × IsChangedAnswer K b k o × (why ≡ path_why o)
+FindsPath K b k why = (o : Option (List (List ℕ))) × IsChangedAnswer K b k o × (why ≡ path_why K b o)
 
 -- by the marks
 abbrev pub FindsMark : Bool → Bool → SomeKept → Book → List ℕ → Why → Type 0
@@ -93,18 +118,8 @@ abbrev pub FindsEntry : Option Entry → SomeKept → Book → List ℕ → Why 
 FindsEntry None K b k why = why ≡ NoEntry
 FindsEntry (Some e) K b k why = FindsMark e.stale e.shallow K b k why
 
--- what is found under the book's rules
 abbrev pub FindsCause : RebuilderKind → Kept → Book → List Finished → List ℕ → Why → Type 0
 FindsCause kind.Dirty K b fs k why = FindsEntry (first_entry K.entries k) (kept_view K) b k why
-FindsCause kind.Verifying K b fs k why = why ≡ verifying_why K b fs k
-FindsCause kind.Constructive K b fs k why = why ≡ traces_why Constructive K b fs k
-FindsCause kind.Deep K b fs k why = why ≡ traces_why Deep K b fs k
-
--- under other rules nothing counts as kept
-abbrev pub other_why : RebuilderKind → Why
-other_why kind.Dirty = NoEntry
-other_why r = NoTrace
-
-abbrev pub Finds : Bool → RebuilderKind → Kept → Book → List Finished → List ℕ → Why → Type 0
-Finds true r K b fs k why = FindsCause r K b fs k why
-Finds false r K b fs k why = why ≡ other_why r
+FindsCause kind.Verifying K b fs k why = why ≡ tracing_why Verifying K b fs k (wanted_task Verifying b k)
+FindsCause kind.Constructive K b fs k why = why ≡ tracing_why Constructive K b fs k (wanted_task Constructive b k)
+FindsCause kind.Deep K b fs k why = why ≡ tracing_why Deep K b fs k (wanted_task Deep b k)

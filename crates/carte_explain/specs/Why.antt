@@ -15,18 +15,20 @@ use Rattle.carte_record.specs.declared.trace.Trace.{Trace}
 use Rattle.carte_record.specs.declared.way.Way.{Way}
 use Rattle.carte_record.specs.declared.way.Way.TheVariants.{Verifying, Constructive, Deep}
 use Rattle.carte_record.specs.Kept.{SomeKept}
+use Rattle.carte_mark.specs.Reached.{IsOther, IsSeenChanged}
 use Rattle.carte_rebuild.specs.Ends.{IsWork}
 use Rattle.carte_rebuild.specs.declared.work.Work.{Work}
 use Rattle.carte_sound.specs.Base.{HasDistinctDigests}
-use Rattle.carte_sound.specs.Begun.{AreMarks, begin}
+use Rattle.carte_sound.specs.Begun.{Beginning, IsBeginning, begin}
 use Rattle.carte_sound.specs.Held.{How, dirty, tracing, AreLinks, digest_now, IsHeld}
 use Rattle.carte_sound.specs.Sound.{IsSound}
 use Rattle.carte_sound.specs.Treated.{IsDoneSuspending}
-use Rattle.carte_explain.specs.Paths.{IsFirstChangedPath}
+use Rattle.carte_sound.specs.True.{wanted_task}
+use Rattle.carte_explain.specs.Paths.{EndsIn, IsFirstChangedPath}
 use Rattle.carte_explain.specs.declared.why.RebuilderKind.{RebuilderKind}
 use Rattle.carte_explain.specs.declared.why.RebuilderKind.TheVariants as kind
 use Rattle.carte_explain.specs.declared.why.Why.{Why}
-use Rattle.carte_explain.specs.declared.why.Why.TheVariants.{Input, Reusable, NoTrace, FirstDifference, StoredDiffers, NoEntry, Stale, Shallow, DirtyInput}
+use Rattle.carte_explain.specs.declared.why.Why.TheVariants.{Input, Reusable, NoTrace, RuleChanged, FirstDifference, StoredDiffers, NoEntry, Stale, Shallow, DirtyInput, DirtyRule}
 
 abbrev pub how_of : RebuilderKind → How
 how_of kind.Dirty = dirty
@@ -52,24 +54,34 @@ pub record IsFirstDifference (w : Way) (b : Book) (ls : List Link) (name : List 
   pub differs : ¬ (digest_now w b name ≡ Some old)
   pub now : IsNew w (digest_now w b name) new
 
--- no verifying trace has the present links
+-- there are traces, and none is of the present task
+pub record IsRuleChanged (w : Way) (M : SomeKept) (b : Book) (k : List ℕ) : Type 0 where
+  pub trace : Trace
+  pub kept : Has (M.traces w k) trace
+  pub others : (t : Trace) → Has (M.traces w k) t → ¬ (wanted_task w b k ≡ Some t.task)
+
+-- no verifying trace of the present task has the present links
 abbrev pub NoneMatches : Way → SomeKept → Book → List ℕ → Type 0
-NoneMatches Verifying M b k = (t : Trace) → Has (M.traces Verifying k) t → ¬ (AreLinks (digest_now Verifying b) t.links)
+NoneMatches Verifying M b k = (t : Trace) → Has (M.traces Verifying k) t → wanted_task Verifying b k ≡ Some t.task → ¬ (AreLinks (digest_now Verifying b) t.links)
 NoneMatches Constructive M b k = Unit {0}
 NoneMatches Deep M b k = Unit {0}
 
--- the newest trace differs there first, and no verifying one matches
+-- the newest trace of the present task differs there first, and no verifying one matches
 pub record IsNewestDifference (w : Way) (M : SomeKept) (b : Book) (k name : List ℕ) (old new : Digest) : Type 0 where
+  pub newer : List Trace
   pub newest : Trace
   pub older : List Trace
-  pub traces : M.traces w k ≡ newest ∷ older
+  pub traces : M.traces w k ≡ newer ++ newest ∷ older
+  pub others : (t : Trace) → Has newer t → ¬ (wanted_task w b k ≡ Some t.task)
+  pub task : wanted_task w b k ≡ Some newest.task
   pub first : IsFirstDifference w b newest.links name old new
   pub none : NoneMatches w M b k
 
--- the links of a verifying trace match, but its entry has another result
+-- the links of a verifying trace of the present task match, but its entry has another result
 pub record IsOtherResult (M : SomeKept) (b : Book) (k : List ℕ) (stored result : Digest) : Type 0 where
   pub trace : Trace
   pub kept : Has (M.traces Verifying k) trace
+  pub task : wanted_task Verifying b k ≡ Some trace.task
   pub links : AreLinks (digest_now Verifying b) trace.links
   pub entry : Entry
   pub entered : M.entries k ≡ Some entry
@@ -98,20 +110,22 @@ abbrev pub IsCause : How → SomeKept → SomeKept → Book → List ℕ → Why
 IsCause h K M b k Input = (v : Value) × (content b k ≡ Some (input v))
 IsCause h K M b k Reusable = IsRule b k × IsHeld h M b k
 IsCause (tracing w) K M b k NoTrace = IsRule b k × ¬ (IsHeld (tracing w) M b k) × (M.traces w k ≡ [])
+IsCause (tracing w) K M b k RuleChanged = IsRule b k × ¬ (IsHeld (tracing w) M b k) × IsRuleChanged w M b k
 IsCause (tracing w) K M b k (FirstDifference name old new) = IsRule b k × ¬ (IsHeld (tracing w) M b k) × IsNewestDifference w M b k name old new
 IsCause (tracing Verifying) K M b k (StoredDiffers stored result) = IsRule b k × ¬ (IsHeld (tracing Verifying) M b k) × IsOtherResult M b k stored result
 IsCause dirty K M b k NoEntry = IsRule b k × ¬ (IsHeld dirty M b k) × (M.entries k ≡ None)
 IsCause dirty K M b k Stale = IsRule b k × ¬ (IsHeld dirty M b k) × IsEntered M k × IsStale K k
 IsCause dirty K M b k Shallow = IsRule b k × ¬ (IsHeld dirty M b k) × IsEntered M k × IsShallow K k
-IsCause dirty K M b k (DirtyInput path) = IsRule b k × ¬ (IsHeld dirty M b k) × IsEntered M k × IsKeptFresh K k × IsFirstChangedPath K b k path
+IsCause dirty K M b k (DirtyInput path) = IsRule b k × ¬ (IsHeld dirty M b k) × IsEntered M k × IsKeptFresh K k × IsFirstChangedPath K b k path × EndsIn (IsSeenChanged K b) path
+IsCause dirty K M b k (DirtyRule path) = IsRule b k × ¬ (IsHeld dirty M b k) × IsEntered M k × IsKeptFresh K k × IsFirstChangedPath K b k path × EndsIn (IsOther K b) path
 IsCause h K M b k why = ⊥
 
 -- why a build over what was kept would run the key, or would not
 abbrev pub IsWhy : How → SomeKept → Book → List ℕ → Why → Type 0
-IsWhy h K b k why = (marks : List (List ℕ)) × AreMarks K b marks × IsCause h K (begin K b marks) b k why
+IsWhy h K b k why = (x : Beginning) × IsBeginning K b x × IsCause h K (begin K x) b k why
 
 -- what is told of a target of such work is why, whatever history what is kept is sound for
 abbrev pub Explains : {E : Type 0} → RebuilderKind → SomeKept → Book → Work → List ℕ → Result Why E → Type 0
-Explains r K b w k result = (H : List Book) (targets marks : List (List ℕ)) → IsSound K H → HasDistinctDigests (H ++ b ∷ [])
-    → AreMarks K b marks → IsWork (how_of r) (begin K b marks) b (IsDoneSuspending (how_of r) (begin K b marks) b targets) w
+Explains r K b w k result = (H : List Book) (targets : List (List ℕ)) (x : Beginning) → IsSound K H → HasDistinctDigests (H ++ b ∷ [])
+    → IsBeginning K b x → IsWork (how_of r) (begin K x) b (IsDoneSuspending (how_of r) (begin K x) b targets) w
     → AllClean b targets → Among targets k → IfOk result (IsWhy (how_of r) K b k)

@@ -1,61 +1,21 @@
 // Why a key that isn't held runs, from its entry or from its traces.
-ghost use Rattle.std.specs.Prelude.{◌≡◌, IfOk, option_copied, find, find as first_of};
+ghost use Rattle.std.specs.Prelude.{◌≡◌, IfOk, Some, option_copied};
 ghost use Rattle.carte_book.specs.Book.{book_view};
-ghost use Rattle.carte_book.specs.Digest.{rules_digest_of};
 ghost use Rattle.carte_record.specs.Kept.{kept_view};
-ghost use Rattle.carte_table.specs.Lookups.{find_last};
-ghost use Rattle.carte_record.specs.Lookups.{first_entry, is_trace_of};
-ghost use Rattle.carte_record.specs.declared.way.Way.TheVariants.{Verifying as of_links};
-ghost use Rattle.carte_sound.specs.Begun.{has_rules_of, is_digest};
-ghost use Rattle.carte_explain.specs.Found.{Finds, FindsCause, FindsEntry, FindsPath, differing_why, digest_found, is_apart, matching_why, other_why, path_why, stored_why, trace_why, traces_why, verifying_why};
+ghost use Rattle.carte_record.specs.Lookups.{first_entry};
+ghost use Rattle.carte_sound.specs.True.{wanted_task};
+ghost use Rattle.carte_explain.specs.Found.{FindsCause, FindsEntry, FindsPath, differing_why, digest_found, path_why, stored_why, trace_why, traces_why, tracing_why, untold_why, verifying_why, way_why};
 
-use crate::paths::changed_path;
+use crate::paths::{changed_path, ends_in_input};
 use crate::traces::{digest_or_empty, first_apart, matching, newest};
 use crate::{RebuilderKind, Why};
 use carte_book::Book;
 use carte_note::FinishedList;
 use carte_record::{Entry, Kept, Trace, Way};
-use carte_value::{Digest, Link, Name, NoMemory};
+use carte_value::{Digest, Link, Name, Names, NoMemory};
 use std::alloc::Global;
 
 pub(crate) fn cause(
-    alloc: Global,
-    kept: &Kept,
-    book: &Book,
-    rules: &Digest,
-    finished: &FinishedList,
-    rebuilder: RebuilderKind,
-    key: &Name,
-) -> Result<Why, NoMemory>
-    requires { rules.now ≡ rules_digest_of (book_view book.now) }
-    ensures { IfOk result (Finds (has_rules_of (kept_view kept.now) (book_view book.now)) rebuilder kept.now (book_view book.now) finished.now key.now) }
-{
-    if has_rules(kept, rules) {
-        return same_cause(alloc, kept, book, finished, rebuilder, key);
-    }
-    Ok(other_why(rebuilder))
-}
-
-// Whether what is kept is kept under these rules. A build begins with nothing where it isn't.
-fn has_rules(kept: &Kept, rules: &Digest) -> bool
-    ensures { result ≡ is_digest (kept_view kept.now).rules rules.now }
-{
-    match &kept.rules {
-        Some(digest) => *digest == *rules,
-        None => false,
-    }
-}
-
-fn other_why(rebuilder: RebuilderKind) -> Why
-    ensures { result ≡ other_why rebuilder }
-{
-    match rebuilder {
-        RebuilderKind::Dirty => Why::NoEntry,
-        _ => Why::NoTrace,
-    }
-}
-
-fn same_cause(
     alloc: Global,
     kept: &Kept,
     book: &Book,
@@ -67,11 +27,13 @@ fn same_cause(
 {
     match rebuilder {
         RebuilderKind::Dirty => entry_why(alloc, kept, book, key),
-        RebuilderKind::Verifying => verifying_why(alloc, kept, book, finished, key),
-        RebuilderKind::Constructive => {
-            traces_why(alloc, kept, book, finished, Way::Constructive, key)
+        RebuilderKind::Verifying => {
+            tracing_why(alloc, kept, book, finished, Way::Verifying, key)
         }
-        RebuilderKind::Deep => traces_why(alloc, kept, book, finished, Way::Deep, key),
+        RebuilderKind::Constructive => {
+            tracing_why(alloc, kept, book, finished, Way::Constructive, key)
+        }
+        RebuilderKind::Deep => tracing_why(alloc, kept, book, finished, Way::Deep, key),
     }
 }
 
@@ -90,8 +52,64 @@ fn path_why(alloc: Global, kept: &Kept, book: &Book, key: &Name) -> Result<Why, 
     ensures { IfOk result (FindsPath (kept_view kept.now) (book_view book.now) key.now) }
 {
     match changed_path(alloc, kept, book, key)? {
-        Some(path) => Ok(Why::DirtyInput(path)),
+        Some(path) => Ok(dirty_why(kept, book, path)),
         None => Ok(Why::Reusable),
+    }
+}
+
+// The path ends in a name that has changed: where it wasn't seen so, its task is another.
+fn dirty_why(kept: &Kept, book: &Book, path: Names) -> Why
+    ensures { result ≡ path_why (kept_view kept.now) (book_view book.now) (Some path) }
+{
+    if ends_in_input(kept, book, &path) {
+        Why::DirtyInput(path)
+    } else {
+        Why::DirtyRule(path)
+    }
+}
+
+// By traces of the present task. What is no rule has none, and doesn't run.
+fn tracing_why(
+    alloc: Global,
+    kept: &Kept,
+    book: &Book,
+    finished: &FinishedList,
+    way: Way,
+    key: &Name,
+) -> Result<Why, NoMemory>
+    ensures { IfOk result (λ why. why ≡ tracing_why way kept.now (book_view book.now) finished.now key.now (wanted_task way (book_view book.now) key.now)) }
+{
+    match wanted_task(alloc, book, way, key)? {
+        Some(task) => way_why(alloc, kept, book, finished, way, key, &task),
+        None => Ok(Why::NoTrace),
+    }
+}
+
+fn wanted_task(alloc: Global, book: &Book, way: Way, key: &Name) -> Result<Option<Digest>, NoMemory>
+    ensures { IfOk result (λ task. task ≡ wanted_task way (book_view book.now) key.now) }
+{
+    match way {
+        Way::Verifying => book.task_digest(alloc, key),
+        Way::Constructive => book.task_digest(alloc, key),
+        Way::Deep => Ok(Some(book.rules_digest(alloc)?)),
+    }
+}
+
+fn way_why(
+    alloc: Global,
+    kept: &Kept,
+    book: &Book,
+    finished: &FinishedList,
+    way: Way,
+    key: &Name,
+    task: &Digest,
+) -> Result<Why, NoMemory>
+    ensures { IfOk result (λ why. why ≡ way_why way kept.now (book_view book.now) finished.now key.now task.now) }
+{
+    match way {
+        Way::Verifying => verifying_why(alloc, kept, book, finished, key, task),
+        Way::Constructive => traces_why(alloc, kept, book, finished, way, key, task),
+        Way::Deep => traces_why(alloc, kept, book, finished, way, key, task),
     }
 }
 
@@ -101,12 +119,13 @@ fn verifying_why(
     book: &Book,
     finished: &FinishedList,
     key: &Name,
+    task: &Digest,
 ) -> Result<Why, NoMemory>
-    ensures { IfOk result (λ why. why ≡ verifying_why kept.now (book_view book.now) finished.now key.now) }
+    ensures { IfOk result (λ why. why ≡ verifying_why kept.now (book_view book.now) finished.now key.now task.now) }
 {
-    match matching(kept.verifying.as_slice(), book, finished, key) {
+    match matching(kept.verifying.as_slice(), book, finished, key, task) {
         Some(trace) => Ok(stored_why(kept.entries.find(key), trace)),
-        None => traces_why(alloc, kept, book, finished, Way::Verifying, key),
+        None => traces_why(alloc, kept, book, finished, Way::Verifying, key, task),
     }
 }
 
@@ -129,12 +148,24 @@ fn traces_why(
     finished: &FinishedList,
     way: Way,
     key: &Name,
+    task: &Digest,
 ) -> Result<Why, NoMemory>
-    ensures { IfOk result (λ why. why ≡ traces_why way kept.now (book_view book.now) finished.now key.now) }
+    ensures { IfOk result (λ why. why ≡ traces_why way kept.now (book_view book.now) finished.now key.now task.now) }
 {
-    match newest(kept.traces(way).as_slice(), key) {
+    let traces = kept.traces(way).as_slice();
+    match newest(traces, key, Some(task)) {
         Some(trace) => trace_why(alloc, book, finished, way, trace),
-        None => Ok(Why::NoTrace),
+        None => Ok(untold_why(newest(traces, key, None))),
+    }
+}
+
+// Where no trace is of the present task.
+fn untold_why(trace: Option<&Trace>) -> Why
+    ensures { result ≡ untold_why (option_copied trace.entry) }
+{
+    match trace {
+        Some(_) => Why::RuleChanged,
+        None => Why::NoTrace,
     }
 }
 

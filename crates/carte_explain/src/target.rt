@@ -1,6 +1,5 @@
 ghost use Rattle.std.specs.Prelude.{◌≡◌, ◌++◌, ◌∷◌, [], ℕ, List, IfOk, option_map};
 ghost use Rattle.carte_book.specs.Book.{Book as SomeBook, book_view};
-ghost use Rattle.carte_book.specs.Digest.{rules_digest_of};
 ghost use Rattle.carte_note.specs.Lists.{finished_of};
 ghost use Rattle.carte_note.specs.Right.{has_run};
 ghost use Rattle.carte_record.specs.Kept.{kept_view};
@@ -13,7 +12,7 @@ use carte_effect::Made;
 use carte_note::FinishedList;
 use carte_rebuild::Work;
 use carte_record::Kept;
-use carte_value::{Digest, Name, NoMemory};
+use carte_value::{Name, NoMemory};
 use std::alloc::Global;
 
 /// Why a build that begins with `kept` would run this target, or would not. `work` is what a preview gives for this kept
@@ -28,25 +27,8 @@ pub fn explain(
 ) -> Result<Why, NoMemory>
     ensures { Explains rebuilder (kept_view kept.now) (book_view book.now) work.now key.now result }
 {
-    let rules = book.rules_digest(alloc)?;
-    explain_under(alloc, kept, book, &rules, work, rebuilder, key)
-}
-
-/// The same for whoever has the digest of the book's rules. It is worked out over all rules, and no input changes it.
-pub fn explain_under(
-    alloc: Global,
-    kept: &Kept,
-    book: &Book,
-    rules: &Digest,
-    work: &Work,
-    rebuilder: RebuilderKind,
-    key: &Name,
-) -> Result<Why, NoMemory>
-    requires { rules.now ≡ rules_digest_of (book_view book.now) }
-    ensures { Explains rebuilder (kept_view kept.now) (book_view book.now) work.now key.now result }
-{
     match ran(&work.finished, key) {
-        Some(true) => cause(alloc, kept, book, rules, &work.finished, rebuilder, key),
+        Some(true) => cause(alloc, kept, book, &work.finished, rebuilder, key),
         Some(false) => Ok(Why::Reusable),
         None => Ok(Why::Input),
     }

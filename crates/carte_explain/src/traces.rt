@@ -3,53 +3,72 @@ ghost use Rattle.std.specs.Prelude.{◌≡◌, option_copied, unwrap_or, find};
 ghost use Rattle.carte_book.specs.Book.{book_view};
 ghost use Rattle.carte_note.specs.Lists.{finished_of};
 ghost use Rattle.carte_table.specs.Lookups.{find_last};
-ghost use Rattle.carte_record.specs.Lookups.{is_trace_of};
+ghost use Rattle.carte_rebuild.specs.Earlier.{is_wanted as wants};
 ghost use Rattle.carte_sound.specs.Begun.{is_digest};
-ghost use Rattle.carte_sound.specs.Held.{digest_now};
 ghost use Rattle.carte_value.specs.Spelling.{digest_of};
 ghost use Rattle.carte_value.specs.declared.value.Value.TheVariants.{Empty};
 ghost use Rattle.carte_record.specs.declared.way.Way.TheVariants.{Verifying as by_links};
-ghost use Rattle.carte_explain.specs.Found.{digest_found, digest_made, is_apart, is_match, is_of_needs};
+ghost use Rattle.carte_explain.specs.Found.{digest_found, digest_made, is_apart, is_match, is_of_needs, is_trace_with};
 
 use carte_book::{Book, Looked};
 use carte_note::FinishedList;
 use carte_record::{Trace, Way};
 use carte_value::{Digest, Link, Name, Value};
 
-/// The last trace of a key.
-pub(crate) fn newest<'k>(traces: &'k [Trace], key: &Name) -> Option<&'k Trace>
-    ensures { option_copied result ≡ find_last (is_trace_of key.now) traces.now }
+/// The last trace of a key, where a task is wanted that of this task.
+pub(crate) fn newest<'k>(
+    traces: &'k [Trace],
+    key: &Name,
+    wanted: Option<&Digest>,
+) -> Option<&'k Trace>
+    ensures { option_copied result ≡ find_last (is_trace_with key.now (option_copied wanted.entry)) traces.now }
 {
     let mut newest = None;
     for trace in traces {
-        if *key == trace.key {
+        if is_trace_with(trace, key, wanted) {
             newest = Some(trace);
         }
     }
     newest
 }
 
-/// The first verifying trace of a key whose links all have the present digests.
+fn is_trace_with(trace: &Trace, key: &Name, wanted: Option<&Digest>) -> bool
+    ensures { result ≡ is_trace_with key.now (option_copied wanted.entry) trace.now }
+{
+    *key == trace.key && is_wanted(wanted, &trace.task)
+}
+
+fn is_wanted(wanted: Option<&Digest>, digest: &Digest) -> bool
+    ensures { result ≡ wants (option_copied wanted.entry) digest.now }
+{
+    match wanted {
+        Some(other) => *other == *digest,
+        None => true,
+    }
+}
+
+/// The first verifying trace of a key and a task whose links all have the present digests.
 pub(crate) fn matching<'k>(
     traces: &'k [Trace],
     book: &Book,
     finished: &FinishedList,
     key: &Name,
+    task: &Digest,
 ) -> Option<&'k Trace>
-    ensures { option_copied result ≡ find (is_match (digest_found by_links (book_view book.now) finished.now) key.now) traces.now }
+    ensures { option_copied result ≡ find (is_match (digest_found by_links (book_view book.now) finished.now) key.now task.now) traces.now }
 {
     for trace in traces {
-        if is_match(trace, book, finished, key) {
+        if is_match(trace, book, finished, key, task) {
             return Some(trace);
         }
     }
     None
 }
 
-fn is_match(trace: &Trace, book: &Book, finished: &FinishedList, key: &Name) -> bool
-    ensures { result ≡ is_match (digest_found by_links (book_view book.now) finished.now) key.now trace.now }
+fn is_match(trace: &Trace, book: &Book, finished: &FinishedList, key: &Name, task: &Digest) -> bool
+    ensures { result ≡ is_match (digest_found by_links (book_view book.now) finished.now) key.now task.now trace.now }
 {
-    *key == trace.key
+    is_trace_with(trace, key, Some(task))
         && first_apart(trace.links.as_slice(), Way::Verifying, book, finished).is_none()
 }
 

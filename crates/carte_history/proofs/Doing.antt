@@ -2,7 +2,6 @@
 use Rattle.std.proofs.Common.{◌≡◌, ◌⊎◌, ℕ, true, List, [], ◌∷◌, Result, Ok, Err, refl, sym, subst, inl, inr}
 use Rattle.carte_book.specs.Book.{Book}
 use Rattle.carte_book.specs.declared.reason.Reason.{Reason}
-use Rattle.carte_record.specs.Kept.{SomeKept}
 use Rattle.carte_record.specs.declared.batch.Batch.{Batch}
 use Rattle.carte_session.specs.declared.end.SessionEnd.{SessionEnd}
 use Rattle.carte_state.specs.Folding.{Keeps}
@@ -22,13 +21,14 @@ use Rattle.carte_top.specs.Around.{Around, OverDisk, OverSink, TakesAll, TakesFr
 use Rattle.carte_top.specs.Found.{Answers, ArePut, Carries, ClearsNot, ClearsTooMuch, Clears, Commits, Found, Halts, Holds, IsClearing, IsStopped, Makes, Overfills, RefusesFor, Replies, behind, for_last, front_of}
 use Rattle.carte_top.specs.Outcome.{Asks, Built, BuiltOver, Cleaned, ClearsShort, ComesTo, CommitsRefused, Does, EndsShort, HaltsShort, IsSpared, KeepsRefused, Ran, StopsShort}
 use Rattle.carte_history.specs.Steps.{AreBuilt, AreCommitted, ArePutBy, AreSteps, AreStepsFor, AreStoppedBy, EndsSo, Steps, steps_replied, steps_unreplied}
+use Rattle.carte_state.specs.Versions.{AnyKept}
 
-module _ (limit : ℕ) (a : Around) (K : SomeKept) (told : a.state.tells) (keeps : Keeps limit K a.state.old.now.reads) where
+module _ (limit : ℕ) (a : Around) (K : AnyKept) (told : a.state.tells) (keeps : Keeps limit K a.state.old.now.reads) where
   abbrev d : OverDisk
   d = a.state
 
   -- what was found to be kept is what the file keeps
-  found : (P : SomeKept → Type 0) → Found limit d P → P K
+  found : (P : AnyKept → Type 0) → Found limit d P → P K
   found P (M, there, has) = subst P (keeps_one limit d.old.now.reads M K (there told) keeps) has
 
   -- ---- the batches of a build

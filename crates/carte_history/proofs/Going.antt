@@ -5,7 +5,6 @@ use Rattle.carte_io.specs.Stations.{StepsThrough, calls_in}
 use Rattle.carte_io.proofs.Acknowledged.{calls_in-append, steps_none}
 use Rattle.carte_io.proofs.Images.{leaves_none, settled_image}
 use Rattle.carte_book.specs.Book.{Book}
-use Rattle.carte_record.specs.Kept.{SomeKept}
 use Rattle.carte_record.specs.declared.batch.Batch.{Batch}
 use Rattle.carte_session.specs.Session.{Ended}
 use Rattle.carte_session.specs.declared.end.SessionEnd.{SessionEnd}
@@ -14,7 +13,7 @@ use Rattle.carte_session.specs.declared.end.StepEnd.{StepEnd}
 use Rattle.carte_session.specs.declared.end.StepEnd.TheVariants as ending
 use Rattle.carte_state.specs.Around.{OverDisk}
 use Rattle.carte_state.specs.Folding.{Keeps}
-use Rattle.carte_state.specs.States.{IsKeptOn, kept_in}
+use Rattle.carte_state.specs.States.{IsKeptOn, any_in}
 use Rattle.carte_state.specs.declared.fault.ApplyFault.{ApplyFault}
 use Rattle.carte_state.specs.declared.fault.ApplyFault.TheVariants as applying
 use Rattle.carte_engine.specs.Committing.{behind as onwards, steps_put, steps_stopped}
@@ -33,16 +32,17 @@ use Rattle.carte_top.proofs.Putting.{kept_on}
 use Rattle.carte_history.specs.Steps.{AreBuilt, AreCommitted, ArePutBy, AreSat, AreSteps, AreStepsFor, AreStoppedBy, EndsSo, Steps, steps_answered, steps_ended, steps_lines, steps_replied, steps_unreplied}
 use Rattle.carte_history.proofs.Lines.{IsTaken, StandsOn, cut_ended, taken_answered, taken_lines}
 use Rattle.carte_history.proofs.Stretches.{IsCut, IsStretch, Passes, cut_then, passes_of, stretch_then}
+use Rattle.carte_state.specs.Versions.{AnyKept}
 
 -- Through these steps the images stand. The calls of those in front have passed; those of all, where the disk didn't fail; and where it did, none, or not all.
-pub record Went (limit : ℕ) (K : SomeKept) (front rest : Steps) (Failed : Type 0) (old new : Story) : Type 0 where
+pub record Went (limit : ℕ) (K : AnyKept) (front rest : Steps) (Failed : Type 0) (old new : Story) : Type 0 where
   pub through : StepsThrough (Keeps limit) K (front ++ rest) old new
   pub said : old.now.passed + calls_in front ≤ new.now.passed
   pub all : ¬ Failed → new.now.passed ≡ old.now.passed + calls_in (front ++ rest)
   pub few : Failed → (new.now.passed ≡ old.now.passed) ⊎ (new.now.passed < old.now.passed + calls_in (front ++ rest))
 
 -- all were made
-went_all : (limit : ℕ) (K : SomeKept) (front rest : Steps) (Failed : Type 0) (old new : Story) → ¬ Failed → StepsThrough (Keeps limit) K (front ++ rest) old new
+went_all : (limit : ℕ) (K : AnyKept) (front rest : Steps) (Failed : Type 0) (old new : Story) → ¬ Failed → StepsThrough (Keeps limit) K (front ++ rest) old new
     → new.now.passed ≡ old.now.passed + calls_in (front ++ rest) → Went limit K front rest Failed old new
 went_all limit K front rest Failed old new whole through calls = record {
   through = through;
@@ -52,7 +52,7 @@ went_all limit K front rest Failed old new whole through calls = record {
 }
 
 -- nothing was done
-went_none : (limit : ℕ) (K : SomeKept) (Failed : Type 0) (old new : Story) → IsSettled old.now → Keeps limit K old.now.reads → new ≡ old → Went limit K [] [] Failed old new
+went_none : (limit : ℕ) (K : AnyKept) (Failed : Type 0) (old new : Story) → IsSettled old.now → Keeps limit K old.now.reads → new ≡ old → Went limit K [] [] Failed old new
 went_none limit K Failed old new settled keeps same =
     let passed : new.now.passed ≡ old.now.passed = ap (λ (u : Story). u.now.passed) same in
     record {
@@ -62,13 +62,13 @@ went_none limit K Failed old new settled keeps same =
       few = λ failed. inl passed;
     }
   where
-    still : (limit : ℕ) (K : SomeKept) (old new : Story) → IsSettled old.now → Keeps limit K old.now.reads → new ≡ old → StepsThrough (Keeps limit) K [] old new
+    still : (limit : ℕ) (K : AnyKept) (old new : Story) → IsSettled old.now → Keeps limit K old.now.reads → new ≡ old → StepsThrough (Keeps limit) K [] old new
     still limit K old new settled keeps same =
         steps_none (Keeps limit) K old new
         (leaves_none old new (Keeps limit K) same (λ image there. subst (Keeps limit K) (sym (settled_image old.now image settled there)) keeps))
 
 -- the last of them was not made, for this reason
-went_cut : (limit : ℕ) (K : SomeKept) (front rest : Steps) (fault : ApplyFault) (Failed : Type 0) (old new : Story) → (fault ≡ applying.DiskFault → Failed) → (Failed → fault ≡ applying.DiskFault)
+went_cut : (limit : ℕ) (K : AnyKept) (front rest : Steps) (fault : ApplyFault) (Failed : Type 0) (old new : Story) → (fault ≡ applying.DiskFault → Failed) → (Failed → fault ≡ applying.DiskFault)
     → StepsThrough (Keeps limit) K (front ++ rest) old new → old.now.passed + calls_in front ≤ new.now.passed → Passes fault (calls_in (front ++ rest)) old.now.passed new.now.passed
     → Went limit K front rest Failed old new
 went_cut limit K front rest applying.DiskFault Failed old new is so through said passes =
@@ -80,7 +80,7 @@ went_cut limit K front rest applying.NoMemory Failed old new is so through said 
 
 -- ---- the batches of a build, or of a clearing
 
-module _ (limit : ℕ) (d : OverDisk) (K : SomeKept) (told : d.tells) (settled : IsSettled d.old.now) (begun : d.old.now.passed ≡ 0) where
+module _ (limit : ℕ) (d : OverDisk) (K : AnyKept) (told : d.tells) (settled : IsSettled d.old.now) (begun : d.old.now.passed ≡ 0) where
   put_went : (Bs : List Batch) (steps : Steps) (Failed : Type 0) → ¬ Failed → ArePutBy limit d K Bs steps → Went limit K [] steps Failed d.old d.new
   put_went Bs steps Failed whole (put, is) =
       let all = steps_put true (onwards d put.found.story) put.found.stand Bs put.last put.puts in
@@ -116,16 +116,16 @@ abbrev IsDiskEnd : Result (Unit {0}) SessionEnd → Type 0
 IsDiskEnd (Err (session.Machine ending.DiskFault)) = Unit {0}
 IsDiskEnd end = ⊥
 
-went_replied : (limit : ℕ) (K L : SomeKept) (front : Steps) (Failed : Type 0) (old new : Story) → ¬ Failed → IsStretch limit K L front old new → Went limit K front [] Failed old new
+went_replied : (limit : ℕ) (K L : AnyKept) (front : Steps) (Failed : Type 0) (old new : Story) → ¬ Failed → IsStretch limit K L front old new → Went limit K front [] Failed old new
 went_replied limit K L front Failed old new whole s =
     went_all limit K front [] Failed old new whole (subst (λ xs. StepsThrough (Keeps limit) K xs old new) (sym (append-nil front)) s.through)
     (s.calls ∙ ap (λ xs. old.now.passed + calls_in xs) (sym (append-nil front)))
 
-went_both : (limit : ℕ) (K L M : SomeKept) (front rest : Steps) (Failed : Type 0) (s mid t : Story) → ¬ Failed → IsStretch limit K L front s mid → IsStretch limit L M rest mid t → Went limit K front rest Failed s t
+went_both : (limit : ℕ) (K L M : AnyKept) (front rest : Steps) (Failed : Type 0) (s mid t : Story) → ¬ Failed → IsStretch limit K L front s mid → IsStretch limit L M rest mid t → Went limit K front rest Failed s t
 went_both limit K L M front rest Failed s mid t whole one two =
     let both = stretch_then limit K L M front rest s mid t one two in went_all limit K front rest Failed s t whole both.through both.calls
 
-went_ended : (limit : ℕ) (K L : SomeKept) (front rest : Steps) (fault : ApplyFault) (Failed : Type 0) (s mid t : Story) → (fault ≡ applying.DiskFault → Failed) → (Failed → fault ≡ applying.DiskFault)
+went_ended : (limit : ℕ) (K L : AnyKept) (front rest : Steps) (fault : ApplyFault) (Failed : Type 0) (s mid t : Story) → (fault ≡ applying.DiskFault → Failed) → (Failed → fault ≡ applying.DiskFault)
     → IsStretch limit K L front s mid → IsCut limit L rest fault mid t → Went limit K front rest Failed s t
 went_ended limit K L front rest fault Failed s mid t is so one two =
     let both = cut_then limit K L front rest fault s mid t one two in
@@ -143,22 +143,22 @@ of_disk_end ending.NoMemory is = absurd is
 
 module _ (tells : Type 0) (told : tells) (limit : ℕ) (m m' : Scene) (stands : StandsOn limit m) (c : OverSource) (k : OverSink) (most : ℕ) (read : List ℕ) (Failed : Type 0) where
   session_went : (end : Result (Unit {0}) SessionEnd) → (IsDiskEnd end → Failed) → (Failed → IsDiskEnd end) → (ended : Ended (Answers tells) (Ends tells) m m' c k most read end)
-      → Went limit (kept_in m.stand) (steps_replied tells m m' c k most read end ended) (steps_unreplied tells m m' c k most read end ended) Failed m.story m'.story
+      → Went limit (any_in m.stand) (steps_replied tells m m' c k most read end ended) (steps_unreplied tells m m' c k most read end ended) Failed m.story m'.story
   session_went (Ok done) is so (lines, said, all, goes, takes, whole) =
-      went_replied limit (kept_in m.stand) (kept_in m'.stand) (steps_lines tells 1 m lines said m' goes) Failed m.story m'.story so (taken_lines tells told limit 1 m lines said m' goes stands).stretch
+      went_replied limit (any_in m.stand) (any_in m'.stand) (steps_lines tells 1 m lines said m' goes) Failed m.story m'.story so (taken_lines tells told limit 1 m lines said m' goes stands).stretch
   session_went (Err session.ReadFault) is so (lines, said, rest, cut, goes, takes, whole) =
-      went_replied limit (kept_in m.stand) (kept_in m'.stand) (steps_lines tells 1 m lines said m' goes) Failed m.story m'.story so (taken_lines tells told limit 1 m lines said m' goes stands).stretch
+      went_replied limit (any_in m.stand) (any_in m'.stand) (steps_lines tells 1 m lines said m' goes) Failed m.story m'.story so (taken_lines tells told limit 1 m lines said m' goes stands).stretch
   session_went (Err session.TooLong) is so (lines, said, rest, cut, goes, takes, long, whole) =
-      went_replied limit (kept_in m.stand) (kept_in m'.stand) (steps_lines tells 1 m lines said m' goes) Failed m.story m'.story so (taken_lines tells told limit 1 m lines said m' goes stands).stretch
+      went_replied limit (any_in m.stand) (any_in m'.stand) (steps_lines tells 1 m lines said m' goes) Failed m.story m'.story so (taken_lines tells told limit 1 m lines said m' goes stands).stretch
   session_went (Err session.NoMemory) is so ((lines, said, bytes, rest, whole, lined, open_line, few, goes, takes), left) =
-      went_replied limit (kept_in m.stand) (kept_in m'.stand) (steps_lines tells 1 m lines said m' goes) Failed m.story m'.story so (taken_lines tells told limit 1 m lines said m' goes stands).stretch
+      went_replied limit (any_in m.stand) (any_in m'.stand) (steps_lines tells 1 m lines said m' goes) Failed m.story m'.story so (taken_lines tells told limit 1 m lines said m' goes stands).stretch
   session_went (Err session.WriteFault) is so ((lines, said, mid, bytes, reply, next, goes, answers, takes), left) =
       let front = taken_lines tells told limit 1 m lines said mid goes stands in
       let back = taken_answered tells told limit mid (length lines + 1) bytes reply m' answers front.stands in
-      went_both limit (kept_in m.stand) (kept_in mid.stand) (kept_in m'.stand) (steps_lines tells 1 m lines said mid goes) (steps_answered tells mid (length lines + 1) bytes reply m' answers) Failed m.story mid.story m'.story so front.stretch back.stretch
+      went_both limit (any_in m.stand) (any_in mid.stand) (any_in m'.stand) (steps_lines tells 1 m lines said mid goes) (steps_answered tells mid (length lines + 1) bytes reply m' answers) Failed m.story mid.story m'.story so front.stretch back.stretch
   session_went (Err (session.Machine end)) is so ((lines, said, mid, bytes, next, goes, ends, takes), left) =
       let front = taken_lines tells told limit 1 m lines said mid goes stands in
-      went_ended limit (kept_in m.stand) (kept_in mid.stand) (steps_lines tells 1 m lines said mid goes) (steps_ended tells mid (length lines + 1) bytes end m' ends) (fault_of end) Failed m.story mid.story m'.story
+      went_ended limit (any_in m.stand) (any_in mid.stand) (steps_lines tells 1 m lines said mid goes) (steps_ended tells mid (length lines + 1) bytes end m' ends) (fault_of end) Failed m.story mid.story m'.story
       (λ same. is (is_disk_end end same)) (λ failed. of_disk_end end (so failed)) front.stretch (cut_ended tells told limit mid (length lines + 1) bytes end m' ends front.stands)
 
 -- by the status
@@ -201,7 +201,7 @@ failed_ends : (s : Status) (end : Result (Unit {0}) SessionEnd) → EndsSo s end
 failed_ends s end (inl same) failed = of_failed end (sym same ∙ failed)
 failed_ends s end (inr (none, e, short, same)) failed = let both : status.NoMemory ≡ status.DiskFault = sym none ∙ failed in cc
 
-module _ (limit : ℕ) (w : Asked) (c : OverSource) (d : OverDisk) (k : OverSink) (K : SomeKept) (s : Status) (b : Book) (told : d.tells) (settled : IsSettled d.old.now) where
+module _ (limit : ℕ) (w : Asked) (c : OverSource) (d : OverDisk) (k : OverSink) (K : AnyKept) (s : Status) (b : Book) (told : d.tells) (settled : IsSettled d.old.now) where
   carries_went : (end : Result (Unit {0}) SessionEnd) → EndsSo s end → (is : Carries limit w c d k end b K)
       → Went limit K (steps_replied d.tells is.first is.last c k 67108864 is.goes.read end is.goes.ended) (steps_unreplied d.tells is.first is.last c k 67108864 is.goes.read end is.goes.ended) (s ≡ status.DiskFault) d.old d.new
   carries_went end so is =
@@ -222,7 +222,7 @@ module _ (limit : ℕ) (w : Asked) (c : OverSource) (d : OverDisk) (k : OverSink
 
 -- ---- a run
 
-module _ (s : Status) (limit : ℕ) (a : Around) (K : SomeKept) (told : a.state.tells) (settled : IsSettled a.state.old.now) (begun : a.state.old.now.passed ≡ 0) (keeps : Keeps limit K a.state.old.now.reads) where
+module _ (s : Status) (limit : ℕ) (a : Around) (K : AnyKept) (told : a.state.tells) (settled : IsSettled a.state.old.now) (begun : a.state.old.now.passed ≡ 0) (keeps : Keeps limit K a.state.old.now.reads) where
   abbrev Goes : Steps → Steps → Type 0
   Goes front rest = Went limit K front rest (s ≡ status.DiskFault) a.state.old a.state.new
 

@@ -4,7 +4,7 @@ use Rattle.carte_record.specs.declared.batch.Batch.{Batch}
 use Rattle.carte_session.specs.Session.{Goes}
 use Rattle.carte_session.specs.declared.end.StepEnd.{StepEnd}
 use Rattle.carte_session.specs.declared.end.StepEnd.TheVariants as ending
-use Rattle.carte_state.specs.States.{IsKeptOn, Stand, kept_in}
+use Rattle.carte_state.specs.States.{IsKeptOn, Stand, any_in}
 use Rattle.carte_state.specs.declared.fault.ApplyFault.{ApplyFault}
 use Rattle.carte_state.specs.declared.fault.ApplyFault.TheVariants as applying
 use Rattle.carte_words.specs.declared.line.Line.{Line}
@@ -27,15 +27,15 @@ pub record StandsOn (limit : ℕ) (m : Scene) : Type 0 where
 
 -- lines that took the one scene to the other by these steps
 pub record IsTaken (limit : ℕ) (m m' : Scene) (steps : Steps) : Type 0 where
-  pub stretch : IsStretch limit (kept_in m.stand) (kept_in m'.stand) steps m.story m'.story
+  pub stretch : IsStretch limit (any_in m.stand) (any_in m'.stand) steps m.story m'.story
   pub stands : StandsOn limit m'
 
 taken_none : (limit : ℕ) (m m' : Scene) → m'.stand ≡ m.stand → m'.story ≡ m.story → StandsOn limit m → IsTaken limit m m' []
 taken_none limit m m' stand story stands =
     let none = stretch_none m.stand m.story m'.story story stands.on in
-    let under = subst (λ n. IsStretch n (kept_in m.stand) (kept_in m.stand) [] m.story m'.story) stands.limit_is none in
+    let under = subst (λ n. IsStretch n (any_in m.stand) (any_in m.stand) [] m.story m'.story) stands.limit_is none in
     record {
-      stretch = subst (λ (s : Stand). IsStretch limit (kept_in m.stand) (kept_in s) [] m.story m'.story) (sym stand) under;
+      stretch = subst (λ (s : Stand). IsStretch limit (any_in m.stand) (any_in s) [] m.story m'.story) (sym stand) under;
       stands = record {
         on = subst (λ (s : Stand). IsKeptOn s m'.story) (sym stand) (subst (IsKeptOn m.stand) (sym story) stands.on);
         limit_is = ap (λ (s : Stand). s.journal.limit) stand ∙ stands.limit_is;
@@ -47,7 +47,7 @@ taken_still limit m m' same = taken_none limit m m' (ap (λ (x : Scene). x.stand
 
 taken_then : (limit : ℕ) (m mid m' : Scene) (bs cs : Steps) → IsTaken limit m mid bs → IsTaken limit mid m' cs → IsTaken limit m m' (bs ++ cs)
 taken_then limit m mid m' bs cs one two = record {
-  stretch = stretch_then limit (kept_in m.stand) (kept_in mid.stand) (kept_in m'.stand) bs cs m.story mid.story m'.story one.stretch two.stretch;
+  stretch = stretch_then limit (any_in m.stand) (any_in mid.stand) (any_in m'.stand) bs cs m.story mid.story m'.story one.stretch two.stretch;
   stands = two.stands;
 }
 
@@ -58,7 +58,7 @@ module _ (tells : Type 0) (told : tells) (limit : ℕ) where
       let d = disk_between tells m m' in
       let steps = steps_put true d m.stand Bs m'.stand puts in
       record {
-        stretch = subst (λ n. IsStretch n (kept_in m.stand) (kept_in m'.stand) steps m.story m'.story) stands.limit_is (puts_stretch true d m.stand Bs m'.stand puts told stands.on);
+        stretch = subst (λ n. IsStretch n (any_in m.stand) (any_in m'.stand) steps m.story m'.story) stands.limit_is (puts_stretch true d m.stand Bs m'.stand puts told stands.on);
         stands = record { on = puts_rest true d m.stand Bs m'.stand puts told stands.on; limit_is = puts_limit true d m.stand Bs m'.stand puts ∙ stands.limit_is };
       }
 
@@ -82,7 +82,7 @@ module _ (tells : Type 0) (told : tells) (limit : ℕ) where
   -- ---- a line that isn't answered
 
   abbrev CutAt : Scene → Scene → Steps → StepEnd → Type 0
-  CutAt m m' steps end = IsCut limit (kept_in m.stand) steps (fault_of end) m.story m'.story
+  CutAt m m' steps end = IsCut limit (any_in m.stand) steps (fault_of end) m.story m'.story
 
   cut_short : (m m' : Scene) (end : StepEnd) → end ≡ ending.NoMemory → m' ≡ m → StandsOn limit m → CutAt m m' [] end
   cut_short m m' end short same stands =
@@ -94,7 +94,7 @@ module _ (tells : Type 0) (told : tells) (limit : ℕ) where
   cut_broken m l end m' (inr (Bs, brings, stops)) stands =
       let d = disk_between tells m m' in
       let steps = steps_stopped d m.stand Bs m'.stand (fault_of end) stops.commits in
-      subst (λ n. IsCut n (kept_in m.stand) steps (fault_of end) m.story m'.story) stands.limit_is (stops_cut d m.stand Bs m'.stand (fault_of end) stops.commits told stands.on)
+      subst (λ n. IsCut n (any_in m.stand) steps (fault_of end) m.story m'.story) stands.limit_is (stops_cut d m.stand Bs m'.stand (fault_of end) stops.commits told stands.on)
 
   pub cut_ended : (m : Scene) (n : ℕ) (bytes : List ℕ) (end : StepEnd) (m' : Scene) (ends : Ends tells m n bytes end m') → StandsOn limit m → CutAt m m' (steps_ended tells m n bytes end m' ends) end
   cut_ended m n bytes end m' (inl short) stands = cut_short m m' end short.0 short.1 stands

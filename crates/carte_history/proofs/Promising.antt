@@ -1,5 +1,5 @@
 -- What a history promises holds of each of its runs.
-use Rattle.std.proofs.Common.{◌≡◌, ◌⊎◌, ℕ, ◌+◌, ◌<◌, ◌≤◌, List, [], ◌∷◌, ◌++◌, refl, sym, ◌∙◌, ap, subst, inl, inr, arith, append_assoc, append-nil}
+use Rattle.std.proofs.Common.{◌≡◌, ◌⊎◌, ℕ, ◌+◌, ◌<◌, ◌≤◌, List, [], ◌∷◌, ◌++◌, None, refl, sym, ◌∙◌, ap, subst, inl, inr, arith, append_assoc, append-nil}
 use Rattle.carte_io.specs.Disk.{IsSettled, IsWithin, Leaves, Story}
 use Rattle.carte_io.specs.MemDisks.{MemoryOfDisk, begun_disk, story_of, within_of}
 use Rattle.carte_io.specs.Stations.{IsAtOneOf, StepsThrough, calls_in, last_of}
@@ -7,10 +7,10 @@ use Rattle.carte_io.specs.declared.crashes.Pick.{Pick}
 use Rattle.carte_io.proofs.Acknowledged.{steps_stand}
 use Rattle.carte_io.proofs.Images.{throughout_last}
 use Rattle.carte_book.specs.Book.{Book}
-use Rattle.carte_record.specs.Kept.{SomeKept, nothing_kept}
+use Rattle.carte_record.specs.Kept.{nothing_kept}
 use Rattle.carte_sound.specs.Base.{HasDistinctDigests}
-use Rattle.carte_sound.specs.Sound.{IsSound}
-use Rattle.carte_sound.proofs.Begins.{behind_sound, front_distinct}
+use Rattle.carte_sound.proofs.Begins.{front_distinct}
+use Rattle.carte_engine.proofs.Raising.{sound_behind}
 use Rattle.carte_sound.proofs.Histories.{nothing_sound}
 use Rattle.carte_state.specs.Folding.{Keeps}
 use Rattle.carte_state.proofs.Folds.{keeps_one}
@@ -29,6 +29,8 @@ use Rattle.carte_history.specs.Shown.{AreShown, IsOfStop, IsShown, IsStopped, Ra
 use Rattle.carte_history.specs.Steps.{AreSteps, Steps}
 use Rattle.carte_history.proofs.Doing.{ran_steps}
 use Rattle.carte_history.proofs.Going.{Went, steps_went}
+use Rattle.carte_engine.specs.Versions.{IsSoundAny}
+use Rattle.carte_state.specs.Versions.{AnyKept, InTwo}
 
 -- ---- the disk that a run finds
 
@@ -81,14 +83,14 @@ stopped_short (stops.After calls pick) n total stopped (inr less) = (calls, pick
 
 -- ---- stations
 
-one_of : (limit : ℕ) (K : SomeKept) (steps : Steps) (file : List ℕ) → IsAtOneOf (Keeps limit) K steps file → (L : SomeKept) × IsOneOf K steps L × Keeps limit L file
+one_of : (limit : ℕ) (K : AnyKept) (steps : Steps) (file : List ℕ) → IsAtOneOf (Keeps limit) K steps file → (L : AnyKept) × IsOneOf K steps L × Keeps limit L file
 one_of limit K [] file at = (K, refl, at)
 one_of limit K (step ∷ steps) file (inl at) = (K, inl refl, at)
 one_of limit K (step ∷ steps) file (inr at) = let later = one_of limit step.to steps file at in (later.0, inr later.1, later.2)
 
 -- ---- one run
 
-module _ (limit : ℕ) (file : List ℕ) (G J : List Book) (run : Run) (s : Shown) (r : Ran) (K : SomeKept) (kept : Keeps limit K file) (sound : IsSound K G)
+module _ (limit : ℕ) (file : List ℕ) (G J : List Book) (run : Run) (s : Shown) (r : Ran) (K : AnyKept) (kept : Keeps limit K file) (sound : IsSoundAny K G)
     (is : IsShown limit file run s r) (books : AreBooks (run_over r) J) (distinct : HasDistinctDigests (G ++ J)) where
   abbrev old : Story
   old = story_of r.old
@@ -125,10 +127,10 @@ module _ (limit : ℕ) (file : List ℕ) (G J : List Book) (run : Run) (s : Show
       let bound : IsWithin old.most new.now.passed = subst (λ most. IsWithin most new.now.passed) went.through.bound (within_of r.new) in
       at_most file run.stop new.now.passed calls pick same (subst (λ (m : MemoryOfDisk). IsWithin (story_of m).most new.now.passed) is.begins bound)
 
-  stands : (L : SomeKept) × IsOneOf (last_of K front) rest L × Keeps limit L r.file
+  stands : (L : AnyKept) × IsOneOf (last_of K front) rest L × Keeps limit L r.file
   stands = one_of limit (last_of K front) rest r.file (steps_stand (Keeps limit) K front rest old new went.through went.said r.file is.image)
 
-  abbrev left : SomeKept
+  abbrev left : AnyKept
   left = stands.0
 
   all_made : ¬ (r.status ≡ status.DiskFault) → left ≡ last_of K (front ++ rest)
@@ -148,14 +150,14 @@ module _ (limit : ℕ) (file : List ℕ) (G J : List Book) (run : Run) (s : Show
       let apart : HasDistinctDigests (G ++ A) = front_distinct (G ++ A) more (subst HasDistinctDigests parted distinct) in
       let all = stays tt settled_old G (K, finds, sound) apart in
       let there : KeepsSound limit (G ++ A) r.file = throughout_last old new (Leaves (KeepsSound limit (G ++ A))) all r.file is.image in
-      (there.0, there.1, subst (λ (X : List Book). IsSound there.0 X) (sym parted) (behind_sound there.0 (G ++ A) more there.2))
+      (there.0, there.1, subst (λ (X : List Book). IsSoundAny there.0 X) (sym parted) (sound_behind there.0 (G ++ A) more there.2))
 
-  stays : IsSound left (G ++ J)
+  stays : IsSoundAny left (G ++ J)
   stays =
       let all = is.outcome.sound in
       let part = front_of (run_over r) all.0 J all.1 books in
       let there = by_read all.0 part.0 part.1 all.2 in
-      subst (λ (M : SomeKept). IsSound M (G ++ J)) (keeps_one limit r.file there.0 left there.1 stands.2) there.2
+      subst (λ (M : AnyKept). IsSoundAny M (G ++ J)) (keeps_one limit r.file there.0 left there.1 stands.2) there.2
 
   promised : IsPromised limit G J run.stop r K left
   promised = record {
@@ -175,7 +177,7 @@ module _ (limit : ℕ) (file : List ℕ) (G J : List Book) (run : Run) (s : Show
 
 -- ---- all of them
 
-promised_from : (limit : ℕ) (runs : List Run) (shown : List Shown) (rans : List Ran) (G H : List Book) (file last : List ℕ) (K : SomeKept) → Keeps limit K file → IsSound K G
+promised_from : (limit : ℕ) (runs : List Run) (shown : List Shown) (rans : List Ran) (G H : List Book) (file last : List ℕ) (K : AnyKept) → Keeps limit K file → IsSoundAny K G
     → AreShown limit file runs shown rans last → AreAllBooks rans H → HasDistinctDigests (G ++ H) → AllPromised limit K G runs rans
 promised_from limit [] [] [] G H file last K kept sound here books distinct = tt
 promised_from limit [] [] (r ∷ rans) G H file last K kept sound here books distinct = absurd here
@@ -200,5 +202,5 @@ is_history limit runs shown rans last are = record {
   last = last;
   are_shown = are;
   promised = λ H books distinct.
-      promised_from limit runs shown rans [] H [] last nothing_kept (record { gate = 8; bodies = []; reads = refl; folded = refl }) (nothing_sound []) are books distinct;
+      promised_from limit runs shown rans [] H [] last (InTwo nothing_kept) (record { gate = 8; bodies = []; reads = refl; makes = record { phase = None; folded = refl; kept = refl } }) (nothing_sound []) are books distinct;
 }

@@ -3,11 +3,10 @@ use Rattle.std.proofs.Common.{◌≡◌, ℕ, ◌+◌, ◌<◌, ◌≤◌, Bool,
 use Rattle.carte_io.specs.Disk.{Story}
 use Rattle.carte_io.specs.Stations.{StepsThrough, calls_in, last_of}
 use Rattle.carte_io.proofs.Acknowledged.{AreMade, calls_in-append, last_of-append}
-use Rattle.carte_record.specs.Kept.{SomeKept}
 use Rattle.carte_record.specs.declared.batch.Batch.{Batch}
 use Rattle.carte_state.specs.Around.{OverDisk}
 use Rattle.carte_state.specs.Folding.{Keeps}
-use Rattle.carte_state.specs.States.{IsKeptOn, Stand, kept_in}
+use Rattle.carte_state.specs.States.{IsKeptOn, Stand, any_in}
 use Rattle.carte_state.specs.declared.fault.ApplyFault.{ApplyFault}
 use Rattle.carte_state.specs.declared.fault.ApplyFault.TheVariants.{DiskFault, Full, NoMemory}
 use Rattle.carte_engine.specs.Committing.{Commits, HasPassed, PutsAll, StopsAt, behind, is_first, steps_once, steps_put, steps_stopped, until}
@@ -15,9 +14,10 @@ use Rattle.carte_engine.proofs.Committing.{commit_limit, has_put, once_calls, on
 use Rattle.carte_engine.proofs.Several.{puts_limit, puts_rest}
 use Rattle.carte_engine.proofs.Steps.{EndsWell, both_calls, both_made, both_through, both_well, none_through}
 use Rattle.carte_history.specs.Steps.{Steps}
+use Rattle.carte_state.specs.Versions.{AnyKept}
 
 -- from what is kept to what is kept then, by steps all of which were made
-pub record IsStretch (limit : ℕ) (K L : SomeKept) (steps : Steps) (old new : Story) : Type 0 where
+pub record IsStretch (limit : ℕ) (K L : AnyKept) (steps : Steps) (old new : Story) : Type 0 where
   pub through : StepsThrough (Keeps limit) K steps old new
   pub calls : new.now.passed ≡ old.now.passed + calls_in steps
   pub made : AreMade steps
@@ -31,14 +31,14 @@ Passes (Full needed limit) calls before after = after ≡ before + calls
 Passes NoMemory calls before after = after ≡ before + calls
 
 -- from what is kept on, by steps the last of which was not made, for this reason
-pub record IsCut (limit : ℕ) (K : SomeKept) (steps : Steps) (fault : ApplyFault) (old new : Story) : Type 0 where
+pub record IsCut (limit : ℕ) (K : AnyKept) (steps : Steps) (fault : ApplyFault) (old new : Story) : Type 0 where
   pub through : StepsThrough (Keeps limit) K steps old new
   pub later : old.now.passed ≤ new.now.passed
   pub passes : Passes fault (calls_in steps) old.now.passed new.now.passed
   pub made : AreMade steps
   pub well : EndsWell steps old new
 
-pub stretch_none : (s : Stand) (old new : Story) → new ≡ old → IsKeptOn s old → IsStretch s.journal.limit (kept_in s) (kept_in s) [] old new
+pub stretch_none : (s : Stand) (old new : Story) → new ≡ old → IsKeptOn s old → IsStretch s.journal.limit (any_in s) (any_in s) [] old new
 stretch_none s old new same on = record {
   through = none_through s old new same on;
   calls = omega (arith, ap (λ (u : Story). u.now.passed) same);
@@ -47,7 +47,7 @@ stretch_none s old new same on = record {
   last = refl;
 }
 
-pub stretch_then : (limit : ℕ) (K L M : SomeKept) (bs cs : Steps) (s mid t : Story) → IsStretch limit K L bs s mid → IsStretch limit L M cs mid t → IsStretch limit K M (bs ++ cs) s t
+pub stretch_then : (limit : ℕ) (K L M : AnyKept) (bs cs : Steps) (s mid t : Story) → IsStretch limit K L bs s mid → IsStretch limit L M cs mid t → IsStretch limit K M (bs ++ cs) s t
 stretch_then limit K L M bs cs s mid t one two = record {
   through = both_through (Keeps limit) K bs cs s mid t one.through one.calls two.well two.made (subst (λ X. StepsThrough (Keeps limit) X cs mid t) (sym one.last) two.through);
   calls = both_calls bs cs s.now.passed mid.now.passed t.now.passed one.calls two.calls;
@@ -61,7 +61,7 @@ passes_behind DiskFault bs cs before between after made passes = omega (arith, m
 passes_behind (Full needed limit) bs cs before between after made passes = omega (arith, made, passes, calls_in-append bs cs)
 passes_behind NoMemory bs cs before between after made passes = omega (arith, made, passes, calls_in-append bs cs)
 
-pub cut_then : (limit : ℕ) (K L : SomeKept) (bs cs : Steps) (fault : ApplyFault) (s mid t : Story) → IsStretch limit K L bs s mid → IsCut limit L cs fault mid t → IsCut limit K (bs ++ cs) fault s t
+pub cut_then : (limit : ℕ) (K L : AnyKept) (bs cs : Steps) (fault : ApplyFault) (s mid t : Story) → IsStretch limit K L bs s mid → IsCut limit L cs fault mid t → IsCut limit K (bs ++ cs) fault s t
 cut_then limit K L bs cs fault s mid t one two = record {
   through = both_through (Keeps limit) K bs cs s mid t one.through one.calls two.well two.made (subst (λ X. StepsThrough (Keeps limit) X cs mid t) (sym one.last) two.through);
   later = omega (arith, one.calls, two.later);
@@ -83,7 +83,7 @@ later_of d between steps NoMemory begun passed = omega (arith, passed)
 -- ---- one batch
 
 module _ (first : Bool) (d : OverDisk) (old new : Stand) (B : Batch) (told : d.tells) (on : IsKeptOn old d.old) where
-  once_stretch : (commits : Commits first d old new B (Ok tt)) → IsStretch old.journal.limit (kept_in old) (kept_in new) (steps_once first d old new B (Ok tt) commits) d.old d.new
+  once_stretch : (commits : Commits first d old new B (Ok tt)) → IsStretch old.journal.limit (any_in old) (any_in new) (steps_once first d old new B (Ok tt) commits) d.old d.new
   once_stretch commits = record {
     through = once_through first d old new B (Ok tt) commits told on;
     calls = once_calls first d old new B commits told;
@@ -92,7 +92,7 @@ module _ (first : Bool) (d : OverDisk) (old new : Stand) (B : Batch) (told : d.t
     last = once_last first d old new B commits;
   }
 
-  once_cut : (fault : ApplyFault) (commits : Commits first d old new B (Err fault)) → IsCut old.journal.limit (kept_in old) (steps_once first d old new B (Err fault) commits) fault d.old d.new
+  once_cut : (fault : ApplyFault) (commits : Commits first d old new B (Err fault)) → IsCut old.journal.limit (any_in old) (steps_once first d old new B (Err fault) commits) fault d.old d.new
   once_cut fault commits =
       let steps = steps_once first d old new B (Err fault) commits in
       let passed = once_passed first d old new B fault commits told in
@@ -107,24 +107,24 @@ module _ (first : Bool) (d : OverDisk) (old new : Stand) (B : Batch) (told : d.t
 -- ---- several of them
 
 pub puts_stretch : (first : Bool) (d : OverDisk) (old : Stand) (Bs : List Batch) (new : Stand) (puts : PutsAll first d old Bs new) → d.tells → IsKeptOn old d.old
-    → IsStretch old.journal.limit (kept_in old) (kept_in new) (steps_put first d old Bs new puts) d.old d.new
+    → IsStretch old.journal.limit (any_in old) (any_in new) (steps_put first d old Bs new puts) d.old d.new
 puts_stretch first d old [] new puts told on =
-    subst (λ (s : Stand). IsStretch old.journal.limit (kept_in old) (kept_in s) [] d.old d.new) (sym puts.0) (stretch_none old d.old d.new puts.1 on)
+    subst (λ (s : Stand). IsStretch old.journal.limit (any_in old) (any_in s) [] d.old d.new) (sym puts.0) (stretch_none old d.old d.new puts.1 on)
 puts_stretch first d old (B ∷ Bs) new (mid, between, commits, puts) told on =
     let e = until d between in
     let front = steps_once first e old mid B (Ok tt) commits in
     let back = steps_put false (behind d between) mid Bs new puts in
     let here = puts_stretch false (behind d between) mid Bs new puts told ((has_put first e old mid B commits).rest told on) in
-    let there = subst (λ limit. IsStretch limit (kept_in mid) (kept_in new) back between d.new) (commit_limit first e old mid B (Ok tt) commits) here in
-    stretch_then old.journal.limit (kept_in old) (kept_in mid) (kept_in new) front back d.old between d.new (once_stretch first e old mid B told on commits) there
+    let there = subst (λ limit. IsStretch limit (any_in mid) (any_in new) back between d.new) (commit_limit first e old mid B (Ok tt) commits) here in
+    stretch_then old.journal.limit (any_in old) (any_in mid) (any_in new) front back d.old between d.new (once_stretch first e old mid B told on commits) there
 
 pub stops_cut : (d : OverDisk) (old : Stand) (Bs : List Batch) (new : Stand) (fault : ApplyFault) (stops : StopsAt d old Bs new fault) → d.tells → IsKeptOn old d.old
-    → IsCut old.journal.limit (kept_in old) (steps_stopped d old Bs new fault stops) fault d.old d.new
+    → IsCut old.journal.limit (any_in old) (steps_stopped d old Bs new fault stops) fault d.old d.new
 stops_cut d old Bs new fault stops told on =
     let e = until d stops.between in
     let f = behind d stops.between in
     let front = steps_put true e old stops.front stops.mid stops.puts in
     let back = steps_once (is_first stops.front) f stops.mid new stops.batch (Err fault) stops.stops in
     let here = once_cut (is_first stops.front) f stops.mid new stops.batch told (puts_rest true e old stops.front stops.mid stops.puts told on) fault stops.stops in
-    let there = subst (λ limit. IsCut limit (kept_in stops.mid) back fault stops.between d.new) (puts_limit true e old stops.front stops.mid stops.puts) here in
-    cut_then old.journal.limit (kept_in old) (kept_in stops.mid) front back fault d.old stops.between d.new (puts_stretch true e old stops.front stops.mid stops.puts told on) there
+    let there = subst (λ limit. IsCut limit (any_in stops.mid) back fault stops.between d.new) (puts_limit true e old stops.front stops.mid stops.puts) here in
+    cut_then old.journal.limit (any_in old) (any_in stops.mid) front back fault d.old stops.between d.new (puts_stretch true e old stops.front stops.mid stops.puts told on) there

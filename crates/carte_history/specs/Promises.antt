@@ -4,9 +4,8 @@ use Rattle.carte_io.specs.MemDisks.{story_of}
 use Rattle.carte_io.specs.Stations.{Step, calls_in, last_of}
 use Rattle.carte_io.specs.declared.crashes.Pick.{Pick}
 use Rattle.carte_book.specs.Book.{Book}
-use Rattle.carte_record.specs.Kept.{SomeKept, nothing_kept}
+use Rattle.carte_record.specs.Kept.{nothing_kept}
 use Rattle.carte_sound.specs.Base.{HasDistinctDigests}
-use Rattle.carte_sound.specs.Sound.{IsSound}
 use Rattle.carte_state.specs.Folding.{Keeps}
 use Rattle.carte_report.specs.declared.status.Status.{Status}
 use Rattle.carte_report.specs.declared.status.Status.TheVariants.{DiskFault, StateFull, NoMemory}
@@ -18,6 +17,8 @@ use Rattle.carte_history.specs.declared.run.Stop.{Stop}
 use Rattle.carte_history.specs.declared.run.Stop.TheVariants as stops
 use Rattle.carte_history.specs.Shown.{AreShown, IsStopped, Ran, around_of}
 use Rattle.carte_history.specs.Steps.{AreSteps, Steps}
+use Rattle.carte_engine.specs.Versions.{IsSoundAny}
+use Rattle.carte_state.specs.Versions.{AnyKept, InTwo}
 
 -- the run by the stories of its disk alone
 abbrev pub run_over : Ran → RunOver
@@ -42,7 +43,7 @@ run_over r = record {
 -- ---- stations
 
 -- one of the stations: this one, or one to which the steps lead
-abbrev pub IsOneOf : SomeKept → Steps → SomeKept → Type 0
+abbrev pub IsOneOf : AnyKept → Steps → AnyKept → Type 0
 IsOneOf K [] L = L ≡ K
 IsOneOf K (step ∷ steps) L = (L ≡ K) ⊎ IsOneOf step.to steps L
 
@@ -56,11 +57,11 @@ IsWhole status = Unit {0}
 -- ---- one run
 
 -- Over what the run finds kept, which is sound for the books so far, and what its image keeps, which is sound for those and its own.
-pub record IsPromised (limit : ℕ) (G J : List Book) (stop : Stop) (r : Ran) (K L : SomeKept) : Type 0 where
+pub record IsPromised (limit : ℕ) (G J : List Book) (stop : Stop) (r : Ran) (K L : AnyKept) : Type 0 where
   pub finds : Keeps limit K (story_of r.old).now.reads
-  pub sound : IsSound K G
+  pub sound : IsSoundAny K G
   pub leaves : Keeps limit L r.file
-  pub stays : IsSound L (G ++ J)
+  pub stays : IsSoundAny L (G ++ J)
   -- its commits up to the last whole reply, and those behind
   pub front : Steps
   pub rest : Steps
@@ -84,9 +85,9 @@ AreAllBooks [] H = H ≡ []
 AreAllBooks (r ∷ rans) H = (J rest : List Book) × (H ≡ J ++ rest) × AreBooks (run_over r) J × AreAllBooks rans rest
 
 -- each run finds what the image of the one before it keeps
-abbrev pub AllPromised : ℕ → SomeKept → List Book → List Run → List Ran → Type 0
+abbrev pub AllPromised : ℕ → AnyKept → List Book → List Run → List Ran → Type 0
 AllPromised limit K G [] [] = Unit {0}
-AllPromised limit K G (run ∷ runs) (r ∷ rans) = (L : SomeKept) × (J : List Book) × AreBooks (run_over r) J × IsPromised limit G J run.stop r K L × AllPromised limit L (G ++ J) runs rans
+AllPromised limit K G (run ∷ runs) (r ∷ rans) = (L : AnyKept) × (J : List Book) × AreBooks (run_over r) J × IsPromised limit G J run.stop r K L × AllPromised limit L (G ++ J) runs rans
 AllPromised limit K G runs rans = ⊥
 
 -- Each run is one of the top call over devices in memory, from a state on that is empty at first. Where the digests of the books are distinct, all that is promised of
@@ -95,4 +96,4 @@ pub record IsHistory (limit : ℕ) (runs : List Run) (shown : List Shown) : Type
   pub rans : List Ran
   pub last : List ℕ
   pub are_shown : AreShown limit [] runs shown rans last
-  pub promised : (H : List Book) → AreAllBooks rans H → HasDistinctDigests H → AllPromised limit nothing_kept [] runs rans
+  pub promised : (H : List Book) → AreAllBooks rans H → HasDistinctDigests H → AllPromised limit (InTwo nothing_kept) [] runs rans

@@ -3,7 +3,6 @@ use Rattle.std.specs.Prelude.{ℕ, ◌≡◌, ◌⊎◌, ◌+◌, true, List, []
 use Rattle.std.proofs.Common.{inl, inr}
 use Rattle.carte_io.specs.Stations.{Step}
 use Rattle.carte_book.specs.Book.{Book}
-use Rattle.carte_record.specs.Kept.{SomeKept}
 use Rattle.carte_record.specs.declared.batch.Batch.{Batch}
 use Rattle.carte_session.specs.Session.{Ended, Goes}
 use Rattle.carte_session.specs.declared.end.SessionEnd.{SessionEnd}
@@ -29,30 +28,31 @@ use Rattle.carte_report.specs.declared.status.Status.TheVariants.{DiskFault, Sta
 use Rattle.carte_top.specs.Around.{Around, OverDisk, OverSink, OverSource}
 use Rattle.carte_top.specs.Found.{Answers, ArePut, Carries, Holds, IsClearing, IsStopped, Makes, for_last}
 use Rattle.carte_top.specs.Outcome.{Asks, IsShort, IsSpared, status_of}
+use Rattle.carte_state.specs.Versions.{AnyKept}
 
 abbrev pub Steps : Type 0
-Steps = List (Step SomeKept)
+Steps = List (Step AnyKept)
 
 -- ---- the batches of a build, or of a clearing
 
 -- all of them were put
-abbrev pub ArePutBy : ℕ → OverDisk → SomeKept → List Batch → Steps → Type 0
+abbrev pub ArePutBy : ℕ → OverDisk → AnyKept → List Batch → Steps → Type 0
 ArePutBy limit d K Bs steps = (put : ArePut limit d K Bs) × (steps ≡ steps_put true (onwards d put.found.story) put.found.stand Bs put.last put.puts)
 
 -- those in front were, and the next one was not, for this reason; of its step some calls may have passed, where the disk failed
-abbrev pub AreStoppedBy : ℕ → OverDisk → SomeKept → List Batch → ApplyFault → Steps → Type 0
+abbrev pub AreStoppedBy : ℕ → OverDisk → AnyKept → List Batch → ApplyFault → Steps → Type 0
 AreStoppedBy limit d K Bs fault steps =
     (stopped : IsStopped limit d K Bs fault) × (steps ≡ steps_stopped (onwards d stopped.found.story) stopped.found.stand Bs stopped.last fault stopped.stops)
 
 -- By how the run ended. Memory may also be wanted behind all commits, or behind a batch for which there was no room, for the line that tells so.
-abbrev pub AreCommitted : Status → ℕ → OverDisk → SomeKept → List Batch → Steps → Type 0
+abbrev pub AreCommitted : Status → ℕ → OverDisk → AnyKept → List Batch → Steps → Type 0
 AreCommitted DiskFault limit d K Bs steps = AreStoppedBy limit d K Bs applying.DiskFault steps
 AreCommitted (StateFull needed most) limit d K Bs steps = AreStoppedBy limit d K Bs (applying.Full needed most) steps
 AreCommitted NoMemory limit d K Bs steps = ArePutBy limit d K Bs steps ⊎ ((fault : ApplyFault) × ¬ (fault ≡ applying.DiskFault) × AreStoppedBy limit d K Bs fault steps)
 AreCommitted status limit d K Bs steps = ArePutBy limit d K Bs steps
 
 -- those of a build that answers so
-abbrev pub AreBuilt : Status → ℕ → Asked → OverDisk → SomeKept → Steps → Book → Type 0
+abbrev pub AreBuilt : Status → ℕ → Asked → OverDisk → AnyKept → Steps → Book → Type 0
 AreBuilt status limit w d K steps b = (a : Answer) × (Bs : List Batch) × Answers w b K a Bs × AreCommitted status limit d K Bs steps
 
 -- ---- the lines of a session
@@ -106,7 +106,7 @@ module _ (tells : Type 0) where
 abbrev pub EndsSo : Status → Result (Unit {0}) SessionEnd → Type 0
 EndsSo status end = (status ≡ status_of end) ⊎ ((status ≡ NoMemory) × (e : SessionEnd) × IsShort e × (end ≡ Err e))
 
-abbrev pub AreSat : Status → ℕ → Asked → OverSource → OverDisk → OverSink → SomeKept → Steps → Steps → Book → Type 0
+abbrev pub AreSat : Status → ℕ → Asked → OverSource → OverDisk → OverSink → AnyKept → Steps → Steps → Book → Type 0
 AreSat status limit w c d k K front rest b = (end : Result (Unit {0}) SessionEnd) × EndsSo status end × (carries : Carries limit w c d k end b K)
     × (front ≡ steps_replied d.tells carries.first carries.last c k 67108864 carries.goes.read end carries.goes.ended)
     × (rest ≡ steps_unreplied d.tells carries.first carries.last c k 67108864 carries.goes.read end carries.goes.ended)
@@ -114,7 +114,7 @@ AreSat status limit w c d k K front rest b = (end : Result (Unit {0}) SessionEnd
 -- ---- a run
 
 -- The commits up to the run's last whole reply, and those behind it. The reply of a build or of a clearing comes behind all of its commits; an explanation makes none.
-abbrev pub AreStepsFor : Command → Status → ℕ → Asked → Around → SomeKept → Steps → Steps → Type 0
+abbrev pub AreStepsFor : Command → Status → ℕ → Asked → Around → AnyKept → Steps → Steps → Type 0
 AreStepsFor command.Build status limit w a K front rest = (front ≡ []) × Holds w.kind a.book (AreBuilt status limit w a.state K rest)
 AreStepsFor command.Generate status limit w a K front rest = (front ≡ []) × Makes w (AreBuilt status limit (for_last w) a.state K rest)
 AreStepsFor command.Clean status limit w a K front rest = (front ≡ []) × ((B : Batch) × IsClearing K B × AreCommitted status limit a.state K (B ∷ []) rest)
@@ -122,5 +122,5 @@ AreStepsFor command.Session status limit w a K front rest = Holds w.kind a.book 
 AreStepsFor command.Explain status limit w a K front rest = ⊥
 
 -- none, where the run came to no commit, and wrote nothing
-abbrev pub AreSteps : Status → ℕ → Around → SomeKept → Steps → Steps → Type 0
+abbrev pub AreSteps : Status → ℕ → Around → AnyKept → Steps → Steps → Type 0
 AreSteps status limit a K front rest = ((front ≡ []) × (rest ≡ []) × IsSpared a.state) ⊎ Asks a.words (λ w. AreStepsFor w.command status limit w a K front rest)

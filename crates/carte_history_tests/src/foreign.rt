@@ -34,11 +34,11 @@ fn a_state_is_whole_or_refused(rt: HostRuntime) -> Result<(), Fail> {
     let mut state = MemDisk::of(rt.alloc(), &[], &[])?;
     assert_eq!(rt; built(&rt, rt.alloc(), &mut state)?.as_str(), RAN);
     let bytes = state.bytes().to_vec(rt.alloc())?;
-    assert_eq!(rt; bytes.len(), 437);
-    for length in 0..438 {
+    assert_eq!(rt; bytes.len(), 537);
+    for length in 0..538 {
         let mut cut = MemDisk::of(rt.alloc(), &bytes[..length], &[])?;
         let text = built(&rt, rt.alloc(), &mut cut)?;
-        assert_eq!(rt; text.as_str(), wanted(length, 437), "{length} bytes");
+        assert_eq!(rt; text.as_str(), wanted(length, 537), "{length} bytes");
     }
     Ok(())
 }

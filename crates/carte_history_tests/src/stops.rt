@@ -137,7 +137,7 @@ fn a_history_shows_its_files(rt: HostRuntime) -> Result<(), Fail> {
     );
     assert_eq!(rt; files[0].image.len(), 0);
     assert_eq!(rt; files[1].err.len(), 0);
-    assert_eq!(rt; files[1].image.len(), 437);
+    assert_eq!(rt; files[1].image.len(), 537);
     assert_eq!(rt;
         files[2].err.as_slice(),
         b"carte: the state's device failed\n".as_slice()

@@ -1,23 +1,16 @@
 -- What a build begins with.
-use Rattle.std.proofs.Common.{◌≡◌, true, false, cond, ap, sym, ◌∙◌}
+use Rattle.std.proofs.Common.{◌≡◌, ℕ, List}
+use Rattle.carte_value.specs.Truths.{IsListOf}
 use Rattle.carte_book.specs.Book.{Book}
-use Rattle.carte_record.specs.Folds.{with_marks}
-use Rattle.carte_record.specs.Kept.{SomeKept, nothing_kept}
+use Rattle.carte_record.specs.Kept.{SomeKept}
+use Rattle.carte_sound.specs.Begun.{IsGone, begin}
+use Rattle.carte_sound.specs.Marks.{IsMarked}
 use Rattle.carte_mark.specs.declared.base.Begun.{Begun}
-use Rattle.carte_mark.specs.Bases.{BeginsWith, IsBegun}
+use Rattle.carte_mark.specs.Bases.{beginning_of, BeginsWith, IsBegun}
+use Rattle.carte_mark.specs.Reached.{AreChanged}
 
--- under other rules with nothing
-pub begins_other : (K : SomeKept) (b : Book) (x : Begun) (M : SomeKept) → IsBegun K b x → x.same ≡ false → M ≡ nothing_kept → BeginsWith K b x M
-begins_other K b x M begun other base = record {
-  same = begun.same;
-  marked = begun.marked;
-  base = base ∙ sym (ap (λ t. cond t (with_marks K x.marks) nothing_kept) (sym begun.same ∙ other));
-}
+pub is_begun : (K : SomeKept) (b : Book) (names : List (List ℕ)) (x : Begun) → AreChanged K b names → (AreChanged K b names → IsListOf (IsGone K b) x.gone) → ((c : Book) → AreChanged K c names → IsListOf (IsMarked K c) x.marks) → IsBegun K b x
+is_begun K b names x changed gone marks = record { marks = marks b changed; gone = gone changed }
 
--- under the same rules with what is kept, marked
-pub begins_same : (K : SomeKept) (b : Book) (x : Begun) (M : SomeKept) → IsBegun K b x → x.same ≡ true → M ≡ with_marks K x.marks → BeginsWith K b x M
-begins_same K b x M begun same base = record {
-  same = begun.same;
-  marked = begun.marked;
-  base = base ∙ sym (ap (λ t. cond t (with_marks K x.marks) nothing_kept) (sym begun.same ∙ same));
-}
+pub begins_with : (K : SomeKept) (b : Book) (x : Begun) (M : SomeKept) → IsBegun K b x → M ≡ begin K (beginning_of x) → BeginsWith K b x M
+begins_with K b x M begun base = record { begun = begun; base = base }

@@ -3,6 +3,8 @@ pub mod Putting
 pub mod Spreading
 pub mod Changing
 pub mod Passing
+pub mod OtherTasks
 pub mod Reaching
 pub mod Listing
+pub mod Dropping
 pub mod Beginning

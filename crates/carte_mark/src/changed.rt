@@ -4,18 +4,28 @@ ghost use Rattle.carte_record.specs.Kept.{kept_view};
 ghost use Rattle.carte_table.specs.Lookups.{first_link};
 ghost use Rattle.carte_sound.specs.Begun.{is_digest};
 ghost use Rattle.carte_sound.specs.Marks.{present};
-ghost use Rattle.carte_mark.specs.Reached.{has_changed, AreChanged, AddsChanged};
+ghost use Rattle.carte_mark.specs.Reached.{has_changed, AreChanged, AreSeenChanged, AddsChanged};
 
 use crate::set::{NameSet, put};
+use crate::tasks::put_changed_rules;
 use carte_book::{Book, Looked};
 use carte_effect::Digests;
 use carte_record::{Kept, Seen};
 use carte_value::{Digest, Link, Name, NoMemory};
 use std::alloc::Global;
 
-/// The names that were seen with a digest that they haven't now.
+/// The names that were seen with a digest that they haven't now, or have an entry with a task that they haven't now.
+#[tactic(auto, using(crate::proofs::OtherTasks::both_changed))]
 pub(crate) fn changed(alloc: Global, kept: &Kept, book: &Book) -> Result<NameSet, NoMemory>
     ensures { IfOk result (λ names. AreChanged (kept_view kept.now) (book_view book.now) names.keys) }
+{
+    let mut names = changed_inputs(alloc, kept, book)?;
+    put_changed_rules(alloc, kept, book, &mut names)?;
+    Ok(names)
+}
+
+fn changed_inputs(alloc: Global, kept: &Kept, book: &Book) -> Result<NameSet, NoMemory>
+    ensures { IfOk result (λ names. AreSeenChanged (kept_view kept.now) (book_view book.now) names.keys) }
 {
     let hasher = book.hasher();
     let mut digests = Digests::new(alloc, hasher);

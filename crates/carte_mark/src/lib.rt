@@ -1,21 +1,21 @@
-//! The marking: which entries a build marks stale, and what it begins with.
+//! The marking: which entries a build marks stale, what it drops, and what it begins with.
 //!
-//! A name has changed where an input was seen with a digest that it hasn't now. A key is marked where its entry isn't
-//! stale yet and leads to a changed name, by needs of needs. One set of names grows from the changed names: passes over
-//! the entries put the key of each that needs a name of the set. A build finishes needs first, so most entries stand
-//! behind those that they need, and one pass puts all; a second one over those before the last key that was put shows
-//! that none is missing. Entries in a worse order would need a pass for each step of the longest chain: where two rounds of
-//! passes weren't enough, the set goes on over a table of the keys that need each name, and is itself the queue of the
-//! names whose users are to come. There is no recursion, and where no name has changed no entry is looked at.
+//! A name has changed where an input was seen with a digest that it hasn't now, or an entry has a task that its key hasn't
+//! now. A key is marked where its entry isn't stale yet and it has changed or leads to a changed name, by needs of needs.
+//! One set of names grows from the changed names: passes over the entries put the key of each that needs a name of the set.
+//! A build finishes needs first, so most entries stand behind those that they need, and one pass puts all; a second one over
+//! those before the last key that was put shows that none is missing. Entries in a worse order would need a pass for each
+//! step of the longest chain: where two rounds of passes weren't enough, the set goes on over a table of the keys that need
+//! each name, and is itself the queue of the names whose users are to come. There is no recursion, and where no name has
+//! changed no need is looked at. The marks are the keys of the set whose entries aren't stale, sorted once, at the end.
 //!
-//! The set holds the changed names beside the keys that are reached, so that a need is looked up once. A changed name may
-//! have an entry without leading to a change; once the set is closed, the keys that lead to one are those whose entries
-//! need a name of the set, so this is asked again of each that is to be marked. The marks are sorted once, at the end.
-//! A digest costs more than all else that is asked of an input, so that of a number is worked out once: many have the same.
+//! A name that became something else, a seen one that is no input any more or an entry's key that is no rule, has changed
+//! too: so those that a build drops are found among the changed ones alone. A digest costs more than all else that is asked
+//! of an input, so that of a number is worked out once: many have the same.
 //!
-//! The contract is exact for any kept information, sound or not: marks are the list of what `IsMarked` says, in name
-//! order. Nothing is marked here: whoever builds puts the marks on what is kept, where it stands, and takes them off when
-//! the build is worked out. Under other rules a build begins with nothing, and nothing is to be marked.
+//! The contract is exact for any kept information, sound or not: marks are the list of what `IsMarked` says, and dropped
+//! names of what `IsGone` says, in name order. Nothing is marked or dropped here: whoever builds does so, and takes it back
+//! when the build is worked out.
 //!
 //! Turned down: the table from the start, which costs several times the passes; a walk from each entry down to its inputs,
 //! which goes over shared needs again and again; a tree of the marks, dearer than one sort; marks kept beside the entries,
@@ -24,10 +24,12 @@
 
 mod base;
 mod changed;
+mod gone;
 mod marking;
 mod pass;
 mod reach;
 mod set;
+mod tasks;
 mod users;
 mod walk;
 

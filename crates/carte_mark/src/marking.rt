@@ -1,39 +1,46 @@
 ghost use Rattle.std.specs.Prelude.{◌≡◌, ◌↔◌, true, IfOk, OnOk};
-ghost use Rattle.carte_value.specs.Truths.{IsListOf};
-ghost use Rattle.carte_book.specs.Book.{book_view};
+ghost use Rattle.carte_value.specs.Truths.{Among, IsListOf};
+ghost use Rattle.carte_book.specs.Book.{Book as SomeBook, book_view};
 ghost use Rattle.carte_record.specs.Kept.{kept_view};
 ghost use Rattle.carte_sound.specs.Marks.{IsMarked};
-ghost use Rattle.carte_mark.specs.Marking.{IsToMark, PushesToMark, AreToMark};
+ghost use Rattle.carte_mark.specs.Marking.{IsToMark, Pushes, ArePicked};
+ghost use Rattle.carte_mark.specs.Reached.{AreChanged};
 
 use crate::changed::changed;
 use crate::reach::reached;
-use crate::set::{NameSet, meets};
+use crate::set::NameSet;
 use carte_book::Book;
 use carte_record::{Entries, Kept};
 use carte_value::{Name, Names, NoMemory};
 use std::alloc::Global;
 
-/// The keys, in name order, whose entries aren't stale and lead to a name that was seen with a digest that it hasn't now.
+/// The keys, in name order, whose entries aren't stale and that have changed or lead to a changed name.
+#[tactic(auto, using(crate::proofs::Listing::marked_over))]
 pub fn mark(alloc: Global, kept: &Kept, book: &Book) -> Result<Names, NoMemory>
     ensures { IfOk result (IsListOf (IsMarked (kept_view kept.now) (book_view book.now))) }
 {
     let changed = changed(alloc, kept, book)?;
+    marks_over(alloc, kept, changed)
+}
+
+/// The same where these names have changed.
+pub(crate) fn marks_over(alloc: Global, kept: &Kept, changed: NameSet) -> Result<Names, NoMemory>
+    ensures { IfOk result (λ marks. (b : SomeBook) → AreChanged (kept_view kept.now) b changed.keys → IsListOf (IsMarked (kept_view kept.now) b) marks) }
+{
     if changed.is_empty() {
         return Ok(Names::new(alloc));
     }
     let reached = reached(alloc, kept, changed)?;
-    let mut marks = to_mark(alloc, &kept.entries, &reached)?;
-    marks.sort_unstable();
-    marks.dedup();
-    listed(alloc, marks)
+    let marks = to_mark(alloc, &kept.entries, &reached)?;
+    in_order(alloc, marks)
 }
 
 fn to_mark(alloc: Global, entries: &Entries, reached: &NameSet) -> Result<Vec<Name>, NoMemory>
-    ensures { IfOk result (λ marks. AreToMark entries.now reached.now.keys reached.now.keys marks.items) }
+    ensures { IfOk result (λ marks. ArePicked (IsToMark entries.now) reached.now.keys marks.items) }
 {
     let mut marks = Vec::new(alloc);
     for name in reached.as_slice() {
-        push_to_mark(alloc, entries, reached, name, &mut marks)?;
+        push_to_mark(alloc, entries, name, &mut marks)?;
     }
     Ok(marks)
 }
@@ -41,26 +48,34 @@ fn to_mark(alloc: Global, entries: &Entries, reached: &NameSet) -> Result<Vec<Na
 fn push_to_mark(
     alloc: Global,
     entries: &Entries,
-    reached: &NameSet,
     name: &Name,
     marks: &mut Vec<Name>,
 ) -> Result<(), NoMemory>
-    ensures { OnOk result (PushesToMark entries.now reached.now.keys marks.old.items marks.new.items name.now) }
+    ensures { OnOk result (Pushes (IsToMark entries.now) marks.old.items marks.new.items name.now) }
 {
-    if is_to_mark(entries, reached, name) {
+    if is_to_mark(entries, name) {
         marks.push(name.copy(alloc)?)?;
     }
     Ok(())
 }
 
-// A changed name that is there isn't thereby a key that leads to one.
-fn is_to_mark(entries: &Entries, reached: &NameSet, name: &Name) -> bool
-    ensures { (result ≡ true) ↔ IsToMark entries.now reached.now.keys name.now }
+fn is_to_mark(entries: &Entries, name: &Name) -> bool
+    ensures { (result ≡ true) ↔ IsToMark entries.now name.now }
 {
     match entries.find(name) {
-        Some(entry) => !entry.stale && meets(&entry.needs, reached),
+        Some(entry) => !entry.stale,
         None => false,
     }
+}
+
+/// These names in name order, each once.
+pub(crate) fn in_order(alloc: Global, names: Vec<Name>) -> Result<Names, NoMemory>
+    ensures { IfOk result (IsListOf (Among names.items)) }
+{
+    let mut names = names;
+    names.sort_unstable();
+    names.dedup();
+    listed(alloc, names)
 }
 
 /// These names as a list.

@@ -1,5 +1,5 @@
 -- The entries of a batch with that of one more finished key.
-use Rattle.std.proofs.Common.{◌≡◌, ℕ, Bool, true, false, ◌&&◌, cond, List, [], ◌∷◌, ◌++◌, Option, Some, None, refl, ap, sym, ◌∙◌, map, subst, inl, inr, ◌⊎◌}
+use Rattle.std.proofs.Common.{◌≡◌, ℕ, Bool, true, false, ◌&&◌, cond, List, [], ◌∷◌, ◌++◌, Option, Some, None, refl, ap, sym, ◌∙◌, map, subst, inl, inr}
 use Rattle.std.specs.Option.{option_or}
 use Rattle.carte_name.specs.Names.{name_eq}
 use Rattle.carte_value.specs.Truths.{NoneTwice}
@@ -38,10 +38,10 @@ bool_self true = refl
 bool_self false = refl
 
 pub entry_self : (e : Entry) → entry_eq e e ≡ true
-entry_self e = all (name_eq e.key e.key) (digest_eq e.result e.result) (names_eq e.needs e.needs) (bool_eq e.stale e.stale) (bool_eq e.shallow e.shallow) (name_eq_self e.key) (digest_self e.result) (names_self e.needs) (bool_self e.stale) (bool_self e.shallow)
+entry_self e = all (name_eq e.key e.key) (digest_eq e.task e.task) (digest_eq e.result e.result) (names_eq e.needs e.needs) (bool_eq e.stale e.stale) (bool_eq e.shallow e.shallow) (name_eq_self e.key) (digest_self e.task) (digest_self e.result) (names_self e.needs) (bool_self e.stale) (bool_self e.shallow)
   where
-    all : (a b c d f : Bool) → a ≡ true → b ≡ true → c ≡ true → d ≡ true → f ≡ true → ((a && b) && (c && (d && f))) ≡ true
-    all a b c d f is_a is_b is_c is_d is_f = rw (is_a, is_b, is_c, is_d, is_f) refl
+    all : (a t b c d f : Bool) → a ≡ true → t ≡ true → b ≡ true → c ≡ true → d ≡ true → f ≡ true → (((a && t) && b) && (c && (d && f))) ≡ true
+    all a t b c d f is_a is_t is_b is_c is_d is_f = rw (is_a, is_t, is_b, is_c, is_d, is_f) refl
 
 -- one that isn't kept, of a key that had what is kept
 pub entered : (kept now : List ℕ → Option Entry) (es : List Entry) (k : List ℕ) (e : Entry) → EntriesIn kept now es → now k ≡ kept k → e.key ≡ k → ¬ (kept k ≡ Some e) → EntriesIn kept (put_at now k e) (es ++ e ∷ [])

@@ -1,5 +1,5 @@
 -- Names beside the names of links, and inputs seen, place by place.
-use Rattle.std.proofs.Common.{◌≡◌, ℕ, suc, ◌<◌, Bool, true, false, ◌&&◌, List, [], ◌∷◌, ◌++◌, length, drop, get_or, refl, ap, sym, ◌∙◌, add-one, drop-cons}
+use Rattle.std.proofs.Common.{◌≡◌, ℕ, suc, Bool, true, false, ◌&&◌, List, [], ◌∷◌, ◌++◌, length, refl, ap}
 use Rattle.carte_value.specs.declared.link.Link.{Link}
 use Rattle.carte_name.specs.Names.{name_eq}
 use Rattle.carte_book.specs.Book.{Book}

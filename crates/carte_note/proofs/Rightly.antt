@@ -1,54 +1,62 @@
 -- What a key that is right brings: its trace and its entry are those of the book.
-use Rattle.std.proofs.Common.{◌≡◌, ℕ, Bool, true, false, not, ◌&&◌, ◌||◌, cond, List, [], ◌∷◌, Option, Some, None, refl, ap, sym, ◌∙◌, subst, inl, inr, ◌⊎◌}
+use Rattle.std.proofs.Common.{◌≡◌, ℕ, Bool, true, false, not, ◌&&◌, ◌||◌, cond, List, Option, Some, None, refl, ap, sym, ◌∙◌, subst}
 use Rattle.carte_value.specs.declared.digest.Digest.{Digest}
 use Rattle.carte_value.specs.declared.link.Link.{Link}
-use Rattle.carte_value.specs.Spelling.{digest_of}
 use Rattle.carte_effect.specs.declared.outcome.Made.{Made}
 use Rattle.carte_effect.specs.declared.outcome.Made.TheVariants.{Ran, Reused}
 use Rattle.carte_effect.specs.Jobs.{outcome_of}
 use Rattle.carte_book.specs.Book.{Book, clean}
 use Rattle.carte_book.specs.Needs.{needs}
+use Rattle.carte_book.specs.Task.{task_now}
+use Rattle.carte_book.proofs.Tasks.{task_of_rule}
 use Rattle.carte_record.specs.declared.entry.Entry.{Entry}
-use Rattle.carte_record.specs.declared.kept.Kept.{Kept}
 use Rattle.carte_record.specs.declared.trace.Trace.{Trace}
 use Rattle.carte_record.specs.declared.way.Way.{Way}
 use Rattle.carte_record.specs.declared.way.Way.TheVariants.{Verifying, Constructive, Deep}
-use Rattle.carte_record.specs.Kept.{SomeKept, is_fresh, kept_view}
+use Rattle.carte_record.specs.Kept.{SomeKept, is_fresh}
 use Rattle.carte_sound.specs.Base.{AllNow}
 use Rattle.carte_sound.specs.Beneath.{beneath}
 use Rattle.carte_sound.specs.Held.{How, dirty, tracing, gathers}
 use Rattle.carte_sound.specs.Left.{entry_left, entry_eq, fresh_or, is_kept, is_way}
 use Rattle.carte_sound.specs.Marks.{IsFresh}
-use Rattle.carte_sound.specs.True.{digest_or, links_to, linked, trace_of, full_entry, shallow_entry}
+use Rattle.carte_sound.specs.True.{digest_or, or_none, wanted_task, links_to, linked, trace_of, full_entry, shallow_entry}
 use Rattle.carte_sound.proofs.Tests.{fresh_parts}
 use Rattle.carte_note.specs.declared.finished.Finished.{Finished}
 use Rattle.carte_note.specs.Methods.{is_dirty}
-use Rattle.carte_note.specs.Right.{IsRightFinished, IsRightMade, Came, key_of, has_run}
-use Rattle.carte_note.specs.Writes.{links_noted, names_in, digest_made, trace_noted, entry_noted, stays_as, stays}
-use Rattle.carte_note.proofs.Entered.{entry_self}
+use Rattle.carte_note.specs.Right.{IsRightFinished, Came, has_run}
+use Rattle.carte_note.specs.Writes.{links_noted, names_in, digest_made, task_made, named_task, trace_noted, entry_noted, stays_as}
 use Rattle.carte_note.proofs.Seeing.{names_linked}
 
-entry_by : List ℕ → Digest → List (List ℕ) → Bool → Entry
-entry_by k d ks s = record { key = k; result = d; needs = ks; stale = false; shallow = s }
+entry_by : List ℕ → Digest → Digest → List (List ℕ) → Bool → Entry
+entry_by k t d ks s = record { key = k; task = t; result = d; needs = ks; stale = false; shallow = s }
 
-trace_by : List ℕ → List Link → Digest → Trace
-trace_by k ls d = record { key = k; links = ls; result = d }
+trace_by : List ℕ → Digest → List Link → Digest → Trace
+trace_by k t ls d = record { key = k; task = t; links = ls; result = d }
 
 -- an entry by its parts
-full_by : (e : Entry) (b : Book) (k : List ℕ) → e.key ≡ k → e.result ≡ digest_or (clean b k) → e.needs ≡ needs b k → e.stale ≡ false → e.shallow ≡ false → e ≡ full_entry b k
-full_by e b k key result needed stale shallow i = record { key = key i; result = result i; needs = needed i; stale = stale i; shallow = shallow i }
+full_by : (e : Entry) (b : Book) (k : List ℕ) → e.key ≡ k → e.task ≡ or_none (task_now b k) → e.result ≡ digest_or (clean b k) → e.needs ≡ needs b k → e.stale ≡ false → e.shallow ≡ false → e ≡ full_entry b k
+full_by e b k key task result needed stale shallow i = record { key = key i; task = task i; result = result i; needs = needed i; stale = stale i; shallow = shallow i }
+
+-- a trace names the task that is wanted of it
+named_wanted : (w : Way) (b : Book) (k : List ℕ) → named_task w b (or_none (task_now b k)) ≡ or_none (wanted_task w b k)
+named_wanted Verifying b k = refl
+named_wanted Constructive b k = refl
+named_wanted Deep b k = refl
 
 module _ (h : How) (K : SomeKept) (b : Book) (k : List ℕ) (f : Finished) (right : IsRightFinished h K b k f) where
   digest_right : digest_made f ≡ digest_or (clean b k)
   digest_right = sym (ap digest_or right.made.value)
 
-  entry_is : (ks : List (List ℕ)) → links_noted h f ≡ links_to (clean b) ks → entry_noted h f ≡ entry_by k (digest_or (clean b k)) ks (gathers h)
-  unfolding entry_by
-  entry_is ks links i = record { key = right.made.key i; result = digest_right i; needs = (ap names_in links ∙ names_linked b ks) i; stale = false; shallow = gathers h }
+  task_right : task_made b f ≡ or_none (task_now b k)
+  task_right = ap (λ q. or_none (task_now b q)) right.made.key
 
-  trace_is : (ks : List (List ℕ)) → links_noted h f ≡ links_to (clean b) ks → trace_noted h f ≡ trace_by k (links_to (clean b) ks) (digest_or (clean b k))
+  entry_is : (ks : List (List ℕ)) → links_noted h f ≡ links_to (clean b) ks → entry_noted h (task_made b f) f ≡ entry_by k (or_none (task_now b k)) (digest_or (clean b k)) ks (gathers h)
+  unfolding entry_by
+  entry_is ks links i = record { key = right.made.key i; task = task_right i; result = digest_right i; needs = (ap names_in links ∙ names_linked b ks) i; stale = false; shallow = gathers h }
+
+  trace_is : (w : Way) (ks : List (List ℕ)) → links_noted h f ≡ links_to (clean b) ks → trace_noted h (named_task w b (task_made b f)) f ≡ trace_by k (or_none (wanted_task w b k)) (links_to (clean b) ks) (digest_or (clean b k))
   unfolding trace_by
-  trace_is ks links i = record { key = right.made.key i; links = links i; result = digest_right i }
+  trace_is w ks links i = record { key = right.made.key i; task = (ap (named_task w b) task_right ∙ named_wanted w b k) i; links = links i; result = digest_right i }
 
 ran_links : (h : How) (K : SomeKept) (b : Book) (k : List ℕ) (m : Made) → Came h K b k m → has_run m ≡ true → (outcome_of m).links ≡ links_to (clean b) (needs b k)
 ran_links h K b k (Ran o) came is = came.1
@@ -60,23 +68,23 @@ made_links w K b k (Ran o) same came = came.1
 made_links w K b k (Reused o) same came = came.1 ∙ ap (links_to (clean b)) same
 
 -- the trace of a key that ran
-pub trace_right : (h : How) (w : Way) (K : SomeKept) (b : Book) (k : List ℕ) (f : Finished) → IsRightFinished h K b k f → has_run f.made ≡ true → is_way h w ≡ true → trace_noted h f ≡ trace_of w b k
+pub trace_right : (h : How) (w : Way) (K : SomeKept) (b : Book) (k : List ℕ) (f : Finished) → IsRightFinished h K b k f → has_run f.made ≡ true → is_way h w ≡ true → trace_noted h (named_task w b (task_made b f)) f ≡ trace_of w b k
 unfolding trace_by
 trace_right dirty w K b k f right ran is = cc
-trace_right (tracing Verifying) Verifying K b k f right ran is = trace_is (tracing Verifying) K b k f right (needs b k) (made_links Verifying K b k f.made refl right.made.came)
+trace_right (tracing Verifying) Verifying K b k f right ran is = trace_is (tracing Verifying) K b k f right Verifying (needs b k) (made_links Verifying K b k f.made refl right.made.came)
 trace_right (tracing Verifying) Constructive K b k f right ran is = cc
 trace_right (tracing Verifying) Deep K b k f right ran is = cc
 trace_right (tracing Constructive) Verifying K b k f right ran is = cc
-trace_right (tracing Constructive) Constructive K b k f right ran is = trace_is (tracing Constructive) K b k f right (needs b k) (made_links Constructive K b k f.made refl right.made.came)
+trace_right (tracing Constructive) Constructive K b k f right ran is = trace_is (tracing Constructive) K b k f right Constructive (needs b k) (made_links Constructive K b k f.made refl right.made.came)
 trace_right (tracing Constructive) Deep K b k f right ran is = cc
 trace_right (tracing Deep) Verifying K b k f right ran is = cc
 trace_right (tracing Deep) Constructive K b k f right ran is = cc
-trace_right (tracing Deep) Deep K b k f right ran is = trace_is (tracing Deep) K b k f right (beneath b k) right.beneath
+trace_right (tracing Deep) Deep K b k f right ran is = trace_is (tracing Deep) K b k f right Deep (beneath b k) right.beneath
 
 -- the entry that is left is what is to be written, or it is kept and stays
 pub data Leaves (h : How) (K : SomeKept) (b : Book) (k : List ℕ) (f : Finished) (o : Option Entry) (stay : Bool) (e : Entry) : Type 0 where
   kept : stay ≡ true → o ≡ Some e → Leaves h K b k f o stay e
-  written : stay ≡ is_kept o e → entry_noted h f ≡ e → e.key ≡ k → links_noted h f ≡ links_to (clean b) e.needs → Leaves h K b k f o stay e
+  written : stay ≡ is_kept o e → entry_noted h (task_made b f) f ≡ e → e.key ≡ k → links_noted h f ≡ links_to (clean b) e.needs → Leaves h K b k f o stay e
 
 shallow_tests : (h : How) (o : Option Entry) (e : Entry) → gathers h ≡ false → stays_as h o e ≡ is_kept o e
 shallow_tests h None e not_deep = refl
@@ -87,41 +95,41 @@ held_full : (K : SomeKept) (b : Book) (k : List ℕ) → AllNow K b → (p : IsF
 held_full K b k now p =
     let n = now k p.entry p.kept p.fresh in
     let fresh = fresh_parts p.entry p.fresh in
-    p.kept ∙ ap Some (full_by p.entry b k n.key (n.result ∙ sym (ap digest_or n.clean)) n.needs fresh.0 fresh.1)
+    p.kept ∙ ap Some (full_by p.entry b k n.key (n.task ∙ sym (ap or_none (task_of_rule b k n.formula n.is_rule))) (n.result ∙ sym (ap digest_or n.clean)) n.needs fresh.0 fresh.1)
 
-by_dirty : (K : SomeKept) (b : Book) (k : List ℕ) (f : Finished) (o : Option Entry) → AllNow K b → K.entries k ≡ o → IsRightFinished dirty K b k f → (m : Made) → f.made ≡ m → Came dirty K b k m → Leaves dirty K b k f o (not (has_run f.made) || stays_as dirty o (entry_noted dirty f)) (full_entry b k)
+by_dirty : (K : SomeKept) (b : Book) (k : List ℕ) (f : Finished) (o : Option Entry) → AllNow K b → K.entries k ≡ o → IsRightFinished dirty K b k f → (m : Made) → f.made ≡ m → Came dirty K b k m → Leaves dirty K b k f o (not (has_run f.made) || stays_as dirty o (entry_noted dirty (task_made b f) f)) (full_entry b k)
 unfolding entry_by
 by_dirty K b k f o now at right (Ran r) is came =
     let links : links_noted dirty f ≡ links_to (clean b) (needs b k) = ran_links dirty K b k f.made right.made.came (ap has_run is) in
-    let equal : entry_noted dirty f ≡ full_entry b k = entry_is dirty K b k f right (needs b k) links in
-    written (ap (λ t. not t || stays_as dirty o (entry_noted dirty f)) (ap has_run is) ∙ (shallow_tests dirty o (entry_noted dirty f) refl ∙ ap (is_kept o) equal)) equal refl links
-by_dirty K b k f o now at right (Reused r) is came = kept (ap (λ t. not t || stays_as dirty o (entry_noted dirty f)) (ap has_run is)) (sym at ∙ held_full K b k now came.0)
+    let equal : entry_noted dirty (task_made b f) f ≡ full_entry b k = entry_is dirty K b k f right (needs b k) links in
+    written (ap (λ t. not t || stays_as dirty o (entry_noted dirty (task_made b f) f)) (ap has_run is) ∙ (shallow_tests dirty o (entry_noted dirty (task_made b f) f) refl ∙ ap (is_kept o) equal)) equal refl links
+by_dirty K b k f o now at right (Reused r) is came = kept (ap (λ t. not t || stays_as dirty o (entry_noted dirty (task_made b f) f)) (ap has_run is)) (sym at ∙ held_full K b k now came.0)
 
-by_needs : (w : Way) (K : SomeKept) (b : Book) (k : List ℕ) (f : Finished) (o : Option Entry) → gathers (tracing w) ≡ false → linked w b k ≡ needs b k → IsRightFinished (tracing w) K b k f → Leaves (tracing w) K b k f o (stays_as (tracing w) o (entry_noted (tracing w) f)) (full_entry b k)
+by_needs : (w : Way) (K : SomeKept) (b : Book) (k : List ℕ) (f : Finished) (o : Option Entry) → gathers (tracing w) ≡ false → linked w b k ≡ needs b k → IsRightFinished (tracing w) K b k f → Leaves (tracing w) K b k f o (stays_as (tracing w) o (entry_noted (tracing w) (task_made b f) f)) (full_entry b k)
 unfolding entry_by
 by_needs w K b k f o not_deep same right =
     let links : links_noted (tracing w) f ≡ links_to (clean b) (needs b k) = ap (λ t. cond t f.beneath (outcome_of f.made).links) not_deep ∙ made_links w K b k f.made same right.made.came in
-    let equal : entry_noted (tracing w) f ≡ full_entry b k = entry_is (tracing w) K b k f right (needs b k) links ∙ ap (entry_by k (digest_or (clean b k)) (needs b k)) not_deep in
-    written (shallow_tests (tracing w) o (entry_noted (tracing w) f) not_deep ∙ ap (is_kept o) equal) equal refl links
+    let equal : entry_noted (tracing w) (task_made b f) f ≡ full_entry b k = entry_is (tracing w) K b k f right (needs b k) links ∙ ap (entry_by k (or_none (task_now b k)) (digest_or (clean b k)) (needs b k)) not_deep in
+    written (shallow_tests (tracing w) o (entry_noted (tracing w) (task_made b f) f) not_deep ∙ ap (is_kept o) equal) equal refl links
 
-by_inputs : (K : SomeKept) (b : Book) (k : List ℕ) (f : Finished) (o : Option Entry) → IsRightFinished (tracing Deep) K b k f → Leaves (tracing Deep) K b k f o (stays_as (tracing Deep) o (entry_noted (tracing Deep) f)) (fresh_or o (shallow_entry b k))
+by_inputs : (K : SomeKept) (b : Book) (k : List ℕ) (f : Finished) (o : Option Entry) → IsRightFinished (tracing Deep) K b k f → Leaves (tracing Deep) K b k f o (stays_as (tracing Deep) o (entry_noted (tracing Deep) (task_made b f) f)) (fresh_or o (shallow_entry b k))
 unfolding entry_by
 by_inputs K b k f o right = on o
   where
-    equal : entry_noted (tracing Deep) f ≡ shallow_entry b k
+    equal : entry_noted (tracing Deep) (task_made b f) f ≡ shallow_entry b k
     equal = entry_is (tracing Deep) K b k f right (beneath b k) right.beneath
 
-    choose : (x : Entry) (t : Bool) → is_fresh x ≡ t → Leaves (tracing Deep) K b k f (Some x) (t || entry_eq x (entry_noted (tracing Deep) f)) (cond t x (shallow_entry b k))
+    choose : (x : Entry) (t : Bool) → is_fresh x ≡ t → Leaves (tracing Deep) K b k f (Some x) (t || entry_eq x (entry_noted (tracing Deep) (task_made b f) f)) (cond t x (shallow_entry b k))
     choose x true is = kept refl refl
     choose x false is = written (ap (entry_eq x) equal) equal refl right.beneath
 
-    on : (o : Option Entry) → Leaves (tracing Deep) K b k f o (stays_as (tracing Deep) o (entry_noted (tracing Deep) f)) (fresh_or o (shallow_entry b k))
+    on : (o : Option Entry) → Leaves (tracing Deep) K b k f o (stays_as (tracing Deep) o (entry_noted (tracing Deep) (task_made b f) f)) (fresh_or o (shallow_entry b k))
     on None = written refl equal refl right.beneath
     on (Some x) = choose x (is_fresh x) refl
 
 -- of the key as it is kept
-pub leaves : (h : How) (K L : SomeKept) (b : Book) (k : List ℕ) (f : Finished) (o : Option Entry) → AllNow K b → K.entries k ≡ o → L.entries k ≡ o → IsRightFinished h K b k f → Leaves h K b k f o ((is_dirty h && not (has_run f.made)) || stays_as h o (entry_noted h f)) (entry_left h L b k)
+pub leaves : (h : How) (K L : SomeKept) (b : Book) (k : List ℕ) (f : Finished) (o : Option Entry) → AllNow K b → K.entries k ≡ o → L.entries k ≡ o → IsRightFinished h K b k f → Leaves h K b k f o ((is_dirty h && not (has_run f.made)) || stays_as h o (entry_noted h (task_made b f) f)) (entry_left h L b k)
 leaves dirty K L b k f o now at same right = by_dirty K b k f o now at right f.made refl right.made.came
 leaves (tracing Verifying) K L b k f o now at same right = by_needs Verifying K b k f o refl refl right
 leaves (tracing Constructive) K L b k f o now at same right = by_needs Constructive K b k f o refl refl right
-leaves (tracing Deep) K L b k f o now at same right = subst (λ x. Leaves (tracing Deep) K b k f o (stays_as (tracing Deep) o (entry_noted (tracing Deep) f)) (fresh_or x (shallow_entry b k))) (sym same) (by_inputs K b k f o right)
+leaves (tracing Deep) K L b k f o now at same right = subst (λ x. Leaves (tracing Deep) K b k f o (stays_as (tracing Deep) o (entry_noted (tracing Deep) (task_made b f) f)) (fresh_or x (shallow_entry b k))) (sym same) (by_inputs K b k f o right)

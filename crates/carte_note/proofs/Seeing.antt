@@ -8,7 +8,7 @@ use Rattle.carte_value.specs.Truths.{NoneTwice}
 use Rattle.carte_book.specs.Book.{Book, clean}
 use Rattle.carte_book.proofs.Clean.{clean_input}
 use Rattle.carte_record.specs.Folds.{is_among}
-use Rattle.carte_table.specs.Lookups.{digest_eq, link_in, first_link}
+use Rattle.carte_table.specs.Lookups.{link_in, first_link}
 use Rattle.carte_table.proofs.Names.{name_eq_self, name_eq_sym}
 use Rattle.carte_sound.specs.Begun.{is_digest}
 use Rattle.carte_sound.specs.Left.{seen_left}

@@ -1,5 +1,5 @@
 -- The values of a batch with that of one more finished key.
-use Rattle.std.proofs.Common.{◌≡◌, ℕ, Bool, true, false, ◌||◌, cond, List, [], ◌∷◌, ◌++◌, Option, Some, None, is_some, refl, ap, sym, ◌∙◌, map, subst, inl, inr}
+use Rattle.std.proofs.Common.{◌≡◌, Bool, true, false, ◌||◌, cond, List, [], ◌∷◌, ◌++◌, Option, Some, None, is_some, refl, ap, sym, ◌∙◌, map, subst, inl, inr}
 use Rattle.std.specs.Prelude.{find}
 use Rattle.std.specs.Option.{option_or}
 use Rattle.carte_value.specs.declared.digest.Digest.{Digest}
@@ -13,7 +13,7 @@ use Rattle.carte_sound.specs.Left.{or_first}
 use Rattle.carte_sound.specs.Lists.{EachOnce}
 use Rattle.carte_sound.proofs.Tests.{same_digest, digest_self}
 use Rattle.carte_note.specs.Writes.{with_value}
-use Rattle.carte_note.proofs.Ends.{or_parts, each_end}
+use Rattle.carte_note.proofs.Ends.{each_end}
 
 -- just those that the store lacks
 pub record ValuesIn (kept now : Digest → Option Value) (vs : List Value) : Type 0 where

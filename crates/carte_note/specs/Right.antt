@@ -1,5 +1,5 @@
 -- Keys that were made, and finished, as they should be.
-use Rattle.std.specs.Prelude.{ℕ, ◌≡◌, Bool, true, false, List, [], ◌∷◌, ◌++◌, Some, if◌then◌else◌}
+use Rattle.std.specs.Prelude.{ℕ, ◌≡◌, Bool, true, false, List, [], ◌∷◌, Some, if◌then◌else◌}
 use Rattle.carte_value.specs.declared.link.Link.{Link}
 use Rattle.carte_book.specs.Book.{Book, clean}
 use Rattle.carte_book.specs.Needs.{needs}

@@ -1,11 +1,13 @@
 -- What one more finished key brings to a batch, read off the lists of what is kept and of the batch.
-use Rattle.std.specs.Prelude.{ℕ, Bool, true, false, not, ◌&&◌, ◌||◌, List, [], ◌∷◌, ◌++◌, Option, Some, None, is_some, map, if◌then◌else◌}
+use Rattle.std.specs.Prelude.{ℕ, Bool, false, not, ◌&&◌, ◌||◌, List, [], ◌∷◌, ◌++◌, Option, Some, None, is_some, map, if◌then◌else◌}
 use Rattle.carte_value.specs.declared.digest.Digest.{Digest}
 use Rattle.carte_value.specs.declared.link.Link.{Link}
 use Rattle.carte_value.specs.declared.value.Value.{Value}
 use Rattle.carte_value.specs.Spelling.{digest_of}
 use Rattle.carte_effect.specs.Jobs.{outcome_of}
 use Rattle.carte_book.specs.Book.{Book}
+use Rattle.carte_book.specs.Digest.{rules_digest_of}
+use Rattle.carte_book.specs.Task.{task_now}
 use Rattle.carte_record.specs.declared.batch.Batch.{Batch}
 use Rattle.carte_record.specs.declared.entry.Entry.{Entry}
 use Rattle.carte_record.specs.declared.kept.Kept.{Kept}
@@ -19,6 +21,7 @@ use Rattle.carte_sound.specs.Begun.{is_digest}
 use Rattle.carte_sound.specs.Held.{How, gathers}
 use Rattle.carte_sound.specs.Left.{entry_eq, is_way}
 use Rattle.carte_sound.specs.Marks.{present}
+use Rattle.carte_sound.specs.True.{or_none}
 use Rattle.carte_note.specs.declared.finished.Finished.{Finished}
 use Rattle.carte_note.specs.Methods.{is_dirty}
 use Rattle.carte_note.specs.Right.{key_of, has_run}
@@ -33,11 +36,21 @@ names_in ls = map (λ l. l.name) ls
 abbrev pub digest_made : Finished → Digest
 digest_made f = digest_of (outcome_of f.made).value
 
-abbrev pub trace_noted : How → Finished → Trace
-trace_noted h f = record { key = key_of f; links = links_noted h f; result = digest_made f }
+-- the digest of the key's task
+abbrev pub task_made : Book → Finished → Digest
+task_made b f = or_none (task_now b (key_of f))
 
-abbrev pub entry_noted : How → Finished → Entry
-entry_noted h f = record { key = key_of f; result = digest_made f; needs = names_in (links_noted h f); stale = false; shallow = gathers h }
+-- the digest that a trace of this kind names as its task: that one, and of a deep trace that of all rules
+abbrev pub named_task : Way → Book → Digest → Digest
+named_task Verifying b t = t
+named_task Constructive b t = t
+named_task Deep b t = rules_digest_of b
+
+abbrev pub trace_noted : How → Digest → Finished → Trace
+trace_noted h t f = record { key = key_of f; task = t; links = links_noted h f; result = digest_made f }
+
+abbrev pub entry_noted : How → Digest → Finished → Entry
+entry_noted h t f = record { key = key_of f; task = t; result = digest_made f; needs = names_in (links_noted h f); stale = false; shallow = gathers h }
 
 -- a value behind those of the batch, where neither these nor those that are kept have its digest
 abbrev pub with_value : List Value → Value → List Value → List Value
@@ -47,8 +60,8 @@ with_value kept v vs = if is_some (first_value kept (digest_of v)) || is_some (f
 abbrev pub values_noted : List Value → Finished → List Value → List Value
 values_noted kept f vs = if has_run f.made then with_value kept (outcome_of f.made).value vs else vs
 
-abbrev pub traces_noted : How → Way → Finished → List Trace → List Trace
-traces_noted h w f ts = if has_run f.made && is_way h w then ts ++ trace_noted h f ∷ [] else ts
+abbrev pub traces_noted : How → Way → Book → Finished → List Trace → List Trace
+traces_noted h w b f ts = if has_run f.made && is_way h w then ts ++ trace_noted h (named_task w b (task_made b f)) f ∷ [] else ts
 
 -- the batch with one trace more
 abbrev pub traced : Way → Trace → Batch → Batch
@@ -69,29 +82,32 @@ abbrev pub stays_as : How → Option Entry → Entry → Bool
 stays_as h None e = false
 stays_as h (Some old) e = (gathers h && is_fresh old) || entry_eq old e
 
--- and under dirty bits that of a held key
-abbrev pub stays : How → Kept → Finished → Bool
-stays h K f = (is_dirty h && not (has_run f.made)) || stays_as h (first_entry K.entries (key_of f)) (entry_noted h f)
+-- a held key brings nothing under dirty bits
+abbrev pub brings_nothing : How → Finished → Bool
+brings_nothing h f = is_dirty h && not (has_run f.made)
+
+abbrev pub stays : How → Kept → Digest → Finished → Bool
+stays h K t f = brings_nothing h f || stays_as h (first_entry K.entries (key_of f)) (entry_noted h t f)
 
 abbrev pub seen_noted : How → Book → Kept → Finished → List Link → List Link
-seen_noted h b K f ls = if stays h K f then ls else all_seen b K.seen (links_noted h f) ls
+seen_noted h b K f ls = if stays h K (task_made b f) f then ls else all_seen b K.seen (links_noted h f) ls
 
-abbrev pub entries_noted : How → Kept → Finished → List Entry → List Entry
-entries_noted h K f es = if stays h K f then es else es ++ entry_noted h f ∷ []
+abbrev pub entries_noted : How → Book → Kept → Finished → List Entry → List Entry
+entries_noted h b K f es = if stays h K (task_made b f) f then es else es ++ entry_noted h (task_made b f) f ∷ []
 
 -- the batch with the value and the trace of a key that ran
-abbrev pub with_run : How → Kept → Finished → Batch → Batch
-with_run h K f B = record B {
+abbrev pub with_run : How → Book → Kept → Finished → Batch → Batch
+with_run h b K f B = record B {
   values = values_noted K.values f B.values;
-  verifying = traces_noted h Verifying f B.verifying;
-  constructive = traces_noted h Constructive f B.constructive;
-  deep = traces_noted h Deep f B.deep;
+  verifying = traces_noted h Verifying b f B.verifying;
+  constructive = traces_noted h Constructive b f B.constructive;
+  deep = traces_noted h Deep b f B.deep;
 }
 
 -- and with its entry, and the inputs that the entry names
 abbrev pub with_entry : How → Book → Kept → Finished → Batch → Batch
-with_entry h b K f B = record B { seen = seen_noted h b K f B.seen; entries = entries_noted h K f B.entries }
+with_entry h b K f B = record B { seen = seen_noted h b K f B.seen; entries = entries_noted h b K f B.entries }
 
 -- with all that the key brings
 abbrev pub with_finished : How → Book → Kept → Finished → Batch → Batch
-with_finished h b K f B = with_entry h b K f (with_run h K f B)
+with_finished h b K f B = with_entry h b K f (with_run h b K f B)

@@ -2,25 +2,32 @@ ghost use Rattle.std.specs.Prelude.{◌≡◌, IfOk, true, false, length};
 ghost use Rattle.carte_record.specs.Kept.{is_fresh};
 ghost use Rattle.carte_sound.specs.Left.{entry_eq, names_eq};
 ghost use Rattle.carte_note.specs.Methods.{how_of};
-ghost use Rattle.carte_note.specs.Writes.{digest_made, entry_noted, names_in, stays};
+ghost use Rattle.carte_note.specs.Writes.{brings_nothing, digest_made, entry_noted, names_in, stays_as};
+ghost use Rattle.carte_record.specs.Lookups.{first_entry};
+ghost use Rattle.carte_note.specs.Right.{key_of};
 
+use crate::digests::Digests;
 use crate::finished::{has_run, links_noted};
 use crate::{Finished, Method};
 use carte_record::{Entry, Kept};
-use carte_value::{Digest, Link, Links, Name, Names, NoMemory};
+use carte_value::{Link, Links, Name, Names, NoMemory};
 use std::alloc::Global;
 
-/// Whether the entry that is kept stays as it is.
-pub(crate) fn stays(method: Method, kept: &Kept, finished: &Finished, digest: Digest) -> bool
-    requires { digest ≡ digest_made finished.now }
-    ensures { result ≡ stays (how_of method) kept.now finished.now }
+/// Whether the key brings nothing whatever is kept of it: it is held by marks alone.
+pub(crate) fn brings_nothing(method: Method, finished: &Finished) -> bool
+    ensures { result ≡ brings_nothing (how_of method) finished.now }
 {
-    if method.is_dirty() && !has_run(&finished.made) {
-        return true;
-    }
+    method.is_dirty() && !has_run(&finished.made)
+}
+
+/// Whether the entry that is kept stays as it is.
+pub(crate) fn stays_as(method: Method, kept: &Kept, finished: &Finished, digests: Digests) -> bool
+    requires { digests.result ≡ digest_made finished.now }
+    ensures { result ≡ stays_as (how_of method) (first_entry kept.now.entries (key_of finished.now)) (entry_noted (how_of method) digests.task finished.now) }
+{
     match kept.entries.find(finished.made.key()) {
         Some(old) => (method.gathers_beneath() && is_fresh(old))
-            || is_noted(old, method, finished, digest),
+            || is_noted(old, method, finished, digests),
         None => false,
     }
 }
@@ -32,11 +39,11 @@ fn is_fresh(entry: &Entry) -> bool
 }
 
 /// Whether the entry is the one that is to be written. It takes no memory.
-fn is_noted(old: &Entry, method: Method, finished: &Finished, digest: Digest) -> bool
-    requires { digest ≡ digest_made finished.now }
-    ensures { result ≡ entry_eq old.now (entry_noted (how_of method) finished.now) }
+fn is_noted(old: &Entry, method: Method, finished: &Finished, digests: Digests) -> bool
+    requires { digests.result ≡ digest_made finished.now }
+    ensures { result ≡ entry_eq old.now (entry_noted (how_of method) digests.task finished.now) }
 {
-    (old.key == *finished.made.key() && old.result == digest)
+    ((old.key == *finished.made.key() && old.task == digests.task) && old.result == digests.result)
         && (same_names(&old.needs, links_noted(method, finished))
             && (!old.stale && old.shallow == method.gathers_beneath()))
 }
@@ -68,14 +75,15 @@ pub(crate) fn entry(
     alloc: Global,
     method: Method,
     finished: &Finished,
-    digest: Digest,
+    digests: Digests,
 ) -> Result<Entry, NoMemory>
-    requires { digest ≡ digest_made finished.now }
-    ensures { IfOk result (λ e. e ≡ entry_noted (how_of method) finished.now) }
+    requires { digests.result ≡ digest_made finished.now }
+    ensures { IfOk result (λ e. e ≡ entry_noted (how_of method) digests.task finished.now) }
 {
     Ok(Entry {
         key: finished.made.key().copy(alloc)?,
-        result: digest,
+        task: digests.task,
+        result: digests.result,
         needs: names(alloc, links_noted(method, finished))?,
         stale: false,
         shallow: method.gathers_beneath(),

@@ -18,7 +18,7 @@ use Rattle.carte_sound.specs.Left.{is_way}
 use Rattle.carte_sound.specs.Marks.{present}
 use Rattle.carte_note.specs.declared.finished.Finished.{Finished}
 use Rattle.carte_note.specs.Right.{has_run}
-use Rattle.carte_note.specs.Writes.{all_seen, entry_noted, links_noted, stays, trace_noted, traces_noted, values_noted, with_finished, with_seen}
+use Rattle.carte_note.specs.Writes.{all_seen, entry_noted, links_noted, named_task, stays, task_made, trace_noted, traces_noted, values_noted, with_finished, with_seen}
 use Rattle.carte_plan.specs.Cuts.{cut_off, with_all}
 
 -- a list that begins with another one
@@ -56,7 +56,7 @@ none_behind : {A : Type 0} (t : Bool) (xs ys : List A) (z : A) → cond t (xs ++
 none_behind true xs ys z = refl
 none_behind false xs ys z = append_assoc xs ys (z ∷ [])
 
-pub traces_with : (w : Way) (h : How) (b : Book) (K : Kept) (f : Finished) (B : Batch) → batch_traces w (with_finished h b K f B) ≡ traces_noted h w f (batch_traces w B)
+pub traces_with : (w : Way) (h : How) (b : Book) (K : Kept) (f : Finished) (B : Batch) → batch_traces w (with_finished h b K f B) ≡ traces_noted h w b f (batch_traces w B)
 traces_with Verifying h b K f B = refl
 traces_with Constructive h b K f B = refl
 traces_with Deep h b K f B = refl
@@ -71,6 +71,7 @@ pub record IsAlong (W R W' R' : Batch) : Type 0 where
   pub traces : (w : Way) → batch_traces w W' ≡ batch_traces w W ++ batch_traces w R'
   pub chain : W'.chain ≡ W.chain
   pub starts : R'.start ≡ R.start
+  pub gone : R'.gone ≡ R.gone
   pub stale : R'.stale ≡ R.stale
   pub unchained : R'.chain ≡ R.chain
 
@@ -93,6 +94,7 @@ none_along W R bare = record {
   traces = λ w. sym (ap (λ ts. batch_traces w W ++ ts) (bare.traces w) ∙ append-nil (batch_traces w W));
   chain = refl;
   starts = refl;
+  gone = refl;
   stale = refl;
   unchained = refl;
 }
@@ -101,15 +103,16 @@ module _ (h : How) (b : Book) (K : Kept) (W R : Batch) where
   one_along : (f : Finished) (V S : Batch) → IsAlong W R V S → IsAlong W R (with_finished h b K f V) (with_finished h b K f S)
   one_along f V S so = record {
     values = ap (values_noted K.values f) so.values;
-    seen = ap (λ ls. cond (stays h K f) ls (all_seen b K.seen (links_noted h f) ls)) so.seen;
+    seen = ap (λ ls. cond (stays h K (task_made b f) f) ls (all_seen b K.seen (links_noted h f) ls)) so.seen;
     values_begin = begins_more R.values S.values (values_noted K.values f S.values) so.values_begin (value_begins K.values f S.values);
-    seen_begin = begins_more R.seen S.seen (cond (stays h K f) S.seen (all_seen b K.seen (links_noted h f) S.seen)) so.seen_begin (seen_on (stays h K f));
-    entries = ap (λ es. cond (stays h K f) es (es ++ entry_noted h f ∷ [])) so.entries ∙ none_behind (stays h K f) W.entries S.entries (entry_noted h f);
-    traces = λ w. traces_with w h b K f V ∙ (ap (traces_noted h w f) (so.traces w)
-        ∙ (more_behind (has_run f.made && is_way h w) (batch_traces w W) (batch_traces w S) (trace_noted h f)
+    seen_begin = begins_more R.seen S.seen (cond (stays h K (task_made b f) f) S.seen (all_seen b K.seen (links_noted h f) S.seen)) so.seen_begin (seen_on (stays h K (task_made b f) f));
+    entries = ap (λ es. cond (stays h K (task_made b f) f) es (es ++ entry_noted h (task_made b f) f ∷ [])) so.entries ∙ none_behind (stays h K (task_made b f) f) W.entries S.entries (entry_noted h (task_made b f) f);
+    traces = λ w. traces_with w h b K f V ∙ (ap (traces_noted h w b f) (so.traces w)
+        ∙ (more_behind (has_run f.made && is_way h w) (batch_traces w W) (batch_traces w S) (trace_noted h (named_task w b (task_made b f)) f)
         ∙ ap (λ ts. batch_traces w W ++ ts) (sym (traces_with w h b K f S))));
     chain = so.chain;
     starts = so.starts;
+    gone = so.gone;
     stale = so.stale;
     unchained = so.unchained;
   }

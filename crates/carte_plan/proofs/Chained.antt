@@ -1,5 +1,5 @@
 -- The chain that is put into a batch.
-use Rattle.std.proofs.Common.{◌≡◌, ℕ, Bool, true, false, cond, List, [], Some, refl, ap, sym, ◌∙◌, subst, inl, inr}
+use Rattle.std.proofs.Common.{◌≡◌, ℕ, Bool, true, false, List, Some, refl, ap, sym, ◌∙◌, subst, inl, inr}
 use Rattle.std.specs.Bool.{Decides}
 use Rattle.std.specs.Cmp.Lexicographic.{bytes_decides, pointwise}
 use Rattle.std.proofs.lemmas.Slice.Eq.{slice_eq-Decides}
@@ -8,15 +8,10 @@ use Rattle.carte_book.specs.Book.{Book}
 use Rattle.carte_record.specs.declared.batch.Batch.{Batch}
 use Rattle.carte_record.specs.declared.way.Way.{Way}
 use Rattle.carte_record.specs.declared.way.Way.TheVariants.{Verifying, Constructive, Deep}
-use Rattle.carte_record.specs.Folds.{batch_traces, with_marks}
-use Rattle.carte_record.specs.Kept.{SomeKept, nothing_kept, traces_in}
-use Rattle.carte_sound.specs.Begun.{begin, has_rules_of}
+use Rattle.carte_record.specs.Folds.{batch_traces}
+use Rattle.carte_record.specs.Kept.{SomeKept, traces_in}
 use Rattle.carte_sound.specs.Carries.{Carries}
-use Rattle.carte_sound.specs.LeadsTo.{chain_behind}
-use Rattle.carte_sound.specs.Left.{keys_of}
-use Rattle.carte_note.specs.declared.finished.Finished.{Finished}
 use Rattle.carte_note.specs.Notes.{AreUnmarked}
-use Rattle.carte_note.specs.Right.{finishes_of}
 use Rattle.carte_plan.specs.Planned.{PutsChain}
 
 -- the test of the two lists tells whether the chain is to be put
@@ -44,6 +39,10 @@ pub puts_start : (old chain : List (List ℕ)) (B C : Batch) → PutsChain old c
 puts_start old chain B C (inl (same, is)) = ap (λ (D : Batch). D.start) is
 puts_start old chain B C (inr (other, is)) = ap (λ (D : Batch). D.start) is
 
+pub puts_gone : (old chain : List (List ℕ)) (B C : Batch) → PutsChain old chain B C → C.gone ≡ B.gone
+puts_gone old chain B C (inl (same, is)) = ap (λ (D : Batch). D.gone) is
+puts_gone old chain B C (inr (other, is)) = ap (λ (D : Batch). D.gone) is
+
 pub puts_stale : (old chain : List (List ℕ)) (B C : Batch) → PutsChain old chain B C → C.stale ≡ B.stale
 puts_stale old chain B C (inl (same, is)) = ap (λ (D : Batch). D.stale) is
 puts_stale old chain B C (inr (other, is)) = ap (λ (D : Batch). D.stale) is
@@ -70,15 +69,3 @@ puts_carries b L N chain B C (inr (other, is)) c = subst (λ D. Carries b L (rec
   chain = refl;
   chain_differs = λ ks is_chain. (let same : chain ≡ ks = cc in λ was. other (was ∙ sym same));
 })
-
--- nothing is put where nothing was kept or finished
-pub puts_none : (chain : List (List ℕ)) (B C : Batch) → chain ≡ [] → PutsChain [] chain B C → C ≡ B
-puts_none chain B C none (inl (same, is)) = is
-puts_none chain B C none (inr (other, is)) = absurd (other (sym none))
-
--- no chain is kept under other rules, and none comes where nothing is finished
-pub none_chained : (K : SomeKept) (b : Book) (ms : List (List ℕ)) → has_rules_of K b ≡ false → (begin K b ms).chain ≡ []
-none_chained K b ms other = ap (λ (t : Bool). (cond t (with_marks K ms) nothing_kept).chain) other
-
-pub none_behind : (K : SomeKept) (b : Book) (ms : List (List ℕ)) (fs : List Finished) (chain : List (List ℕ)) → has_rules_of K b ≡ false → fs ≡ [] → chain ≡ chain_behind (keys_of (finishes_of fs)) (begin K b ms).chain → chain ≡ []
-none_behind K b ms fs chain other none is = is ∙ (ap (λ old. chain_behind (keys_of (finishes_of fs)) old) (none_chained K b ms other) ∙ ap (λ (gs : List Finished). chain_behind (keys_of (finishes_of gs)) []) none)

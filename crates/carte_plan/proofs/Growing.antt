@@ -20,6 +20,7 @@ use Rattle.carte_plan.proofs.Lists.{finishes_end, keys_same, once_front, others_
 pub none_noted : (h : How) (M : SomeKept) (b : Book) (B : Batch) → NotesAll h M b [] B B
 none_noted h M b B = record {
   start = refl;
+  gone = refl;
   stale = refl;
   unmarked = λ are. are;
   carries = λ given c. c;
@@ -37,9 +38,10 @@ module _ (h : How) (M : SomeKept) (b : Book) (before : List Finished) (f : Finis
       (others_stay h b M (finishes_of before) (key_of f) (λ among. apart (subst (λ ks. Among ks (key_of f)) (keys_same before) among)))
       (right_front h M b before f given.right).1
 
-  pub one_noted : (AreUnmarked mid.entries → AreUnmarked new.entries) → new.start ≡ mid.start → new.stale ≡ mid.stale → NotesAll h M b (before ++ f ∷ []) old new
-  one_noted unmarked start stale = record {
+  pub one_noted : (AreUnmarked mid.entries → AreUnmarked new.entries) → new.start ≡ mid.start → new.gone ≡ mid.gone → new.stale ≡ mid.stale → NotesAll h M b (before ++ f ∷ []) old new
+  one_noted unmarked start gone stale = record {
     start = start ∙ so.start;
+    gone = gone ∙ so.gone;
     stale = stale ∙ so.stale;
     unmarked = λ are. unmarked (so.unmarked are);
     carries = λ given c. subst (λ L. Carries b M L new) (sym (ap (add_all h b M) (finishes_end before f) ∙ adds_end h b M (finishes_of before) (key_of f) (has_run f.made))) (one given c).carries;

@@ -1,6 +1,6 @@
 -- Lists of finished keys, and the marks that they leave.
 use Rattle.std.proofs.Common.{◌≡◌, ℕ, Bool, true, false, not, ◌||◌, ◌&&◌, cond, List, [], ◌∷◌, ◌++◌, Option, Some, None, is_none, length, filter, find, refl, ap, sym, ◌∙◌, subst, inl, inr}
-use Rattle.std.specs.Prelude.{◌==◌}
+use Rattle.std.specs.Prelude.{◌==◌, ◌↔◌}
 use Rattle.std.proofs.Math.Dec.{eqb-suc-zero}
 use Rattle.std.proofs.lemmas.List.Elements.{filter-append}
 use Rattle.carte_name.specs.Names.{name_eq}
@@ -9,7 +9,7 @@ use Rattle.carte_value.proofs.Members.{among_right, among_left}
 use Rattle.carte_book.specs.Book.{Book}
 use Rattle.carte_record.specs.declared.batch.Batch.{Batch}
 use Rattle.carte_record.specs.declared.start.Start.{Start}
-use Rattle.carte_record.specs.declared.start.Start.TheVariants.{GoOn, Anew, Cleared}
+use Rattle.carte_record.specs.declared.start.Start.TheVariants.{GoOn, Cleared}
 use Rattle.carte_record.specs.Empty.{goes_on, is_empty, brings_no_key, brings_no_trace}
 use Rattle.carte_record.specs.Folds.{is_among}
 use Rattle.carte_record.specs.Kept.{SomeKept}
@@ -17,7 +17,7 @@ use Rattle.carte_table.proofs.Names.{name_eq_sym}
 use Rattle.carte_sound.specs.Held.{How}
 use Rattle.carte_sound.specs.LeadsTo.{empty_batch, marks_left}
 use Rattle.carte_sound.specs.Left.{Finishes, keys_of, add, add_all, entry_left}
-use Rattle.carte_sound.proofs.Tests.{put_there, apart_name}
+use Rattle.carte_sound.proofs.Tests.{among_tested, not_among, put_there, apart_name}
 use Rattle.carte_note.specs.declared.finished.Finished.{Finished}
 use Rattle.carte_note.specs.Lists.{finished_of, is_of_key}
 use Rattle.carte_note.specs.Right.{AreRight, IsRightFinished, finishes_of, has_run, key_of, keys_in}
@@ -67,17 +67,26 @@ found_among (f ∷ fs) k = ap (λ t. is_none (cond t (Some f) (find (is_of_key k
     on true is = refl
     on false is = is
 
+-- a test by a set of names is one by its list
+pub test_is : (t : Bool) (ks : List (List ℕ)) (k : List ℕ) → ((t ≡ true) ↔ Among ks k) → t ≡ is_among ks k
+test_is true ks k holds = sym (among_tested ks k (holds.0 refl))
+test_is false ks k holds = sym (not_among ks k (λ among. let e : false ≡ true = holds.1 among in cc))
+
 -- the marks of one key more
-pub left_more : (fs : List Finished) (ms left : List (List ℕ)) (m : List ℕ) (t : Bool) → t ≡ is_none (finished_of fs m) → left ≡ marks_left (finishes_of fs) ms → cond t (left ++ m ∷ []) left ≡ marks_left (finishes_of fs) (ms ++ m ∷ [])
-left_more fs ms left m t is so = on t (is ∙ found_among fs m) ∙ sym (filter-append (λ k. not (is_among (keys_of (finishes_of fs)) k)) ms (m ∷ []))
+pub left_more : (fs : List Finished) (gs ms left : List (List ℕ)) (m : List ℕ) (t : Bool) → t ≡ (not (is_among gs m) && is_none (finished_of fs m)) → left ≡ marks_left (finishes_of fs) (record { marks = ms; gone = gs })
+    → cond t (left ++ m ∷ []) left ≡ marks_left (finishes_of fs) (record { marks = ms ++ m ∷ []; gone = gs })
+left_more fs gs ms left m t is so = on t (is ∙ ap (λ u. not (is_among gs m) && u) (found_among fs m)) ∙ sym (filter-append test ms (m ∷ []))
   where
+    test : List ℕ → Bool
+    test k = not (is_among gs k) && not (is_among (keys_of (finishes_of fs)) k)
+
     nil_end : (xs : List (List ℕ)) → xs ++ [] ≡ xs
     nil_end [] = refl
     nil_end (x ∷ xs) = ap (λ ys. x ∷ ys) (nil_end xs)
 
-    on : (u : Bool) → u ≡ not (is_among (keys_of (finishes_of fs)) m) → cond u (left ++ m ∷ []) left ≡ marks_left (finishes_of fs) ms ++ filter (λ k. not (is_among (keys_of (finishes_of fs)) k)) (m ∷ [])
-    on true test = ap (λ xs. xs ++ m ∷ []) so ∙ ap (λ u. marks_left (finishes_of fs) ms ++ cond u (m ∷ []) []) test
-    on false test = so ∙ (sym (nil_end (marks_left (finishes_of fs) ms)) ∙ ap (λ u. marks_left (finishes_of fs) ms ++ cond u (m ∷ []) []) test)
+    on : (u : Bool) → u ≡ test m → cond u (left ++ m ∷ []) left ≡ filter test ms ++ filter test (m ∷ [])
+    on true passes = ap (λ xs. xs ++ m ∷ []) so ∙ ap (λ u. filter test ms ++ cond u (m ∷ []) []) passes
+    on false fails = so ∙ (sym (nil_end (filter test ms)) ∙ ap (λ u. filter test ms ++ cond u (m ∷ []) []) fails)
 
 -- a batch with nothing in it is the empty one
 
@@ -91,7 +100,6 @@ no_chain (Some ks) is = cc
 
 on_start : (s : Start) → goes_on s ≡ true → s ≡ GoOn
 on_start GoOn is = refl
-on_start (Anew d) is = cc
 on_start Cleared is = cc
 
 pub both : (a c : Bool) → (a && c) ≡ true → (a ≡ true) × (c ≡ true)
@@ -103,12 +111,13 @@ empty_is B is =
     let halves = both ((goes_on B.start && is_none B.chain) && brings_no_key B) (brings_no_trace B) is in
     let front = both (goes_on B.start && is_none B.chain) (brings_no_key B) halves.0 in
     let first = both (goes_on B.start) (is_none B.chain) front.0 in
-    let keys = both (length B.values == 0 && length B.seen == 0) (length B.stale == 0 && length B.entries == 0) front.1 in
-    let values = both (length B.values == 0) (length B.seen == 0) keys.0 in
-    let entries = both (length B.stale == 0) (length B.entries == 0) keys.1 in
+    let keys = both ((length B.values == 0 && length B.gone == 0) && length B.seen == 0) (length B.entries == 0 && length B.stale == 0) front.1 in
+    let firsts = both (length B.values == 0 && length B.gone == 0) (length B.seen == 0) keys.0 in
+    let values = both (length B.values == 0) (length B.gone == 0) firsts.0 in
+    let entries = both (length B.entries == 0) (length B.stale == 0) keys.1 in
     let traces = both (length B.verifying == 0 && length B.constructive == 0) (length B.deep == 0) halves.1 in
     let others = both (length B.verifying == 0) (length B.constructive == 0) traces.0 in
-    join (on_start B.start first.0) (no_items B.values values.0) (no_items B.seen values.1) (no_items B.stale entries.0) (no_items B.entries entries.1) (no_items B.verifying others.0) (no_items B.constructive others.1) (no_items B.deep traces.1) (no_chain B.chain first.1)
+    join (on_start B.start first.0) (no_items B.values values.0) (no_items B.gone values.1) (no_items B.seen firsts.1) (no_items B.entries entries.0) (no_items B.stale entries.1) (no_items B.verifying others.0) (no_items B.constructive others.1) (no_items B.deep traces.1) (no_chain B.chain first.1)
   where
-    join : B.start ≡ GoOn → B.values ≡ [] → B.seen ≡ [] → B.stale ≡ [] → B.entries ≡ [] → B.verifying ≡ [] → B.constructive ≡ [] → B.deep ≡ [] → B.chain ≡ None → B ≡ empty_batch
-    join start values seen stale entries verifying constructive deep chain i = record { start = start i; values = values i; seen = seen i; stale = stale i; entries = entries i; verifying = verifying i; constructive = constructive i; deep = deep i; chain = chain i }
+    join : B.start ≡ GoOn → B.values ≡ [] → B.gone ≡ [] → B.seen ≡ [] → B.entries ≡ [] → B.stale ≡ [] → B.verifying ≡ [] → B.constructive ≡ [] → B.deep ≡ [] → B.chain ≡ None → B ≡ empty_batch
+    join start values gone seen entries stale verifying constructive deep chain i = record { start = start i; values = values i; gone = gone i; seen = seen i; entries = entries i; stale = stale i; verifying = verifying i; constructive = constructive i; deep = deep i; chain = chain i }

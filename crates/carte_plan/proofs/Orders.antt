@@ -1,16 +1,15 @@
 -- Builds of one kept information begin with the same.
-use Rattle.std.proofs.Common.{◌≡◌, ℕ, Bool, true, false, cond, List, Option, option_map, refl, ap, sym, ◌∙◌, subst}
+use Rattle.std.proofs.Common.{◌≡◌, ℕ, Bool, true, false, cond, List, [], None, option_map, refl, ap, sym, ◌∙◌}
 use Rattle.std.proofs.Math.Path.{fun_ext}
-use Rattle.carte_value.specs.Truths.{Among}
+use Rattle.carte_value.specs.Truths.{Among, IsListOf}
 use Rattle.carte_book.specs.Book.{Book}
-use Rattle.carte_record.specs.declared.entry.Entry.{Entry}
 use Rattle.carte_record.specs.Folds.{is_among}
-use Rattle.carte_record.specs.Kept.{SomeKept, nothing_kept, staled}
-use Rattle.carte_sound.specs.Begun.{AreMarks, begin, has_rules_of}
+use Rattle.carte_record.specs.Kept.{SomeKept, staled}
+use Rattle.carte_sound.specs.Begun.{Beginning, IsBeginning, begin}
 use Rattle.carte_sound.proofs.Tests.{among_tested, tested_among}
 
 -- lists with the same names test alike
-tests_alike : (ms ns : List (List ℕ)) (k : List ℕ) → (Among ms k → Among ns k) → (Among ns k → Among ms k) → is_among ms k ≡ is_among ns k
+pub tests_alike : (ms ns : List (List ℕ)) (k : List ℕ) → (Among ms k → Among ns k) → (Among ns k → Among ms k) → is_among ms k ≡ is_among ns k
 tests_alike ms ns k into back = on (is_among ms k) refl (is_among ns k) refl
   where
     on : (s : Bool) → is_among ms k ≡ s → (t : Bool) → is_among ns k ≡ t → s ≡ t
@@ -19,16 +18,21 @@ tests_alike ms ns k into back = on (is_among ms k) refl (is_among ns k) refl
     on true one false other = let e : false ≡ true = sym other ∙ among_tested ns k (into (tested_among ms k one)) in cc
     on false one true other = let e : false ≡ true = sym one ∙ among_tested ms k (back (tested_among ns k other)) in cc
 
--- the marks of one kept information have the same names
-marks_into : (K : SomeKept) (b : Book) (ms ns : List (List ℕ)) → AreMarks K b ms → AreMarks K b ns → (k : List ℕ) → Among ms k → Among ns k
-marks_into K b ms ns one other k among = on (has_rules_of K b) refl
-  where
-    on : (t : Bool) → has_rules_of K b ≡ t → Among ns k
-    on true is = (other.same is).each k ((one.same is).only k among)
-    on false is = absurd (subst (λ ks. Among ks k) (one.other is) among)
+-- two lists of what has one property test alike
+lists_alike : (P : List ℕ → Type 0) (ms ns : List (List ℕ)) → IsListOf P ms → IsListOf P ns → (k : List ℕ) → is_among ms k ≡ is_among ns k
+lists_alike P ms ns one other k = tests_alike ms ns k (λ among. other.each k (one.only k among)) (λ among. one.each k (other.only k among))
+
+abbrev begun_by : SomeKept → (List ℕ → Bool) → (List ℕ → Bool) → SomeKept
+begun_by K g m = record {
+  seen = λ k. cond (g k) None (K.seen k);
+  entries = λ k. cond (g k) None (option_map (staled (m k)) (K.entries k));
+  traces = λ w k. cond (g k) [] (K.traces w k);
+  chain = K.chain;
+  stored = K.stored;
+}
 
 -- so builds begin with the same
-pub begins_alike : (K : SomeKept) (b : Book) (ms ns : List (List ℕ)) → AreMarks K b ms → AreMarks K b ns → begin K b ms ≡ begin K b ns
-begins_alike K b ms ns one other =
-    ap (λ (f : List ℕ → Option Entry). cond (has_rules_of K b) (record K { entries = f }) nothing_kept)
-    (fun_ext (λ k. ap (λ t. option_map (staled t) (K.entries k)) (tests_alike ms ns k (marks_into K b ms ns one other k) (marks_into K b ns ms other one k))))
+pub begins_alike : (K : SomeKept) (b : Book) (x y : Beginning) → IsBeginning K b x → IsBeginning K b y → begin K x ≡ begin K y
+begins_alike K b x y one other =
+    ap (λ g. begun_by K g (is_among x.marks)) (fun_ext (lists_alike _ x.gone y.gone one.gone other.gone))
+    ∙ ap (begun_by K (is_among y.gone)) (fun_ext (lists_alike _ x.marks y.marks one.marks other.marks))

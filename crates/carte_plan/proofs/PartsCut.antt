@@ -7,12 +7,12 @@ use Rattle.carte_value.proofs.Members.{among_left}
 use Rattle.carte_book.specs.Book.{Book}
 use Rattle.carte_record.specs.declared.batch.Batch.{Batch}
 use Rattle.carte_record.specs.declared.kept.Kept.{Kept}
-use Rattle.carte_record.specs.declared.start.Start.{Start}
 use Rattle.carte_record.specs.declared.start.Start.TheVariants.{GoOn}
 use Rattle.carte_record.specs.declared.way.Way.{Way}
 use Rattle.carte_record.specs.declared.way.Way.TheVariants.{Verifying, Constructive, Deep}
 use Rattle.carte_record.specs.Folds.{batch_traces}
 use Rattle.carte_record.specs.Kept.{SomeKept, kept_view}
+use Rattle.carte_sound.specs.Begun.{Beginning, no_change}
 use Rattle.carte_sound.specs.Carries.{Carries}
 use Rattle.carte_sound.specs.Held.{How}
 use Rattle.carte_sound.specs.LeadsTo.{marks_left, traces_made}
@@ -60,7 +60,7 @@ traces_append h b (f ∷ fs) gs w = on (f.1 && is_way h w) (traces_append h b fs
 -- no entry that is written is stale
 all_unmarked : (h : How) (b : Book) (K : Kept) (fs : List Finished) (B : Batch) → AreUnmarked B.entries → AreUnmarked (with_all h b K fs B).entries
 all_unmarked h b K [] B are = are
-all_unmarked h b K (f ∷ fs) B are = all_unmarked h b K fs (with_finished h b K f B) (unmarked h K f B.entries are)
+all_unmarked h b K (f ∷ fs) B are = all_unmarked h b K fs (with_finished h b K f B) (unmarked h b K f B.entries are)
 
 pub cuts_unmarked : (h : How) (b : Book) (K : Kept) (parts : List (List Finished)) (B : Batch) → AreUnmarked B.entries → AllUnmarked (cuts h b K parts B)
 cuts_unmarked h b K [] B are = tt
@@ -85,7 +85,7 @@ module _ (h : How) (b : Book) (K : Kept) (O : Batch) (traceless : (w : Way) → 
   noted_all before (f ∷ fs) W so =
       subst (λ gs. NotesAll h (kept_view K) b gs O (with_all h b K fs (with_finished h b K f W))) (append_assoc before (f ∷ []) fs)
       (noted_all (before ++ f ∷ []) fs (with_finished h b K f W)
-      (one_noted h (kept_view K) b before f O W (with_finished h b K f W) so (noted h K b f W) (unmarked h K f W.entries) refl refl))
+      (one_noted h (kept_view K) b before f O W (with_finished h b K f W) so (noted h K b f W) (unmarked h b K f W.entries) refl refl refl))
 
   module _ (before part : List Finished) (W R : Batch) (given : AreGiven h (kept_view K) b (before ++ part)) (so : NotesAll h (kept_view K) b before O W) (bare : IsBare W R) where
     pub part_carries : Carries b (left h b (kept_view K) (finishes_of before) (kept_view K).chain) (left h b (kept_view K) (finishes_of before ++ finishes_of part) (kept_view K).chain) (cut_off R (with_all h b K part R))
@@ -107,9 +107,10 @@ module _ (h : How) (b : Book) (K : Kept) (O : Batch) (traceless : (w : Way) → 
         append_cancel_left (batch_traces w W) (batch_traces w (cut_off R (with_all h b K part R))) (traces_made h b (finishes_of part) w)
         (sym cut ∙ (new ∙ (ap (λ fs. traces_made h b fs w) (finishes_append before part) ∙ (traces_append h b (finishes_of before) (finishes_of part) w ∙ ap (λ ts. ts ++ traces_made h b (finishes_of part) w) (sym old)))))
 
-    pub part_cut : (s : Start) (marks : List (List ℕ)) → R.start ≡ s → R.stale ≡ marks_left (finishes_of part) marks → AreUnmarked R.entries → IsOfPart h b (kept_view K) (finishes_of before) (finishes_of part) (kept_view K).chain s marks (cut_off R (with_all h b K part R))
-    part_cut s marks starts stale are = record {
+    pub part_cut : (x : Beginning) → R.start ≡ GoOn → R.gone ≡ x.gone → R.stale ≡ marks_left (finishes_of part) x → AreUnmarked R.entries → IsOfPart h b (kept_view K) (finishes_of before) (finishes_of part) (kept_view K).chain x (cut_off R (with_all h b K part R))
+    part_cut x starts gone stale are = record {
       starts = (part_along h b K W R part bare).starts ∙ starts;
+      gone = (part_along h b K W R part bare).gone ∙ gone;
       stale = (part_along h b K W R part bare).stale ∙ stale;
       traces = part_traces;
       unmarked = all_unmarked h b K part R are;
@@ -119,26 +120,26 @@ module _ (h : How) (b : Book) (K : Kept) (O : Batch) (traceless : (w : Way) → 
     pub rest_begins : IsBare (with_all h b K part W) (rest_of (with_all h b K part R))
     rest_begins = let so = part_along h b K W R part bare in rest_bare (with_all h b K part W) (with_all h b K part R) so.values so.seen (so.chain ∙ bare.chain)
 
-  later_cut : (parts : List (List Finished)) (before : List Finished) (W R : Batch) → AreGiven h (kept_view K) b (before ++ flat_map (λ p. p) parts) → NotesAll h (kept_view K) b before O W → IsBare W R → R.start ≡ GoOn → R.stale ≡ []
-      → AreOfParts h b (kept_view K) (kept_view K).chain (finishes_of before) GoOn [] (map finishes_of parts) (cuts h b K parts R)
-  later_cut [] before W R given so bare starts stale = tt
-  later_cut (part ∷ parts) before W R given so bare starts stale =
+  later_cut : (parts : List (List Finished)) (before : List Finished) (W R : Batch) → AreGiven h (kept_view K) b (before ++ flat_map (λ p. p) parts) → NotesAll h (kept_view K) b before O W → IsBare W R → R.start ≡ GoOn → R.gone ≡ [] → R.stale ≡ []
+      → AreOfParts h b (kept_view K) (kept_view K).chain (finishes_of before) no_change (map finishes_of parts) (cuts h b K parts R)
+  later_cut [] before W R given so bare starts gone stale = tt
+  later_cut (part ∷ parts) before W R given so bare starts gone stale =
       let M = kept_view K in
       let all : AreGiven h M b ((before ++ part) ++ flat_map (λ p. p) parts) = subst (AreGiven h M b) (sym (append_assoc before part (flat_map (λ p. p) parts))) given in
       let now = given_before h M b (before ++ part) (flat_map (λ p. p) parts) all in (
-        subst (λ ks. IsOfPart h b M (finishes_of before) (finishes_of part) ks GoOn [] (cut_off R (with_all h b K part R))) (sym (same_chain M.chain (map finishes_of parts)))
-            (part_cut before part W R now so bare GoOn [] starts stale (subst AreUnmarked (sym bare.entries) (λ e nowhere. absurd nowhere))),
-        subst (λ fs. AreOfParts h b M M.chain fs GoOn [] (map finishes_of parts) (cuts h b K parts (rest_of (with_all h b K part R)))) (finishes_append before part)
-            (later_cut parts (before ++ part) (with_all h b K part W) (rest_of (with_all h b K part R)) all (noted_all before part W so) (rest_begins before part W R now so bare) refl refl),
+        subst (λ ks. IsOfPart h b M (finishes_of before) (finishes_of part) ks no_change (cut_off R (with_all h b K part R))) (sym (same_chain M.chain (map finishes_of parts)))
+            (part_cut before part W R now so bare no_change starts gone stale (subst AreUnmarked (sym bare.entries) (λ e nowhere. absurd nowhere))),
+        subst (λ fs. AreOfParts h b M M.chain fs no_change (map finishes_of parts) (cuts h b K parts (rest_of (with_all h b K part R)))) (finishes_append before part)
+            (later_cut parts (before ++ part) (with_all h b K part W) (rest_of (with_all h b K part R)) all (noted_all before part W so) (rest_begins before part W R now so bare) refl refl refl),
       )
 
   -- all of them, from the first on, whose marks are those that its part leaves
-  pub parts_cut : (part : List Finished) (parts : List (List Finished)) (s : Start) (marks : List (List ℕ)) → AreGiven h (kept_view K) b (part ++ flat_map (λ p. p) parts) → NotesAll h (kept_view K) b [] O O → IsBare O O → O.start ≡ s → O.stale ≡ marks_left (finishes_of part) marks
-      → AreOfParts h b (kept_view K) (kept_view K).chain [] s marks (map finishes_of (part ∷ parts)) (cuts h b K (part ∷ parts) O)
-  parts_cut part parts s marks given so bare starts stale =
+  pub parts_cut : (part : List Finished) (parts : List (List Finished)) (x : Beginning) → AreGiven h (kept_view K) b (part ++ flat_map (λ p. p) parts) → NotesAll h (kept_view K) b [] O O → IsBare O O → O.start ≡ GoOn → O.gone ≡ x.gone → O.stale ≡ marks_left (finishes_of part) x
+      → AreOfParts h b (kept_view K) (kept_view K).chain [] x (map finishes_of (part ∷ parts)) (cuts h b K (part ∷ parts) O)
+  parts_cut part parts x given so bare starts gone stale =
       let M = kept_view K in
       let now = given_before h M b part (flat_map (λ p. p) parts) given in (
-        subst (λ ks. IsOfPart h b M [] (finishes_of part) ks s marks (cut_off O (with_all h b K part O))) (sym (same_chain M.chain (map finishes_of parts)))
-            (part_cut [] part O O now so bare s marks starts stale entryless),
-        later_cut parts part (with_all h b K part O) (rest_of (with_all h b K part O)) given (noted_all [] part O so) (rest_begins [] part O O now so bare) refl refl,
+        subst (λ ks. IsOfPart h b M [] (finishes_of part) ks x (cut_off O (with_all h b K part O))) (sym (same_chain M.chain (map finishes_of parts)))
+            (part_cut [] part O O now so bare x starts gone stale entryless),
+        later_cut parts part (with_all h b K part O) (rest_of (with_all h b K part O)) given (noted_all [] part O so) (rest_begins [] part O O now so bare) refl refl refl,
       )

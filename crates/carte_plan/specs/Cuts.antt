@@ -1,12 +1,10 @@
 -- A batch that is cut, as it grows, where a part of the finished keys is full.
-use Rattle.std.specs.Prelude.{ℕ, ◌≡◌, ◌⊎◌, false, List, [], ◌∷◌, ◌++◌, drop, length, if◌then◌else◌}
+use Rattle.std.specs.Prelude.{ℕ, ◌≡◌, List, [], ◌∷◌, ◌++◌, drop, length}
 use Rattle.carte_book.specs.Book.{Book}
-use Rattle.carte_book.specs.Digest.{rules_digest_of}
 use Rattle.carte_record.specs.declared.batch.Batch.{Batch}
 use Rattle.carte_record.specs.declared.kept.Kept.{Kept}
-use Rattle.carte_record.specs.declared.start.Start.TheVariants.{GoOn, Anew}
 use Rattle.carte_record.specs.Kept.{SomeKept}
-use Rattle.carte_sound.specs.Begun.{begin, has_rules_of}
+use Rattle.carte_sound.specs.Begun.{Beginning, begin}
 use Rattle.carte_sound.specs.Held.{How}
 use Rattle.carte_sound.specs.LeadsTo.{empty_batch}
 use Rattle.carte_sound.specs.Left.{Finishes}
@@ -46,16 +44,14 @@ AllUnmarked [] = Unit {0}
 AllUnmarked (B ∷ Bs) = AreUnmarked B.entries × AllUnmarked Bs
 
 -- the keys in parts, and for each part a batch that brings it
-pub record ArePartsPlanned (h : How) (K : SomeKept) (b : Book) (ms : List (List ℕ)) (fs : List Finished) (chain : List (List ℕ)) (Bs : List Batch) : Type 0 where
+pub record ArePartsPlanned (h : How) (K : SomeKept) (b : Book) (x : Beginning) (fs : List Finished) (chain : List (List ℕ)) (Bs : List Batch) : Type 0 where
   pub parts : List Finishes
   pub are_parts : AreParts (finishes_of fs) parts
-  pub batches : AreGiven h (begin K b ms) b fs → AreOfParts h b (begin K b ms) chain [] (if has_rules_of K b then GoOn else Anew (rules_digest_of b)) ms parts Bs
+  pub batches : AreGiven h (begin K x) b fs → AreOfParts h b (begin K x) chain [] x parts Bs
 
--- under other rules one batch with nothing in it, where nothing is finished
-abbrev pub PlansParts : How → SomeKept → Book → List (List ℕ) → List Finished → List Batch → Type 0
-PlansParts h K b ms fs Bs =
-    ((has_rules_of K b ≡ false) × (fs ≡ []) × (Bs ≡ empty_batch ∷ []))
-    ⊎ ((has_rules_of K b ≡ false → ¬ (fs ≡ [])) × ArePartsPlanned h K b ms fs (begin K b ms).chain Bs)
+-- with the chain as it was
+abbrev pub PlansParts : How → SomeKept → Book → Beginning → List Finished → List Batch → Type 0
+PlansParts h K b x fs Bs = ArePartsPlanned h K b x fs (begin K x).chain Bs
 
 -- the chain was put into the last batch, where it isn't the old one
 pub record PutsLast (old chain : List (List ℕ)) (Bs Cs : List Batch) : Type 0 where
@@ -67,5 +63,5 @@ pub record PutsLast (old chain : List (List ℕ)) (Bs Cs : List Batch) : Type 0 
   pub puts : PutsChain old chain last chained
 
 -- the same for a build that leaves this chain
-abbrev pub PlansPartsChained : How → SomeKept → Book → List (List ℕ) → List Finished → List (List ℕ) → List Batch → Type 0
-PlansPartsChained h K b ms fs chain Cs = (Bs : List Batch) × PlansParts h K b ms fs Bs × PutsLast (begin K b ms).chain chain Bs Cs
+abbrev pub PlansPartsChained : How → SomeKept → Book → Beginning → List Finished → List (List ℕ) → List Batch → Type 0
+PlansPartsChained h K b x fs chain Cs = (Bs : List Batch) × PlansParts h K b x fs Bs × PutsLast (begin K x).chain chain Bs Cs

@@ -1,14 +1,13 @@
 -- A batch of a build, from finished keys.
-use Rattle.std.specs.Prelude.{ℕ, ◌≡◌, ◌⊎◌, List, ◌++◌, Some}
-use Rattle.carte_value.specs.Truths.{NoneTwice}
+use Rattle.std.specs.Prelude.{ℕ, ◌≡◌, ◌⊎◌, ◌↔◌, List, ◌++◌, Some}
+use Rattle.carte_value.specs.Truths.{Among, NoneTwice}
 use Rattle.carte_book.specs.Book.{Book}
 use Rattle.carte_record.specs.declared.batch.Batch.{Batch}
-use Rattle.carte_record.specs.declared.start.Start.{Start}
 use Rattle.carte_record.specs.declared.way.Way.{Way}
 use Rattle.carte_record.specs.Folds.{batch_traces}
 use Rattle.carte_record.specs.Kept.{SomeKept}
 use Rattle.carte_sound.specs.Base.{AllNow}
-use Rattle.carte_sound.specs.Begun.{begin}
+use Rattle.carte_sound.specs.Begun.{Beginning, begin}
 use Rattle.carte_sound.specs.Carries.{Carries}
 use Rattle.carte_sound.specs.Finished.{IsFinishing}
 use Rattle.carte_sound.specs.Held.{How}
@@ -18,9 +17,13 @@ use Rattle.carte_note.specs.declared.finished.Finished.{Finished}
 use Rattle.carte_note.specs.Notes.{AreUnmarked}
 use Rattle.carte_note.specs.Right.{AreRight, finishes_of, keys_in}
 
--- a batch with a start and marks alone
-abbrev pub opening : Start → List (List ℕ) → Batch
-opening s ms = record empty_batch { start = s; stale = ms }
+-- a batch with dropped names and marks alone
+abbrev pub opening : List (List ℕ) → List (List ℕ) → Batch
+opening gs ms = record empty_batch { gone = gs; stale = ms }
+
+-- these names and no others
+abbrev pub HasJust : List (List ℕ) → List (List ℕ) → Type 0
+HasJust ks js = (k : List ℕ) → Among ks k ↔ Among js k
 
 -- keys that are right and once each, over what says what the book says
 pub record AreGiven (h : How) (M : SomeKept) (b : Book) (fs : List Finished) : Type 0 where
@@ -31,6 +34,7 @@ pub record AreGiven (h : How) (M : SomeKept) (b : Book) (fs : List Finished) : T
 -- the batch carried nothing of them; now it carries all of them, and of each that ran its trace
 pub record NotesAll (h : How) (M : SomeKept) (b : Book) (fs : List Finished) (old new : Batch) : Type 0 where
   pub start : new.start ≡ old.start
+  pub gone : new.gone ≡ old.gone
   pub stale : new.stale ≡ old.stale
   pub unmarked : AreUnmarked old.entries → AreUnmarked new.entries
   pub carries : AreGiven h M b fs → Carries b M M old → Carries b M (add_all h b M (finishes_of fs)) new
@@ -41,7 +45,7 @@ abbrev pub PutsChain : List (List ℕ) → List (List ℕ) → Batch → Batch �
 PutsChain old chain B C = ((old ≡ chain) × (C ≡ B)) ⊎ ((¬ (old ≡ chain)) × (C ≡ record B { chain = Some chain }))
 
 -- a build has finished what is done, each key rightly, in an order in which it may
-pub record IsBuilt (h : How) (K : SomeKept) (b : Book) (ms : List (List ℕ)) (done : List ℕ → Type 0) (fs : List Finished) : Type 0 where
-  pub now : AllNow (begin K b ms) b
-  pub right : AreRight h (begin K b ms) b fs
-  pub order : IsFinishing h b (begin K b ms) done (finishes_of fs)
+pub record IsBuilt (h : How) (K : SomeKept) (b : Book) (x : Beginning) (done : List ℕ → Type 0) (fs : List Finished) : Type 0 where
+  pub now : AllNow (begin K x) b
+  pub right : AreRight h (begin K x) b fs
+  pub order : IsFinishing h b (begin K x) done (finishes_of fs)

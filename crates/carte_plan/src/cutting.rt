@@ -22,16 +22,6 @@ pub(crate) struct Cut {
 }
 
 impl Cut {
-    /// This batch alone.
-    pub(crate) fn one(alloc: Global, last: Batch) -> Cut
-        ensures { result.full.items ++ result.last ∷ [] ≡ last ∷ [] }
-    {
-        Cut {
-            full: Vec::new(alloc),
-            last,
-        }
-    }
-
     /// All of them, in their order.
     pub(crate) fn all(self) -> Result<Vec<Batch>, NoMemory>
         ensures { IfOk result (λ all. all.items ≡ self.full.items ++ self.last ∷ []) }

@@ -1,10 +1,10 @@
 //! The batches that a build may commit, from what it began with and the keys that it finished.
 //!
 //! It is a pure call over any rebuilder: nothing is read but what the build has at its end, and nothing is changed. Each
-//! batch has a part of 256 finished keys, and the last one what is left. The start of the first one says whether it goes on
-//! or begins anew under the book's rules; it marks the keys that are to be marked and that no key of its part takes. Each
-//! finished key is noted in its order, and the last batch has the new chain of a build that leaves one. Under other rules,
-//! where nothing was finished, there is one batch, an empty one, so that a refused build leaves what is kept as it was.
+//! batch has a part of 256 finished keys, and the last one what is left. The first one drops the names that became something
+//! else, and marks the keys that are to be marked, but those that it drops or that its part takes. Each finished key is noted
+//! in its order, and the last batch has the new chain of a build that leaves one. Where nothing is dropped, marked or
+//! finished there is one batch, an empty one.
 //!
 //! What the batches make of what is kept is told for each kind of build in the words of `carte_sound`: what was done over
 //! what the build began with, in which order, and that each batch brings just what is new by its part. No premise is needed

@@ -1,6 +1,7 @@
 //! Whole runs, by hand.
 
 mod devices;
+mod edits;
 mod runs;
 
 use crate::top::runs::{said, shown, shown_over};

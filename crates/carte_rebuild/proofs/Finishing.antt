@@ -15,12 +15,12 @@ use Rattle.carte_effect.specs.declared.outcome.Made.TheVariants.{Ran, Reused}
 use Rattle.carte_effect.specs.Jobs.{outcome_of}
 use Rattle.carte_record.specs.declared.way.Way.TheVariants.{Verifying, Constructive, Deep}
 use Rattle.carte_record.specs.Kept.{SomeKept}
+use Rattle.carte_sound.specs.Beneath as walks
 use Rattle.carte_sound.specs.Beneath.{gathered, beneath_in, beneath}
 use Rattle.carte_sound.specs.True.{digest_or, links_to}
 use Rattle.carte_sound.specs.Held.{How, dirty, tracing, gathers}
 use Rattle.carte_sound.proofs.Held.{need_has_value}
-use Rattle.carte_sound.proofs.Beneath.{gathered_same, beneath_of_input, beneath_of_rule, round_known, beneath_input}
-use Rattle.carte_sound.proofs.Deep.{beneath_stays}
+use Rattle.carte_sound.proofs.Beneath.{gathered_same, beneath_of_input, beneath_of_rule, round_known, beneath_input, walk_stays}
 use Rattle.carte_note.specs.declared.finished.Finished.{Finished}
 use Rattle.carte_note.specs.Lists.{finished_of}
 use Rattle.carte_note.specs.Right.{IsRightMade, has_run, reused_links}
@@ -54,7 +54,7 @@ beneath_needs b k f v is has =
     same : (j : List ℕ) → Among (needs b k) j → beneath_in (rounds_of b + 1) b j ≡ beneath_in (rounds_of b) b j
     same j among =
         let w = round_known b (rounds_of b) k f v is found j among in
-        ap (λ n. beneath_in n b j) (one_more b) ∙ beneath_stays b (rounds_of b) j w.0 w.1
+        ap (λ n. beneath_in n b j) (one_more b) ∙ walk_stays walks.beneath_item b (rounds_of b) j w.0 w.1
 
 -- beneath these inputs there are these inputs
 pub beneath_inputs : (b : Book) (ks : List (List ℕ)) → ((i : List ℕ) → Among ks i → (x : Value) × (content b i ≡ Some (input x))) → gathered (beneath b) ks ≡ ks

@@ -14,6 +14,8 @@ pub mod Starting
 pub mod Gathered
 pub mod Finishing
 pub mod Often
+pub mod SetBack
+pub mod Tasked
 mod Collecting
 mod Driven
 mod OwnDigest

@@ -1,5 +1,5 @@
 -- Jobs as they are begun.
-use Rattle.std.proofs.Common.{◌≡◌, ℕ, Bool, true, false, cond, List, [], ◌∷◌, ◌++◌, ◌⊎◌, Option, Some, None, refl, ap, sym, ◌∙◌, subst, inl, inr}
+use Rattle.std.proofs.Common.{◌≡◌, ℕ, Bool, true, false, ◌&&◌, cond, List, [], ◌∷◌, ◌++◌, ◌⊎◌, Option, Some, None, refl, ap, sym, ◌∙◌, subst, inl, inr}
 use Rattle.carte_value.specs.declared.digest.Digest.{Digest}
 use Rattle.carte_value.specs.declared.value.Value.{Value}
 use Rattle.carte_name.specs.Names.{name_eq}
@@ -8,12 +8,14 @@ use Rattle.carte_task.specs.Checking.{Checking}
 use Rattle.carte_book.specs.Book.{Book}
 use Rattle.carte_record.specs.declared.trace.Trace.{Trace}
 use Rattle.carte_record.specs.declared.way.Way.{Way}
-use Rattle.carte_table.specs.Lookups.{first_value}
+use Rattle.carte_table.specs.Lookups.{digest_eq, first_value}
 use Rattle.carte_record.specs.Lookups.{is_trace_of}
 use Rattle.carte_record.specs.Kept.{SomeKept, traces_in}
 use Rattle.carte_value.specs.Lists.{Has}
 use Rattle.carte_sound.specs.Held.{IsTrusted}
-use Rattle.carte_rebuild.specs.Earlier.{check_of, check_at, is_wanted, checks_for, checks_in}
+use Rattle.carte_sound.specs.True.{wanted_task}
+use Rattle.carte_sound.proofs.Tests.{same_digest, digest_self}
+use Rattle.carte_rebuild.specs.Earlier.{check_of, check_at, is_wanted, may_hold, checks_for, checks_in, checks_now}
 use Rattle.carte_rebuild.specs.Traced.{AreTried, IsTracedJob, IsStart}
 use Rattle.carte_rebuild.specs.Trying.{task_left, tries}
 use Rattle.carte_rebuild.specs.declared.recipe.Recipe.{Recipe}
@@ -23,11 +25,11 @@ use Rattle.carte_rebuild.specs.Left.{left_of}
 use Rattle.carte_rebuild.proofs.TracesOf.{traces_there, traces_only}
 
 -- a check that was collected
-pub record IsCollected (wanted : Option Digest) (vs : List Value) (k : List ℕ) (ts : List Trace) (c : Checking) : Type 0 where
+pub record IsCollected (task : Digest) (wanted : Option Digest) (vs : List Value) (k : List ℕ) (ts : List Trace) (c : Checking) : Type 0 where
   pub trace : Trace
   pub has : Has ts trace
   pub key : name_eq k trace.key ≡ true
-  pub wants : is_wanted wanted trace.result ≡ true
+  pub wants : may_hold task wanted trace ≡ true
   pub value : Value
   pub stored : first_value vs trace.result ≡ Some value
   pub is : c ≡ check_of k trace value
@@ -49,56 +51,77 @@ has_then : (xs ys : List Checking) (c : Checking) → Has ys c → Has (xs ++ ys
 has_then [] ys c has = has
 has_then (x ∷ xs) ys c has = inr (has_then xs ys c has)
 
-module _ (wanted : Option Digest) (vs : List Value) (k : List ℕ) where
+module _ (task : Digest) (wanted : Option Digest) (vs : List Value) (k : List ℕ) where
   -- each is of a trace of the list
-  pub collected_only : (ts : List Trace) (c : Checking) → Has (checks_in wanted vs k ts) c → IsCollected wanted vs k ts c
+  pub collected_only : (ts : List Trace) (c : Checking) → Has (checks_in task wanted vs k ts) c → IsCollected task wanted vs k ts c
   collected_only [] c none = absurd none
-  collected_only (t ∷ ts) c has = elim (has_either (cond (is_trace_of k t) (checks_for wanted vs k t) []) (checks_in wanted vs k ts) c has) [
+  collected_only (t ∷ ts) c has = elim (has_either (cond (is_trace_of k t) (checks_for task wanted vs k t) []) (checks_in task wanted vs k ts) c has) [
     | inl here ↦ by_key (is_trace_of k t) refl here
     | inr there ↦ later (collected_only ts c there)
   ]
     where
-      later : IsCollected wanted vs k ts c → IsCollected wanted vs k (t ∷ ts) c
+      later : IsCollected task wanted vs k ts c → IsCollected task wanted vs k (t ∷ ts) c
       later i = record { trace = i.trace; has = inr i.has; key = i.key; wants = i.wants; value = i.value; stored = i.stored; is = i.is }
 
-      by_value : name_eq k t.key ≡ true → is_wanted wanted t.result ≡ true → (o : Option Value) → first_value vs t.result ≡ o → Has (check_at o k t) c → IsCollected wanted vs k (t ∷ ts) c
+      by_value : name_eq k t.key ≡ true → may_hold task wanted t ≡ true → (o : Option Value) → first_value vs t.result ≡ o → Has (check_at o k t) c → IsCollected task wanted vs k (t ∷ ts) c
       by_value key wants None is none = absurd none
       by_value key wants (Some v) is (inl same) = record { trace = t; has = inl refl; key = key; wants = wants; value = v; stored = is; is = same }
       by_value key wants (Some v) is (inr never) = absurd never
 
-      by_wants : name_eq k t.key ≡ true → (b : Bool) → is_wanted wanted t.result ≡ b → Has (cond b (check_at (first_value vs t.result) k t) []) c → IsCollected wanted vs k (t ∷ ts) c
+      by_wants : name_eq k t.key ≡ true → (b : Bool) → may_hold task wanted t ≡ b → Has (cond b (check_at (first_value vs t.result) k t) []) c → IsCollected task wanted vs k (t ∷ ts) c
       by_wants key false is none = absurd none
       by_wants key true is here = by_value key is (first_value vs t.result) refl here
 
-      by_key : (b : Bool) → is_trace_of k t ≡ b → Has (cond b (checks_for wanted vs k t) []) c → IsCollected wanted vs k (t ∷ ts) c
+      by_key : (b : Bool) → is_trace_of k t ≡ b → Has (cond b (checks_for task wanted vs k t) []) c → IsCollected task wanted vs k (t ∷ ts) c
       by_key false is none = absurd none
-      by_key true is here = by_wants is (is_wanted wanted t.result) refl here
+      by_key true is here = by_wants is (may_hold task wanted t) refl here
 
   -- and each such trace has one
-  pub collected_each : (ts : List Trace) (t : Trace) (v : Value) → Has ts t → name_eq k t.key ≡ true → is_wanted wanted t.result ≡ true → first_value vs t.result ≡ Some v → Has (checks_in wanted vs k ts) (check_of k t v)
+  pub collected_each : (ts : List Trace) (t : Trace) (v : Value) → Has ts t → name_eq k t.key ≡ true → may_hold task wanted t ≡ true → first_value vs t.result ≡ Some v → Has (checks_in task wanted vs k ts) (check_of k t v)
   collected_each [] t v none key wants stored = absurd none
-  collected_each (s ∷ ts) t v (inl same) key wants stored = has_first (cond (is_trace_of k s) (checks_for wanted vs k s) []) (checks_in wanted vs k ts) (check_of k t v) (subst (λ (x : Trace). Has (cond (is_trace_of k x) (checks_for wanted vs k x) []) (check_of k t v)) same here)
+  collected_each (s ∷ ts) t v (inl same) key wants stored = has_first (cond (is_trace_of k s) (checks_for task wanted vs k s) []) (checks_in task wanted vs k ts) (check_of k t v) (subst (λ (x : Trace). Has (cond (is_trace_of k x) (checks_for task wanted vs k x) []) (check_of k t v)) same here)
     where
-      here : Has (cond (is_trace_of k t) (checks_for wanted vs k t) []) (check_of k t v)
+      here : Has (cond (is_trace_of k t) (checks_for task wanted vs k t) []) (check_of k t v)
       here = rw key (rw wants (rw stored (inl refl)))
-  collected_each (s ∷ ts) t v (inr later) key wants stored = has_then (cond (is_trace_of k s) (checks_for wanted vs k s) []) (checks_in wanted vs k ts) (check_of k t v) (collected_each ts t v later key wants stored)
+  collected_each (s ∷ ts) t v (inr later) key wants stored = has_then (cond (is_trace_of k s) (checks_for task wanted vs k s) []) (checks_in task wanted vs k ts) (check_of k t v) (collected_each ts t v later key wants stored)
 
--- the checks of a key's traces are those of all that may be reused, where what is wanted is what is trusted
-pub collected_tried : (w : Way) (K : SomeKept) (k : List ℕ) (wanted : Option Digest) (vs : List Value) (ts : List Trace) → K.traces w k ≡ traces_in k ts [] → K.stored ≡ first_value vs → ((t : Trace) → is_wanted wanted t.result ≡ true → IsTrusted w K k t) → ((t : Trace) → IsTrusted w K k t → is_wanted wanted t.result ≡ true) → AreTried w K k (checks_in wanted vs k ts)
-collected_tried w K k wanted vs ts traces values trusts wants = record {
-  only = λ c has. let i = collected_only wanted vs k ts c has in record {
+both_true : (a c : Bool) → (a && c) ≡ true → (a ≡ true) × (c ≡ true)
+both_true true c is = (refl, is)
+both_true false c is = cc
+
+-- the checks of a key's traces are those of all that may be reused, where the task is the one wanted now and the result wanted is what is trusted
+collected_tried : (w : Way) (K : SomeKept) (b : Book) (k : List ℕ) (task : Digest) (wanted : Option Digest) (vs : List Value) (ts : List Trace) → wanted_task w b k ≡ Some task → K.traces w k ≡ traces_in k ts [] → K.stored ≡ first_value vs
+    → ((t : Trace) → is_wanted wanted t.result ≡ true → IsTrusted w K k t) → ((t : Trace) → IsTrusted w K k t → is_wanted wanted t.result ≡ true) → AreTried w K b k (checks_in task wanted vs k ts)
+collected_tried w K b k task wanted vs ts now traces values trusts wants = record {
+  only = λ c has. let i = collected_only task wanted vs k ts c has in let may = both_true (digest_eq i.trace.task task) (is_wanted wanted i.trace.result) i.wants in record {
     trace = i.trace;
     kept = subst (λ xs. Has xs i.trace) (sym traces) (traces_there k ts [] i.trace i.has i.key);
-    trusted = trusts i.trace i.wants;
+    task = now ∙ ap Some (sym (same_digest i.trace.task task may.0));
+    trusted = trusts i.trace may.1;
     value = i.value;
     stored = ap (λ f. f i.trace.result) values ∙ i.stored;
     is = i.is;
   };
-  each = λ t v has trusted stored. elim (traces_only k ts [] t (subst (λ xs. Has xs t) traces has)) [
-    | inl (there, key) ↦ collected_each wanted vs k ts t v there key (wants t trusted) (ap (λ f. f t.result) (sym values) ∙ stored)
+  each = λ t v has of trusted stored. elim (traces_only k ts [] t (subst (λ xs. Has xs t) traces has)) [
+    | inl (there, key) ↦ collected_each task wanted vs k ts t v there key (may t of trusted) (ap (λ f. f t.result) (sym values) ∙ stored)
     | inr never ↦ absurd never
   ];
 }
+  where
+    may : (t : Trace) → wanted_task w b k ≡ Some t.task → IsTrusted w K k t → may_hold task wanted t ≡ true
+    may t of trusted =
+        let both : Some t.task ≡ Some task = sym of ∙ now in
+        let one : t.task ≡ task = cc in
+        ap (λ d. digest_eq d task && is_wanted wanted t.result) one ∙ (ap (λ c. c && is_wanted wanted t.result) (digest_self task) ∙ wants t trusted)
+
+-- and where none is wanted, there is none that may be reused
+pub tried_now : (w : Way) (K : SomeKept) (b : Book) (k : List ℕ) (o wanted : Option Digest) (vs : List Value) (ts : List Trace) → wanted_task w b k ≡ o → K.traces w k ≡ traces_in k ts [] → K.stored ≡ first_value vs
+    → ((t : Trace) → is_wanted wanted t.result ≡ true → IsTrusted w K k t) → ((t : Trace) → IsTrusted w K k t → is_wanted wanted t.result ≡ true) → AreTried w K b k (checks_now o wanted vs k ts)
+tried_now w K b k None wanted vs ts now traces values trusts wants = record {
+  only = λ c has. absurd has;
+  each = λ t v has of trusted stored. (let never : None ≡ Some t.task = sym now ∙ of in cc);
+}
+tried_now w K b k (Some task) wanted vs ts now traces values trusts wants = collected_tried w K b k task wanted vs ts now traces values trusts wants
 
 -- a job that holds what the task of a rule is made of is at its start
 pub recipe_start : (b : Book) (k : List ℕ) (cs : List Checking) (r : Recipe) (p : Tries) → left_of p ≡ tries cs (task_left r.key (asks_in r)) → IsRecipeOf b k r → IsStart b k cs p
@@ -109,7 +132,7 @@ recipe_start b k cs r p left of = record {
 }
 
 -- a job at its start was driven over no truth
-pub start_begun : (w : Way) (K : SomeKept) (b : Book) (k : List ℕ) (cs : List Checking) (p : Tries) → AreTried w K k cs → IsStart b k cs p → IsTracedJob w K b (λ q. None) k p
+pub start_begun : (w : Way) (K : SomeKept) (b : Book) (k : List ℕ) (cs : List Checking) (p : Tries) → AreTried w K b k cs → IsStart b k cs p → IsTracedJob w K b (λ q. None) k p
 start_begun w K b k cs p tried start = record {
   formula = start.formula;
   is_rule = start.is_rule;

@@ -11,18 +11,19 @@ use Rattle.carte_tree.specs.Tree.{Tree}
 use Rattle.carte_tree.specs.Meaning.{asks, fetched}
 use Rattle.carte_book.specs.Book.{Book, rule, content, clean}
 use Rattle.carte_book.specs.Needs.{needs}
+use Rattle.carte_book.specs.Task.{task_now}
 use Rattle.carte_task.specs.Checking.{Checking}
 use Rattle.carte_task.specs.Checks.{compares, rest_from}
 use Rattle.carte_record.specs.declared.trace.Trace.{Trace}
 use Rattle.carte_record.specs.declared.way.Way.{Way}
 use Rattle.carte_record.specs.declared.way.Way.TheVariants.{Verifying, Constructive, Deep}
 use Rattle.carte_record.specs.Kept.{SomeKept}
-use Rattle.carte_sound.specs.True.{digest_or, links_to, linked}
+use Rattle.carte_sound.specs.True.{digest_or, or_none, wanted_task, links_to, linked}
 use Rattle.carte_sound.specs.Sound.{IsTraceOfSome}
 use Rattle.carte_sound.specs.Base.{IsBase}
 use Rattle.carte_sound.specs.Held.{tracing, AreLinks, digest_now, IsHeldBy, looks_into_held}
 use Rattle.carte_sound.specs.Results.{HasResult}
-use Rattle.carte_sound.proofs.Held.{needs_rule, need_has_value, same_rules, verifying_held, constructive_held}
+use Rattle.carte_sound.proofs.Held.{needs_rule, need_has_value, same_rule, verifying_held, constructive_held}
 use Rattle.carte_note.specs.Right.{reused_links}
 use Rattle.carte_rebuild.specs.Traced.{IsCheckOf}
 use Rattle.carte_rebuild.specs.Goes.{may_ask}
@@ -43,6 +44,12 @@ pub links_needs : (w : Way) → OfNeeds w → (b : Book) (k : List ℕ) → link
 links_needs Verifying of b k = refl
 links_needs Constructive of b k = refl
 links_needs Deep of b k = (let never : false ≡ true = of.looks in cc)
+
+-- and name the key's own task
+pub wanted_needs : (w : Way) → OfNeeds w → (b : Book) (k : List ℕ) → wanted_task w b k ≡ task_now b k
+wanted_needs Verifying of b k = refl
+wanted_needs Constructive of b k = refl
+wanted_needs Deep of b k = (let never : false ≡ true = of.looks in cc)
 
 pub reused_needs : (w : Way) → OfNeeds w → (b : Book) (k : List ℕ) → reused_links (tracing w) b k ≡ links_to (clean b) (needs b k)
 reused_needs Verifying of b k = refl
@@ -90,10 +97,10 @@ pub record LooksAt (b : Book) (p : Truth) (k j : List ℕ) : Type 0 where
   pub known : (i : List ℕ) → Among before i → HasValue p i
 
 module _ (w : Way) (of : OfNeeds w) (K : SomeKept) (b : Book) (H : List Book) (base : IsBase K b H) (k : List ℕ) (p : Truth) (part : Extends p (clean b)) where
-  trace_looks : (t : Trace) (s : IsTraceOfSome K H w k t) (j : List ℕ) → Among (asked p (compares 0 t.links)) j → LooksAt b p k j
-  trace_looks t s j among = record {
+  trace_looks : (t : Trace) (s : IsTraceOfSome K H w k t) → wanted_task w b k ≡ Some t.task → (j : List ℕ) → Among (asked p (compares 0 t.links)) j → LooksAt b p k j
+  trace_looks t s task j among = record {
     formula = f;
-    is_rule = rule_b;
+    is_rule = same.1;
     before = whole.before;
     behind = too.behind;
     is = too.is;
@@ -107,11 +114,11 @@ module _ (w : Way) (of : OfNeeds w) (K : SomeKept) (b : Book) (H : List Book) (b
       f : Tree
       f = s.trace.formula
 
-      rule_b : content b k ≡ Some (rule f)
-      rule_b = (same_rules K b H base c s.stood).rules k f s.trace.is_rule
+      same : (c.kind ≡ b.kind) × (content b k ≡ Some (rule f))
+      same = same_rule K b H base w k t s (ap (λ (x : Trace). x.task) s.trace.trace ∙ ap or_none (wanted_needs w of c k)) (sym (wanted_needs w of b k) ∙ task)
 
       names : needs c k ≡ firsts (asked (clean c) (asks b.kind f))
-      names = needs_rule c k f s.trace.is_rule ∙ ap (λ q. fetched q (clean c) f) (same_rules K b H base c s.stood).kind
+      names = needs_rule c k f s.trace.is_rule ∙ ap (λ q. fetched q (clean c) f) same.0
 
       links : t.links ≡ links_to (clean c) (needs c k)
       links = ap (λ (x : Trace). x.links) s.trace.trace ∙ ap (links_to (clean c)) (links_needs w of c k)
@@ -128,26 +135,26 @@ module _ (w : Way) (of : OfNeeds w) (K : SomeKept) (b : Book) (H : List Book) (b
           let had = need_has_value c k f s.trace.value s.trace.is_rule s.trace.clean i (subst (λ ks. Among ks i) (sym split.is) (among_left split.before (j ∷ split.behind) i here)) in
           let now : clean b i ≡ Some has.0 = part i has.0 has.1 in
           let same : digest_of had.0 ≡ digest_of has.0 = ap digest_or (sym had.1) ∙ has.2 in
-          let equal : had.0 ≡ has.0 = base.distinct.values c b i i had.0 has.0 s.stood.stood base.present had.1 now same in
+          let equal : had.0 ≡ has.0 = base.distinct.values c b i i had.0 has.0 s.stood base.present had.1 now same in
           (has.0, had.1 ∙ ap Some equal, now, has.1)
 
       too : AsksToo (clean b) (asks b.kind f) whole.before j
       too = asks_too (clean c) (clean b) (asks b.kind f) whole.before whole.behind j whole.is (λ i here. let g = agrees i (whole.all i here) in (g.0, g.1, g.2))
 
-  check_looks : (c : Checking) → IsCheckOf w K k c → (j : List ℕ) → Among (asked p (rest_from c)) j → LooksAt b p k j
-  check_looks c x j among = trace_looks x.trace (base.sound.traces w k x.trace x.kept) j (subst (λ d. Among (asked p (rest_from d)) j) x.is among)
+  check_looks : (c : Checking) → IsCheckOf w K b k c → (j : List ℕ) → Among (asked p (rest_from c)) j → LooksAt b p k j
+  check_looks c x j among = trace_looks x.trace (base.sound.traces w k x.trace x.kept) x.task j (subst (λ d. Among (asked p (rest_from d)) j) x.is among)
 
   looked_needs : (j : List ℕ) (l : LooksAt b p k j) → needs b k ≡ firsts (asked (clean b) (asks b.kind l.formula))
   looked_needs j l = needs_rule b k l.formula l.is_rule
 
   -- it asks for needs alone
-  pub check_asks : (c : Checking) → IsCheckOf w K k c → (j : List ℕ) → Among (asked p (rest_from c)) j → Among (needs b k) j
+  pub check_asks : (c : Checking) → IsCheckOf w K b k c → (j : List ℕ) → Among (asked p (rest_from c)) j → Among (needs b k) j
   check_asks c x j among =
       let l = check_looks c x j among in
       subst (λ ks. Among ks j) (sym (looked_needs j l)) (firsts_among (asked (clean b) (asks b.kind l.formula)) j (subst (λ ks. Among ks j) (sym l.is) (among_right l.before (j ∷ l.behind) j (inl refl))))
 
   -- where it stops at a name without a clean value, all other needs are there
-  pub check_stops : (c : Checking) → IsCheckOf w K k c → (n : List ℕ) → run p (rest_from c) ≡ Err n → clean b n ≡ None → (j : List ℕ) → Among (needs b k) j → (j ≡ n) ⊎ HasValue p j
+  pub check_stops : (c : Checking) → IsCheckOf w K b k c → (n : List ℕ) → run p (rest_from c) ≡ Err n → clean b n ≡ None → (j : List ℕ) → Among (needs b k) j → (j ≡ n) ⊎ HasValue p j
   check_stops c x n stops none j among =
       let l = check_looks c x n (stop_asked p p (rest_from c) n (extends_self p) stops) in
       let all : Among (l.before ++ n ∷ []) j = subst (λ ks. Among ks j) (l.is ∙ ap (λ ks. l.before ++ n ∷ ks) (l.stops none)) (among_firsts (asked (clean b) (asks b.kind l.formula)) j (subst (λ ks. Among ks j) (looked_needs n l) among)) in
@@ -160,5 +167,5 @@ module _ (w : Way) (of : OfNeeds w) (K : SomeKept) (b : Book) (H : List Book) (b
       ]
 
   -- what a check that holds says: its trace holds the key
-  pub check_holds : (c : Checking) → (x : IsCheckOf w K k c) → run p (rest_from c) ≡ Ok None → AreLinks (digests_in p) x.trace.links
+  pub check_holds : (c : Checking) → (x : IsCheckOf w K b k c) → run p (rest_from c) ≡ Ok None → AreLinks (digests_in p) x.trace.links
   check_holds c x holds = same_links_are p 0 x.trace.links (subst (λ d. run p (rest_from d) ≡ Ok None) x.is holds)

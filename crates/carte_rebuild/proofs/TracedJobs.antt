@@ -32,7 +32,7 @@ use Rattle.carte_rebuild.proofs.TaskAlone.{alone_ran, alone_needs, alone_there, 
 use Rattle.carte_rebuild.proofs.Wholes.{IsRightWhole, whole_fits, whole_goes}
 use Rattle.carte_rebuild.proofs.TracedChecks.{OfNeeds, reused_needs, asks_needs, links_now, links_then, held_needs, linked_names, check_asks, check_stops, check_holds}
 
-module _ (w : Way) (of : OfNeeds w) (K : SomeKept) (b : Book) (H : List Book) (base : IsBase K b H) (k : List ℕ) (f : Tree) (is_rule : content b k ≡ Some (rule f)) (cs : List Checking) (tried : AreTried w K k cs) where
+module _ (w : Way) (of : OfNeeds w) (K : SomeKept) (b : Book) (H : List Book) (base : IsBase K b H) (k : List ℕ) (f : Tree) (is_rule : content b k ≡ Some (rule f)) (cs : List Checking) (tried : AreTried w K b k cs) where
   abbrev whole : Asks Made
   whole = tries cs (task_left k (asks b.kind f))
 
@@ -40,13 +40,13 @@ module _ (w : Way) (of : OfNeeds w) (K : SomeKept) (b : Book) (H : List Book) (b
   not_held : AllDiffer (clean b) cs → ¬ (IsHeld (tracing w) K b k)
   not_held differ (t, held) =
       let stored = base.sound.trace_stored w k t held.kept in
-      let d = differ (check_of k t stored.0) (tried.each t stored.0 held.kept held.trusted stored.1) in
+      let d = differ (check_of k t stored.0) (tried.each t stored.0 held.kept held.task held.trusted stored.1) in
       let same : run (clean b) (rest_from (check_of k t stored.0)) ≡ Ok None = are_links_same (clean b) 0 t.links (links_then w of b t held.links) in
       let both : Ok (Some d.0) ≡ Ok None = sym d.1 ∙ same in
       cc
 
-  held_by : (c : Checking) (x : IsCheckOf w K k c) → run (clean b) (rest_from c) ≡ Ok None → IsHeldBy w K b k x.trace
-  held_by c x holds = record { kept = x.kept; links = links_now w of b x.trace (check_holds w of K b H base k (clean b) (λ i v h. h) c x holds); trusted = x.trusted }
+  held_by : (c : Checking) (x : IsCheckOf w K b k c) → run (clean b) (rest_from c) ≡ Ok None → IsHeldBy w K b k x.trace
+  held_by c x holds = record { kept = x.kept; task = x.task; links = links_now w of b x.trace (check_holds w of K b H base k (clean b) (λ i v h. h) c x holds); trusted = x.trusted }
 
   again_right : (m : Made) → IsGivenAgain (clean b) cs m → IsRightMade (tracing w) K b k m
   again_right m (c, has, holds, is) =

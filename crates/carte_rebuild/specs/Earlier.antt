@@ -1,5 +1,5 @@
 -- The checks of the traces of a key.
-use Rattle.std.specs.Prelude.{ℕ, Bool, true, List, [], ◌∷◌, ◌++◌, Option, Some, None, if◌then◌else◌}
+use Rattle.std.specs.Prelude.{ℕ, Bool, true, ◌&&◌, List, [], ◌∷◌, ◌++◌, Option, Some, None, if◌then◌else◌}
 use Rattle.carte_value.specs.declared.digest.Digest.{Digest}
 use Rattle.carte_value.specs.declared.value.Value.{Value}
 use Rattle.carte_task.specs.Checking.{Checking}
@@ -19,15 +19,24 @@ abbrev pub is_wanted : Option Digest → Digest → Bool
 is_wanted None d = true
 is_wanted (Some e) d = digest_eq e d
 
--- of a trace with a result that is wanted and has a value
-abbrev pub checks_for : Option Digest → List Value → List ℕ → Trace → List Checking
-checks_for wanted vs k t = if is_wanted wanted t.result then check_at (first_value vs t.result) k t else []
+-- of this task, with a result that is wanted
+abbrev pub may_hold : Digest → Option Digest → Trace → Bool
+may_hold task wanted t = digest_eq t.task task && is_wanted wanted t.result
 
-abbrev pub checks_if : Option Digest → List Value → List ℕ → Option Trace → List Checking
-checks_if wanted vs k None = []
-checks_if wanted vs k (Some t) = checks_for wanted vs k t
+-- of such a trace whose result has a value
+abbrev pub checks_for : Digest → Option Digest → List Value → List ℕ → Trace → List Checking
+checks_for task wanted vs k t = if may_hold task wanted t then check_at (first_value vs t.result) k t else []
+
+abbrev pub checks_if : Digest → Option Digest → List Value → List ℕ → Option Trace → List Checking
+checks_if task wanted vs k None = []
+checks_if task wanted vs k (Some t) = checks_for task wanted vs k t
 
 -- of each such trace of the key, in their order
-abbrev pub checks_in : Option Digest → List Value → List ℕ → List Trace → List Checking
-checks_in wanted vs k [] = []
-checks_in wanted vs k (t ∷ ts) = (if is_trace_of k t then checks_for wanted vs k t else []) ++ checks_in wanted vs k ts
+abbrev pub checks_in : Digest → Option Digest → List Value → List ℕ → List Trace → List Checking
+checks_in task wanted vs k [] = []
+checks_in task wanted vs k (t ∷ ts) = (if is_trace_of k t then checks_for task wanted vs k t else []) ++ checks_in task wanted vs k ts
+
+-- of those with the key's own task, where it has one
+abbrev pub checks_now : Option Digest → Option Digest → List Value → List ℕ → List Trace → List Checking
+checks_now None wanted vs k ts = []
+checks_now (Some task) wanted vs k ts = checks_in task wanted vs k ts

@@ -1,23 +1,44 @@
 ghost use Rattle.std.specs.Prelude.{◌≡◌, ◌++◌, option_copied, IfOk, OnOk};
+ghost use Rattle.carte_book.specs.Book.{book_view};
+ghost use Rattle.carte_book.specs.Task.{task_now};
 ghost use Rattle.carte_table.specs.Lookups.{first_value};
-ghost use Rattle.carte_rebuild.specs.Earlier.{is_wanted as wants, check_at, checks_if, checks_in};
+ghost use Rattle.carte_rebuild.specs.Earlier.{is_wanted as wants, may_hold, check_at, checks_if, checks_in, checks_now};
 
 use crate::{Checks, stored};
+use carte_book::Book;
 use carte_record::{Store, Trace, Traces};
 use carte_task::Check;
 use carte_value::{Digest, Name, NoMemory};
 use std::alloc::Global;
 
-/// The checks of a key's traces whose values are in the store, in the order of the traces; where a result is wanted, of
-/// those with that result alone.
+/// The checks of a key's traces of its own task whose values are in the store, in the order of the traces; where a result
+/// is wanted, of those with that result alone. A trace of another task is passed over before anything is looked up for it,
+/// and what is no rule of the book has no checks.
 pub fn checks_of(
     alloc: Global,
+    book: &Book,
     traces: &Traces,
     values: &Store,
     key: &Name,
     wanted: Option<&Digest>,
 ) -> Result<Checks, NoMemory>
-    ensures { IfOk result (λ checks. checks ≡ checks_in (option_copied wanted.entry) values.now key.now traces.now) }
+    ensures { IfOk result (λ checks. checks ≡ checks_now (task_now (book_view book.now) key.now) (option_copied wanted.entry) values.now key.now traces.now) }
+{
+    match book.task_digest(alloc, key)? {
+        Some(task) => checks_with(alloc, traces, values, key, &task, wanted),
+        None => Ok(Checks::new()),
+    }
+}
+
+fn checks_with(
+    alloc: Global,
+    traces: &Traces,
+    values: &Store,
+    key: &Name,
+    task: &Digest,
+    wanted: Option<&Digest>,
+) -> Result<Checks, NoMemory>
+    ensures { IfOk result (λ checks. checks ≡ checks_in task.now (option_copied wanted.entry) values.now key.now traces.now) }
 {
     let places = traces.places(key);
     let mut checks = Checks::new();
@@ -27,6 +48,7 @@ pub fn checks_of(
             traces.get(*at as usize),
             values,
             key,
+            task,
             wanted,
             &mut checks,
         )?;
@@ -34,23 +56,30 @@ pub fn checks_of(
     Ok(checks)
 }
 
-// The check of a trace, if there is one and it has what is wanted.
+// The check of a trace, if there is one of the task and it has what is wanted.
 fn add(
     alloc: Global,
     trace: Option<&Trace>,
     values: &Store,
     key: &Name,
+    task: &Digest,
     wanted: Option<&Digest>,
     checks: &mut Checks,
 ) -> Result<(), NoMemory>
-    ensures { OnOk result (checks.new ≡ checks.old ++ checks_if (option_copied wanted.entry) values.now key.now (option_copied trace.entry)) }
+    ensures { OnOk result (checks.new ≡ checks.old ++ checks_if task.now (option_copied wanted.entry) values.now key.now (option_copied trace.entry)) }
 {
     match trace {
-        Some(trace) if is_wanted(wanted, &trace.result) => {
+        Some(trace) if may_hold(task, wanted, trace) => {
             add_check(alloc, trace, values, key, checks)
         }
         _ => Ok(()),
     }
+}
+
+fn may_hold(task: &Digest, wanted: Option<&Digest>, trace: &Trace) -> bool
+    ensures { result ≡ may_hold task.now (option_copied wanted.entry) trace.now }
+{
+    trace.task == *task && is_wanted(wanted, &trace.result)
 }
 
 fn is_wanted(wanted: Option<&Digest>, digest: &Digest) -> bool

@@ -57,6 +57,7 @@ pub trait Rebuilder {
         ensures notes { OnOk result (Notes (how self.now) (kept_view kept.now) (book_view book.now) finished.now batch.old batch.new) }
         ensures unmarked { OnOk result (AreUnmarked batch.old.entries → AreUnmarked batch.new.entries) }
         ensures start { OnOk result (batch.new.start ≡ batch.old.start) }
+        ensures gone { OnOk result (batch.new.gone ≡ batch.old.gone) }
         ensures stale { OnOk result (batch.new.stale ≡ batch.old.stale) }
         ensures chain { OnOk result (batch.new.chain ≡ batch.old.chain) }
     {

@@ -1,5 +1,6 @@
 -- Batches that were read from bytes.
-use Rattle.std.proofs.Common.{◌≡◌, ℕ, List, [], ◌++◌, sym, ◌∙◌, ap, append-nil, subst, Option, Some, None, Ok}
+use Rattle.std.proofs.Common.{◌≡◌, ℕ, List, [], ◌∷◌, ◌++◌, sym, ◌∙◌, ap, append-nil, subst, Option, Some, None, Ok}
+use Rattle.carte_codec.specs.Each.{EachFits}
 use Rattle.carte_record.specs.declared.batch.Batch.{Batch}
 use Rattle.carte_record.specs.Bodies.{spelled_batch, FitsBatch, IsDecoded, IsWhole}
 use Rattle.carte_record.specs.BodyLaws.{batch_one}
@@ -11,3 +12,8 @@ decoded b rest body (Some c) fits is (same, all) = record {
   bytes = is ∙ ap (λ xs. spelled_batch b ++ xs) all ∙ append-nil (spelled_batch b) ∙ ap spelled_batch (sym same);
 }
 decoded b rest body None fits is more = λ c other. more (batch_one.one b c rest [] fits other.fits (sym is ∙ other.bytes ∙ sym (append-nil (spelled_batch c)))).1
+
+-- where nothing is asked of an item
+pub each_fits : {A : Type 0} (xs : List A) → EachFits (λ x. Unit {0}) xs
+each_fits [] = tt
+each_fits (x ∷ xs) = (tt, each_fits xs)

@@ -4,22 +4,25 @@ use Rattle.std.proofs.lemmas.Bool.{eqb-true}
 use Rattle.std.specs.Prelude.{◌==◌, is_none, option_map, unwrap_or}
 use Rattle.std.specs.Option.{option_or}
 use Rattle.carte_record.specs.declared.start.Start.{Start}
-use Rattle.carte_record.specs.declared.start.Start.TheVariants.{GoOn, Anew, Cleared}
+use Rattle.carte_record.specs.declared.start.Start.TheVariants.{GoOn, Cleared}
+use Rattle.carte_record.specs.declared.batch.Batch.{Batch}
 use Rattle.carte_record.specs.declared.way.Way.{Way}
 use Rattle.carte_record.specs.declared.way.Way.TheVariants.{Verifying, Constructive, Deep}
 use Rattle.carte_table.specs.Lookups.{first_value, link_in}
 use Rattle.carte_record.specs.Lookups.{entry_in}
-use Rattle.carte_record.specs.Kept.{traces_in, staled}
-use Rattle.carte_record.specs.Folds.{started, carried, batch_traces, is_among}
-use Rattle.carte_record.specs.Empty.{goes_on, brings_no_key, brings_no_trace, EmptyChangesNothing}
+use Rattle.carte_record.specs.Kept.{SomeKept, traces_in, staled}
+use Rattle.carte_record.specs.Folds.{apply, started, carried, batch_traces, is_among}
+use Rattle.carte_record.specs.Empty.{goes_on, brings_no_key, brings_no_trace, drops_nothing, EmptyChangesNothing}
 use Rattle.carte_table.proofs.Found.{or_none}
+use Rattle.carte_record.specs.Growth.{put_in}
 use Rattle.carte_record.proofs.Growing.{kept_same}
+use Rattle.carte_record.proofs.Gone.{dropping_none}
 
-both : (b c : Bool) → b && c ≡ true → (b ≡ true) × (c ≡ true)
+pub both : (b c : Bool) → b && c ≡ true → (b ≡ true) × (c ≡ true)
 both true c is = (refl, is)
 both false c is = cc
 
-nil_from : {A : Type 0} (xs : List A) → length xs == 0 ≡ true → xs ≡ []
+pub nil_from : {A : Type 0} (xs : List A) → length xs == 0 ≡ true → xs ≡ []
 nil_from [] is = refl
 nil_from (x ∷ xs) is = absurd (let long : length (x ∷ xs) ≡ 0 = eqb-true (length (x ∷ xs)) 0 is in omega arith)
 
@@ -27,9 +30,8 @@ none_from : {A : Type 0} (o : Option A) → is_none o ≡ true → o ≡ None
 none_from None is = refl
 none_from (Some x) is = cc
 
-start_from : (s : Start) → goes_on s ≡ true → s ≡ GoOn
+pub start_from : (s : Start) → goes_on s ≡ true → s ≡ GoOn
 start_from GoOn is = refl
-start_from (Anew d) is = cc
 start_from Cleared is = cc
 
 pub empty_same : EmptyChangesNothing
@@ -37,17 +39,18 @@ empty_same B K is =
     let all = both ((goes_on B.start && is_none B.chain) && brings_no_key B) (brings_no_trace B) is in
     let rest = both (goes_on B.start && is_none B.chain) (brings_no_key B) all.0 in
     let head = both (goes_on B.start) (is_none B.chain) rest.0 in
-    let keys = both (length B.values == 0 && length B.seen == 0) (length B.stale == 0 && length B.entries == 0) rest.1 in
-    let more = both (length B.values == 0) (length B.seen == 0) keys.0 in
-    let less = both (length B.stale == 0) (length B.entries == 0) keys.1 in
+    let keys = both ((length B.values == 0 && length B.gone == 0) && length B.seen == 0) (length B.entries == 0 && length B.stale == 0) rest.1 in
+    let more = both (length B.values == 0 && length B.gone == 0) (length B.seen == 0) keys.0 in
+    let most = both (length B.values == 0) (length B.gone == 0) more.0 in
+    let less = both (length B.entries == 0) (length B.stale == 0) keys.1 in
     let ways = both (length B.verifying == 0 && length B.constructive == 0) (length B.deep == 0) all.1 in
     let two = both (length B.verifying == 0) (length B.constructive == 0) ways.0 in
-    ap (λ s. carried B (started s K)) (start_from B.start head.0) ∙ kept_same (carried B K) K refl
+    ap (λ s. carried B (started s K)) (start_from B.start head.0) ∙ dropping_none B K (nil_from B.gone most.1) ∙ kept_same (put_in B K) K
     (λ k. ap (λ ls. option_or (link_in ls k) (K.seen k)) (nil_from B.seen more.1))
-    (λ k. ap (λ es. option_or (entry_in es k) (option_map (staled (is_among B.stale k)) (K.entries k))) (nil_from B.entries less.1)
-    ∙ (ap (λ ks. option_map (staled (is_among ks k)) (K.entries k)) (nil_from B.stale less.0) ∙ unmarked (K.entries k)))
+    (λ k. ap (λ es. option_map (staled (is_among B.stale k)) (option_or (entry_in es k) (K.entries k))) (nil_from B.entries less.0)
+    ∙ (ap (λ ks. option_map (staled (is_among ks k)) (K.entries k)) (nil_from B.stale less.1) ∙ unmarked (K.entries k)))
     (traces two.0 two.1 ways.1) (ap (λ o. unwrap_or o K.chain) (none_from B.chain head.1))
-    (λ d. ap (λ vs. option_or (K.stored d) (first_value vs d)) (nil_from B.values more.0) ∙ or_none (K.stored d))
+    (λ d. ap (λ vs. option_or (K.stored d) (first_value vs d)) (nil_from B.values most.0) ∙ or_none (K.stored d))
   where
     unmarked : (o : _) → option_map (staled false) o ≡ o
     unmarked None = refl
@@ -57,3 +60,9 @@ empty_same B K is =
     traces v c d Verifying k = ap (λ ts. traces_in k ts (K.traces Verifying k)) (nil_from B.verifying v)
     traces v c d Constructive k = ap (λ ts. traces_in k ts (K.traces Constructive k)) (nil_from B.constructive c)
     traces v c d Deep k = ap (λ ts. traces_in k ts (K.traces Deep k)) (nil_from B.deep d)
+
+-- a batch that begins with all that is kept
+pub nothing_dropped : (B : Batch) (K : SomeKept) → drops_nothing B ≡ true → apply B K ≡ put_in B K
+nothing_dropped B K is =
+    let parts = both (goes_on B.start) (length B.gone == 0) is in
+    ap (λ s. carried B (started s K)) (start_from B.start parts.0) ∙ dropping_none B K (nil_from B.gone parts.1)

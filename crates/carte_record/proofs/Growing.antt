@@ -1,7 +1,7 @@
 -- What is kept, after a batch is taken in, and where it isn't.
-use Rattle.std.proofs.Common.{◌≡◌, ℕ, true, List, [], ◌∷◌, ◌++◌, Option, Some, None, refl, ap, sym, ◌∙◌, take, length, cond, inl, inr}
+use Rattle.std.proofs.Common.{◌≡◌, ℕ, List, [], ◌∷◌, ◌++◌, refl, ap, ◌∙◌, take, length, cond}
 use Rattle.std.proofs.Math.Seq.{take-append_seam}
-use Rattle.std.specs.Prelude.{find, option_map, unwrap_or, is_some}
+use Rattle.std.specs.Prelude.{find, option_map, unwrap_or}
 use Rattle.std.specs.Option.{option_or}
 use Rattle.carte_value.specs.declared.digest.Digest.{Digest}
 use Rattle.carte_name.specs.Names.{name_eq}
@@ -14,17 +14,18 @@ use Rattle.carte_record.specs.declared.batch.Batch.{Batch}
 use Rattle.carte_record.specs.declared.lengths.Lengths.{Lengths}
 use Rattle.carte_table.specs.Lookups.{first_link, link_in, first_value, digest_in, find_last, is_link_of}
 use Rattle.carte_record.specs.Lookups.{first_entry, entry_in, is_entry_of}
-use Rattle.carte_table.specs.Steps.{Begins, replaced_by, IsReady}
+use Rattle.carte_table.specs.Steps.{Begins, IsReady}
 use Rattle.carte_record.specs.Kept.{SomeKept, kept_view, kept_traces, newest, traces_in, staled}
-use Rattle.carte_record.specs.Folds.{is_among, batch_traces, carried}
-use Rattle.carte_record.specs.Growth.{Grows, AreLengthsOf, HasTraces, IsReadyIn, TakesEntries, Settles}
-use Rattle.carte_table.proofs.Found.{map_or, or_none}
-use Rattle.carte_table.proofs.Steps.{brought, moved, room_made, begins_self}
+use Rattle.carte_record.specs.Folds.{is_among, batch_traces}
+use Rattle.carte_record.specs.Growth.{Grows, AreLengthsOf, HasTraces, IsReadyIn, TakesEntries, Settles, put_in}
+use Rattle.carte_table.proofs.Found.{map_or}
+use Rattle.carte_table.proofs.Steps.{brought, begins_self}
+use Rattle.carte_record.proofs.Marks.{marked_found}
 
 -- what is alike is equal
-pub kept_same : (K L : SomeKept) → K.rules ≡ L.rules → ((k : List ℕ) → K.seen k ≡ L.seen k) → ((k : List ℕ) → K.entries k ≡ L.entries k) → ((w : Way) (k : List ℕ) → K.traces w k ≡ L.traces w k)
+pub kept_same : (K L : SomeKept) → ((k : List ℕ) → K.seen k ≡ L.seen k) → ((k : List ℕ) → K.entries k ≡ L.entries k) → ((w : Way) (k : List ℕ) → K.traces w k ≡ L.traces w k)
     → K.chain ≡ L.chain → ((d : Digest) → K.stored d ≡ L.stored d) → K ≡ L
-kept_same K L rules seen entries traces chain stored i = record { rules = rules i; seen = λ k. seen k i; entries = λ k. entries k i; traces = λ w k. traces w k i; chain = chain i; stored = λ d. stored d i }
+kept_same K L seen entries traces chain stored i = record { seen = λ k. seen k i; entries = λ k. entries k i; traces = λ w k. traces w k i; chain = chain i; stored = λ d. stored d i }
 
 pub traces_on : (k : List ℕ) (xs ys old : List Trace) → traces_in k (xs ++ ys) old ≡ traces_in k ys (traces_in k xs old)
 traces_on k [] ys old = refl
@@ -35,28 +36,17 @@ no_traces K v c d Verifying k = ap (λ ts. traces_in k ts []) v
 no_traces K v c d Constructive k = ap (λ ts. traces_in k ts []) c
 no_traces K v c d Deep k = ap (λ ts. traces_in k ts []) d
 
-marked_and_replaced : (f : Entry → Entry) (l o p : Option Entry) → (is_some l ≡ true → is_some o ≡ true) → (l ≡ None → o ≡ p) → replaced_by (option_map f o) l ≡ option_or l (option_map f p)
-marked_and_replaced f None None p there only = ap (option_map f) (only refl)
-marked_and_replaced f None (Some y) p there only = ap (option_map f) (only refl)
-marked_and_replaced f (Some x) None p there only = let some = there refl in cc
-marked_and_replaced f (Some x) (Some y) p there only = refl
+entries_taken : (ks : List (List ℕ)) (es old mid new : List Entry) → IsReady is_entry_of es old mid → TakesEntries ks es mid new → (k : List ℕ) → first_entry new k ≡ option_map (staled (is_among ks k)) (option_or (entry_in es k) (first_entry old k))
+entries_taken ks es old mid new ready (taken, takes, is) k = ap (λ xs. first_entry xs k) is ∙ marked_found taken ks k ∙ ap (option_map (staled (is_among ks k))) (brought (λ e. e.key) es old mid taken ready takes k)
 
-entries_taken : (ks : List (List ℕ)) (es old mid new : List Entry) → IsReady is_entry_of es old mid → TakesEntries ks es mid new → (k : List ℕ) → first_entry new k ≡ option_or (entry_in es k) (option_map (staled (is_among ks k)) (first_entry old k))
-entries_taken ks es old mid new ready (inl (none, is)) k =
-    let whole = moved (λ e. e.key) es old mid ready none k in
-    ap (λ xs. first_entry xs k) is ∙ whole.0 ∙ sym (ap (λ o. option_or (entry_in es k) (option_map (staled (is_among ks k)) o)) whole.1 ∙ or_none (entry_in es k))
-entries_taken ks es old mid new ready (inr (some, puts)) k =
-    let room = room_made (λ e. e.key) es old mid ready some in
-    puts k ∙ marked_and_replaced (staled (is_among ks k)) (entry_in es k) (first_entry mid k) (first_entry old k) (room.there k) (room.only k)
-
-pub carried_by : (B : Batch) (old mid new : Kept) → Grows old mid → HasTraces B.verifying B.constructive B.deep old mid → IsReadyIn B.values B.seen B.entries old mid → Settles B.seen B.stale B.entries B.chain mid new
-    → kept_view new ≡ carried B (kept_view old)
-carried_by B old mid new grows more room settles = kept_same (kept_view new) (carried B (kept_view old)) (settles.rules ∙ grows.rules) seen entries traces (settles.chain ∙ ap (unwrap_or B.chain) grows.chain) stored
+pub carried_by : (B : Batch) (old mid new : Kept) → Grows old mid → HasTraces B.verifying B.constructive B.deep old mid → IsReadyIn B.values B.seen B.entries old mid → Settles B.seen B.entries B.stale B.chain mid new
+    → kept_view new ≡ put_in B (kept_view old)
+carried_by B old mid new grows more room settles = kept_same (kept_view new) (put_in B (kept_view old)) seen entries traces (settles.chain ∙ ap (unwrap_or B.chain) grows.chain) stored
   where
     seen : (k : List ℕ) → first_link new.seen k ≡ option_or (link_in B.seen k) (first_link old.seen k)
     seen k = ap digest_in (brought (λ l. l.name) B.seen old.seen mid.seen new.seen room.seen settles.seen k) ∙ map_or (λ l. l.digest) (find_last (is_link_of k) B.seen) (find (is_link_of k) old.seen)
 
-    entries : (k : List ℕ) → first_entry new.entries k ≡ option_or (entry_in B.entries k) (option_map (staled (is_among B.stale k)) (first_entry old.entries k))
+    entries : (k : List ℕ) → first_entry new.entries k ≡ option_map (staled (is_among B.stale k)) (option_or (entry_in B.entries k) (first_entry old.entries k))
     entries = entries_taken B.stale B.entries old.entries mid.entries new.entries room.entries settles.entries
 
     traces : (w : Way) (k : List ℕ) → traces_in k (kept_traces w new) [] ≡ traces_in k (batch_traces w B) (traces_in k (kept_traces w old) [])
@@ -70,10 +60,9 @@ carried_by B old mid new grows more room settles = kept_same (kept_view new) (ca
 begin_cut : {A : Type 0} (xs ys : List A) (n : ℕ) → Begins xs ys → n ≡ length xs → take n ys ≡ xs
 begin_cut xs ys n (zs, is) many = rw (is, many) (take-append_seam xs zs)
 
-pub shrunk : (old mid new : Kept) (n : Lengths) → Grows old mid → AreLengthsOf old n → new.rules ≡ mid.rules → new.seen ≡ take n.seen mid.seen → new.entries ≡ take n.entries mid.entries
+pub shrunk : (old mid new : Kept) (n : Lengths) → Grows old mid → AreLengthsOf old n → new.seen ≡ take n.seen mid.seen → new.entries ≡ take n.entries mid.entries
     → new.verifying ≡ take n.verifying mid.verifying → new.constructive ≡ take n.constructive mid.constructive → new.deep ≡ take n.deep mid.deep → new.chain ≡ mid.chain → new.values ≡ take n.values mid.values → new ≡ old
-shrunk old mid new n grows are rules seen entries verifying constructive deep chain values i = record {
-  rules = (rules ∙ grows.rules) i;
+shrunk old mid new n grows are seen entries verifying constructive deep chain values i = record {
   seen = (seen ∙ begin_cut old.seen mid.seen n.seen grows.seen are.seen) i;
   entries = (entries ∙ begin_cut old.entries mid.entries n.entries grows.entries are.entries) i;
   verifying = (verifying ∙ begin_cut old.verifying mid.verifying n.verifying grows.verifying are.verifying) i;
@@ -84,4 +73,4 @@ shrunk old mid new n grows are rules seen entries verifying constructive deep ch
 }
 
 pub grows_self : (K : Kept) → Grows K K
-grows_self K = record { rules = refl; seen = begins_self K.seen; entries = begins_self K.entries; verifying = begins_self K.verifying; constructive = begins_self K.constructive; deep = begins_self K.deep; chain = refl; values = begins_self K.values }
+grows_self K = record { seen = begins_self K.seen; entries = begins_self K.entries; verifying = begins_self K.verifying; constructive = begins_self K.constructive; deep = begins_self K.deep; chain = refl; values = begins_self K.values }

@@ -5,3 +5,4 @@ pub mod Empties
 pub mod Looked
 pub mod Unmarking
 pub mod Links
+pub mod Gone

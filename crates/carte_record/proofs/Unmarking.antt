@@ -1,6 +1,6 @@
 -- Marks that are put on and taken off again leave all as it was.
-use Rattle.std.proofs.Common.{◌≡◌, ◌<◌, ℕ, Bool, true, false, cond, List, [], ◌∷◌, ◌||◌, length, Option, Some, None, find, refl, ap, sym, subst, ◌∙◌, inl, inr}
-use Rattle.std.specs.Prelude.{if◌then◌else◌, option_map}
+use Rattle.std.proofs.Common.{◌≡◌, ℕ, Bool, true, false, cond, List, [], ◌∷◌, Some, find, refl, ap, sym, ◌∙◌, inl, inr}
+use Rattle.std.specs.Prelude.{if◌then◌else◌}
 use Rattle.carte_name.specs.Names.{name_eq}
 use Rattle.carte_value.specs.Truths.{Among, NoneTwice}
 use Rattle.carte_record.specs.declared.entry.Entry.{Entry}
@@ -8,17 +8,13 @@ use Rattle.carte_record.specs.declared.kept.Kept.{Kept}
 use Rattle.carte_record.specs.declared.way.Way.{Way}
 use Rattle.carte_record.specs.declared.way.Way.TheVariants.{Verifying, Constructive, Deep}
 use Rattle.carte_table.specs.Changes.{change_first}
-use Rattle.carte_record.specs.Folds.{is_among, with_marks}
-use Rattle.carte_record.specs.Kept.{kept_traces, kept_view, staled, traces_in}
-use Rattle.carte_table.specs.Steps.{replaced_by, TakesIn}
-use Rattle.carte_record.specs.Growth.{TakesEntries}
-use Rattle.carte_record.specs.Lookups.{entry_in, first_entry, is_entry_of}
+use Rattle.carte_record.specs.Folds.{with_marks}
+use Rattle.carte_record.specs.Kept.{kept_traces, kept_view, traces_in}
+use Rattle.carte_record.specs.Lookups.{first_entry, is_entry_of}
 use Rattle.carte_record.specs.Marked.{CanBeMarked, all_marked, lists_marked, marked_as}
 use Rattle.carte_record.proofs.Growing.{kept_same}
-use Rattle.carte_record.proofs.Marks.{marked_more, none_marked}
-use Rattle.carte_table.proofs.Changed.{all_long}
+use Rattle.carte_record.proofs.Marks.{marked_found}
 use Rattle.carte_table.proofs.Names.{name_eq_is}
-use Rattle.carte_table.proofs.Onces.{empty_list}
 
 -- changes of items that are apart come in either order
 swapped : {A : Type 0} (p q : A → Bool) (f g : A → A) (xs : List A) → ((y : A) → p y ≡ true → q y ≡ false) → ((y : A) → p (g y) ≡ p y) → ((y : A) → q (f y) ≡ q y)
@@ -74,34 +70,10 @@ marked_back old new lists ks can is step =
     step ∙ (ap (λ (K : Kept). record K { entries = all_marked false K.entries ks }) is
     ∙ ap (λ es. record lists { entries = es }) (all_back lists.entries ks can.once can.unmarked))
 
--- what is found of each key
-pub marked_found : (es : List Entry) (ks : List (List ℕ)) (k : List ℕ) → first_entry (all_marked true es ks) k ≡ option_map (staled (is_among ks k)) (first_entry es k)
-marked_found es [] k = none_marked (first_entry es k)
-marked_found es (j ∷ js) k =
-    marked_found (change_first (is_entry_of j) (marked_as true) es) js k
-    ∙ (ap (option_map (staled (is_among js k))) (marked_more es es (change_first (is_entry_of j) (marked_as true) es) [] j (λ q. none_marked (first_entry es q)) refl k)
-    ∙ both (first_entry es k) (is_among js k) (name_eq j k))
-  where
-    both : (o : Option Entry) (s t : Bool) → option_map (staled s) (option_map (staled (t || false)) o) ≡ option_map (staled (t || s)) o
-    both None s t = refl
-    both (Some e) true true = refl
-    both (Some e) true false = refl
-    both (Some e) false true = refl
-    both (Some e) false false = refl
-
--- later entries that are taken in over marks
-pub taken_over_marks : (old mid new es : List Entry) (ks : List (List ℕ)) → mid ≡ all_marked true old ks → TakesIn is_entry_of es mid new → TakesEntries ks es old new
-taken_over_marks old mid new es ks is (inl (none, same)) = inl (empty_list old (sym (all_long is_entry_of (marked_as true) old ks) ∙ ap length (sym is ∙ none)), same)
-taken_over_marks old mid new es ks is (inr (some, puts)) =
-    inr (
-      subst (λ n. 0 < n) (ap length is ∙ all_long is_entry_of (marked_as true) old ks) some,
-      λ k. puts k ∙ ap (λ o. replaced_by o (entry_in es k)) (ap (λ xs. first_entry xs k) is ∙ marked_found old ks k),
-    )
-
 pub marked_view : (K L : Kept) (ks : List (List ℕ)) → L ≡ lists_marked K ks → kept_view L ≡ with_marks (kept_view K) ks
 marked_view K L ks is =
     ap kept_view is
-    ∙ kept_same (kept_view (lists_marked K ks)) (with_marks (kept_view K) ks) refl (λ k. refl) (λ k. marked_found K.entries ks k) (λ w k. traces w k) refl (λ d. refl)
+    ∙ kept_same (kept_view (lists_marked K ks)) (with_marks (kept_view K) ks) (λ k. refl) (λ k. marked_found K.entries ks k) (λ w k. traces w k) refl (λ d. refl)
   where
     traces : (w : Way) (k : List ℕ) → traces_in k (kept_traces w (lists_marked K ks)) [] ≡ traces_in k (kept_traces w K) []
     traces Verifying k = refl

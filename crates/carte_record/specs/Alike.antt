@@ -34,16 +34,17 @@ links_eq_is (l ∷ ls) (m ∷ ms) is =
 
 pub trace_eq_is : (s t : Trace) → trace_eq s t ≡ true → s ≡ t
 trace_eq_is s t is =
-    let parts = both (name_eq s.key t.key && digest_eq s.result t.result) (links_eq s.links t.links) is in
-    let two = both (name_eq s.key t.key) (digest_eq s.result t.result) parts.0 in
-    join (name_eq_is s.key t.key two.0) (digest_eq_is s.result t.result two.1) (links_eq_is s.links t.links parts.1)
+    let parts = both ((name_eq s.key t.key && digest_eq s.task t.task) && digest_eq s.result t.result) (links_eq s.links t.links) is in
+    let two = both (name_eq s.key t.key && digest_eq s.task t.task) (digest_eq s.result t.result) parts.0 in
+    let one = both (name_eq s.key t.key) (digest_eq s.task t.task) two.0 in
+    join (name_eq_is s.key t.key one.0) (digest_eq_is s.task t.task one.1) (digest_eq_is s.result t.result two.1) (links_eq_is s.links t.links parts.1)
   where
-    join : s.key ≡ t.key → s.result ≡ t.result → s.links ≡ t.links → s ≡ t
-    join keys results links i = record { key = keys i; links = links i; result = results i }
+    join : s.key ≡ t.key → s.task ≡ t.task → s.result ≡ t.result → s.links ≡ t.links → s ≡ t
+    join keys tasks results links i = record { key = keys i; task = tasks i; links = links i; result = results i }
 
 pub links_eq_self : (ls : List Link) → links_eq ls ls ≡ true
 links_eq_self [] = refl
 links_eq_self (l ∷ ls) = rw (name_eq_self l.name, digest_eq_self l.digest, links_eq_self ls) refl
 
 pub trace_eq_self : (t : Trace) → trace_eq t t ≡ true
-trace_eq_self t = rw (name_eq_self t.key, digest_eq_self t.result, links_eq_self t.links) refl
+trace_eq_self t = rw (name_eq_self t.key, digest_eq_self t.task, digest_eq_self t.result, links_eq_self t.links) refl

@@ -5,7 +5,7 @@ use Rattle.carte_name.specs.declared.NoMemory.{NoMemory}
 use Rattle.carte_codec.specs.Parts.{spelled_name, FitsName, spelled_digest, FitsDigest, spelled_bool, spelled_option, FitsOption, spelled_list, FitsList, spelled_link, FitsLink}
 use Rattle.carte_record.specs.declared.codec.batch.Kind.{Kind}
 use Rattle.carte_record.specs.declared.start.Start.{Start}
-use Rattle.carte_record.specs.declared.start.Start.TheVariants.{GoOn, Anew, Cleared}
+use Rattle.carte_record.specs.declared.start.Start.TheVariants.{GoOn, Cleared}
 use Rattle.carte_record.specs.declared.entry.Entry.{Entry}
 use Rattle.carte_record.specs.declared.trace.Trace.{Trace}
 use Rattle.carte_record.specs.declared.batch.Batch.{Batch}
@@ -16,47 +16,45 @@ spelled_names = spelled_list spelled_name
 abbrev pub FitsNames : List (List ℕ) → Type 0
 FitsNames = FitsList FitsName
 
--- the kind of a body that is a batch
+-- the kind of a body that is a batch of version 2
 abbrev pub the_kind : Kind
 the_kind = record {}
 
 abbrev pub spelled_kind : Kind → List ℕ
-spelled_kind k = 1 ∷ []
+spelled_kind k = 3 ∷ []
 
 abbrev pub spelled_start : Start → List ℕ
 spelled_start GoOn = 0 ∷ []
-spelled_start (Anew d) = 1 ∷ spelled_digest d
 spelled_start Cleared = 2 ∷ []
 
 abbrev pub FitsStart : Start → Type 0
 FitsStart GoOn = Unit {0}
-FitsStart (Anew d) = FitsDigest d
 FitsStart Cleared = Unit {0}
 
--- the key, the digest of its value, whether it is shallow, and the names that it needs
+-- the key, the digests of its task and of its value, whether it is shallow, and the names that it needs
 abbrev pub spelled_entry : Entry → List ℕ
-spelled_entry e = spelled_name e.key ++ (spelled_digest e.result ++ (spelled_bool e.shallow ++ spelled_names e.needs))
+spelled_entry e = spelled_name e.key ++ (spelled_digest e.task ++ (spelled_digest e.result ++ (spelled_bool e.shallow ++ spelled_names e.needs)))
 
 -- an entry of a batch isn't stale
 abbrev pub IsUnmarked : Entry → Type 0
 IsUnmarked e = e.stale ≡ false
 
 abbrev pub FitsEntry : Entry → Type 0
-FitsEntry e = FitsName e.key × FitsDigest e.result × FitsNames e.needs × IsUnmarked e
+FitsEntry e = FitsName e.key × FitsDigest e.task × FitsDigest e.result × FitsNames e.needs × IsUnmarked e
 
--- the key, its links, and the digest of the result
+-- the key, the digest of its task, its links, and the digest of the result
 abbrev pub spelled_trace : Trace → List ℕ
-spelled_trace t = spelled_name t.key ++ (spelled_list spelled_link t.links ++ spelled_digest t.result)
+spelled_trace t = spelled_name t.key ++ (spelled_digest t.task ++ (spelled_list spelled_link t.links ++ spelled_digest t.result))
 
 abbrev pub FitsTrace : Trace → Type 0
-FitsTrace t = FitsName t.key × FitsList FitsLink t.links × FitsDigest t.result
+FitsTrace t = FitsName t.key × FitsDigest t.task × FitsList FitsLink t.links × FitsDigest t.result
 
--- what a batch begins with, the values, the names seen, the keys that are stale, and the entries
+-- what a batch begins with, the values, the names that are dropped, the names seen, the entries, and the keys that are stale
 abbrev pub spelled_front : Batch → List ℕ
-spelled_front b = spelled_start b.start ++ (spelled_list spelling b.values ++ (spelled_list spelled_link b.seen ++ (spelled_names b.stale ++ spelled_list spelled_entry b.entries)))
+spelled_front b = spelled_start b.start ++ (spelled_list spelling b.values ++ (spelled_names b.gone ++ (spelled_list spelled_link b.seen ++ (spelled_list spelled_entry b.entries ++ spelled_names b.stale))))
 
 abbrev pub FitsFront : Batch → Type 0
-FitsFront b = FitsStart b.start × (FitsList IsValue b.values × (FitsList FitsLink b.seen × (FitsNames b.stale × FitsList FitsEntry b.entries)))
+FitsFront b = FitsStart b.start × (FitsList IsValue b.values × (FitsNames b.gone × (FitsList FitsLink b.seen × (FitsList FitsEntry b.entries × FitsNames b.stale))))
 
 -- the traces of the three kinds, and the chain
 abbrev pub spelled_back : Batch → List ℕ
@@ -65,9 +63,9 @@ spelled_back b = spelled_list spelled_trace b.verifying ++ (spelled_list spelled
 abbrev pub FitsBack : Batch → Type 0
 FitsBack b = FitsList FitsTrace b.verifying × (FitsList FitsTrace b.constructive × (FitsList FitsTrace b.deep × FitsOption FitsNames b.chain))
 
--- 1 for the kind, and the nine parts
+-- 3 for the kind, and the ten parts
 abbrev pub spelled_batch : Batch → List ℕ
-spelled_batch b = 1 ∷ (spelled_front b ++ spelled_back b)
+spelled_batch b = 3 ∷ (spelled_front b ++ spelled_back b)
 
 -- what holds of each batch whose entries aren't stale: its names are names, its texts and its lists aren't too long
 abbrev pub FitsBatch : Batch → Type 0

@@ -5,11 +5,11 @@ use Rattle.carte_value.specs.declared.link.Link.{Link}
 use Rattle.carte_value.specs.declared.value.Value.{Value}
 use Rattle.carte_codec.specs.Spellings.{OneSpelling}
 use Rattle.carte_value.specs.Spelling.{spelling, IsValue}
-use Rattle.carte_codec.specs.Parts.{spelled_digest, spelled_pair, FitsPair, spelled_option, FitsOption, spelled_list, FitsList, spelled_link, FitsLink}
+use Rattle.carte_codec.specs.Parts.{spelled_pair, FitsPair, spelled_option, FitsOption, spelled_list, FitsList, spelled_link, FitsLink}
 use Rattle.carte_codec.specs.Laws.{name_one, digest_one, bool_one, value_one, pair_one, option_one, list_one, link_one, as_one}
 use Rattle.carte_record.specs.declared.codec.batch.Kind.{Kind}
 use Rattle.carte_record.specs.declared.start.Start.{Start}
-use Rattle.carte_record.specs.declared.start.Start.TheVariants.{GoOn, Anew, Cleared}
+use Rattle.carte_record.specs.declared.start.Start.TheVariants.{GoOn, Cleared}
 use Rattle.carte_record.specs.declared.entry.Entry.{Entry}
 use Rattle.carte_record.specs.declared.trace.Trace.{Trace}
 use Rattle.carte_record.specs.declared.batch.Batch.{Batch}
@@ -17,10 +17,6 @@ use Rattle.carte_record.specs.Bodies.{spelled_names, FitsNames, spelled_start, F
 
 starts_same : (v w : Start) (r s : List ℕ) → FitsStart v → FitsStart w → spelled_start v ++ r ≡ spelled_start w ++ s → (v ≡ w) × (r ≡ s)
 starts_same GoOn GoOn r s is is' same = (refl, cc)
-starts_same (Anew d) (Anew e) r s is is' same =
-    let rest : spelled_digest d ++ r ≡ spelled_digest e ++ s = cc in
-    let parts : (d ≡ e) × (r ≡ s) = digest_one.one d e r s is is' rest in
-    (ap Anew parts.0, parts.1)
 starts_same Cleared Cleared r s is is' same = (refl, cc)
 starts_same v w r s is is' same = let no : ⊥ = cc in absurd no
 
@@ -31,41 +27,41 @@ pub names_one : OneSpelling spelled_names FitsNames
 names_one = list_one name_one
 
 abbrev pub EntryParts : Type 0
-EntryParts = List ℕ × (Digest × (Bool × List (List ℕ)))
+EntryParts = List ℕ × (Digest × (Digest × (Bool × List (List ℕ))))
 
 abbrev pub entry_parts : Entry → EntryParts
-entry_parts e = (e.key, (e.result, (e.shallow, e.needs)))
+entry_parts e = (e.key, (e.task, (e.result, (e.shallow, e.needs))))
 
 abbrev pub entry_of : EntryParts → Entry
-entry_of p = record { key = p.0; result = p.1.0; needs = p.1.1.1; stale = false; shallow = p.1.1.0 }
+entry_of p = record { key = p.0; task = p.1.0; result = p.1.1.0; needs = p.1.1.1.1; stale = false; shallow = p.1.1.1.0 }
 
 pub entry_one : OneSpelling spelled_entry FitsEntry
-entry_one = as_one entry_parts entry_of FitsEntry (λ e fit. ((fit.0, (fit.1, (tt, fit.2))), ap (λ b. let f : Entry = record e { stale = b } in f) (sym fit.3))) (pair_one name_one (pair_one digest_one (pair_one bool_one names_one)))
+entry_one = as_one entry_parts entry_of FitsEntry (λ e fit. ((fit.0, (fit.1, (fit.2, (tt, fit.3)))), ap (λ b. let f : Entry = record e { stale = b } in f) (sym fit.4))) (pair_one name_one (pair_one digest_one (pair_one digest_one (pair_one bool_one names_one))))
 
 abbrev pub TraceParts : Type 0
-TraceParts = List ℕ × (List Link × Digest)
+TraceParts = List ℕ × (Digest × (List Link × Digest))
 
 abbrev pub trace_parts : Trace → TraceParts
-trace_parts t = (t.key, (t.links, t.result))
+trace_parts t = (t.key, (t.task, (t.links, t.result)))
 
 abbrev pub trace_of : TraceParts → Trace
-trace_of p = record { key = p.0; links = p.1.0; result = p.1.1 }
+trace_of p = record { key = p.0; task = p.1.0; links = p.1.1.0; result = p.1.1.1 }
 
 pub trace_one : OneSpelling spelled_trace FitsTrace
-trace_one = as_one trace_parts trace_of FitsTrace (λ t fit. ((fit.0, (fit.1, fit.2)), refl)) (pair_one name_one (pair_one (list_one link_one) digest_one))
+trace_one = as_one trace_parts trace_of FitsTrace (λ t fit. ((fit.0, (fit.1, (fit.2, fit.3))), refl)) (pair_one name_one (pair_one digest_one (pair_one (list_one link_one) digest_one)))
 
 -- the kind of a body has one spelling, and no value
 pub kind_one : OneSpelling spelled_kind (λ k. Unit {0})
 kind_one = record { one = λ j k r s is is' same. (refl, cc) }
 
 abbrev pub Front : Type 0
-Front = Start × (List Value × (List Link × (List (List ℕ) × List Entry)))
+Front = Start × (List Value × (List (List ℕ) × (List Link × (List Entry × List (List ℕ)))))
 
 abbrev pub front_of : Batch → Front
-front_of b = (b.start, (b.values, (b.seen, (b.stale, b.entries))))
+front_of b = (b.start, (b.values, (b.gone, (b.seen, (b.entries, b.stale)))))
 
-pub front_one : OneSpelling (spelled_pair spelled_start (spelled_pair (spelled_list spelling) (spelled_pair (spelled_list spelled_link) (spelled_pair spelled_names (spelled_list spelled_entry))))) (FitsPair FitsStart (FitsPair (FitsList IsValue) (FitsPair (FitsList FitsLink) (FitsPair FitsNames (FitsList FitsEntry)))))
-front_one = pair_one start_one (pair_one (list_one value_one) (pair_one (list_one link_one) (pair_one names_one (list_one entry_one))))
+pub front_one : OneSpelling (spelled_pair spelled_start (spelled_pair (spelled_list spelling) (spelled_pair spelled_names (spelled_pair (spelled_list spelled_link) (spelled_pair (spelled_list spelled_entry) spelled_names))))) (FitsPair FitsStart (FitsPair (FitsList IsValue) (FitsPair FitsNames (FitsPair (FitsList FitsLink) (FitsPair (FitsList FitsEntry) FitsNames)))))
+front_one = pair_one start_one (pair_one (list_one value_one) (pair_one names_one (pair_one (list_one link_one) (pair_one (list_one entry_one) names_one))))
 
 abbrev pub Back : Type 0
 Back = List Trace × (List Trace × (List Trace × Option (List (List ℕ))))
@@ -86,9 +82,10 @@ abbrev pub batch_of : BatchParts → Batch
 batch_of p = record {
   start = p.1.0.0;
   values = p.1.0.1.0;
-  seen = p.1.0.1.1.0;
-  stale = p.1.0.1.1.1.0;
-  entries = p.1.0.1.1.1.1;
+  gone = p.1.0.1.1.0;
+  seen = p.1.0.1.1.1.0;
+  entries = p.1.0.1.1.1.1.0;
+  stale = p.1.0.1.1.1.1.1;
   verifying = p.1.1.0;
   constructive = p.1.1.1.0;
   deep = p.1.1.1.1.0;

@@ -1,18 +1,17 @@
 -- Batches with nothing in them.
 use Rattle.std.specs.Prelude.{Bool, true, false, ◌&&◌, ◌==◌, ◌≡◌, length, is_none}
 use Rattle.carte_record.specs.declared.start.Start.{Start}
-use Rattle.carte_record.specs.declared.start.Start.TheVariants.{GoOn, Anew, Cleared}
+use Rattle.carte_record.specs.declared.start.Start.TheVariants.{GoOn, Cleared}
 use Rattle.carte_record.specs.declared.batch.Batch.{Batch}
 use Rattle.carte_record.specs.Kept.{SomeKept}
 use Rattle.carte_record.specs.Folds.{apply}
 
 abbrev pub goes_on : Start → Bool
 goes_on GoOn = true
-goes_on (Anew d) = false
 goes_on Cleared = false
 
 abbrev pub brings_no_key : Batch → Bool
-brings_no_key B = (length B.values == 0 && length B.seen == 0) && (length B.stale == 0 && length B.entries == 0)
+brings_no_key B = ((length B.values == 0 && length B.gone == 0) && length B.seen == 0) && (length B.entries == 0 && length B.stale == 0)
 
 abbrev pub brings_no_trace : Batch → Bool
 brings_no_trace B = (length B.verifying == 0 && length B.constructive == 0) && length B.deep == 0
@@ -23,3 +22,7 @@ is_empty B = ((goes_on B.start && is_none B.chain) && brings_no_key B) && brings
 -- such a batch changes nothing
 abbrev pub EmptyChangesNothing : Type 0
 EmptyChangesNothing = (B : Batch) (K : SomeKept) → is_empty B ≡ true → apply B K ≡ K
+
+-- it begins with all that is kept
+abbrev pub drops_nothing : Batch → Bool
+drops_nothing B = goes_on B.start && length B.gone == 0

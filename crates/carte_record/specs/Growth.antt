@@ -1,5 +1,5 @@
 -- How what is kept takes in a batch: its lists grow behind what they had, which can fail, and then their items are replaced.
-use Rattle.std.specs.Prelude.{ℕ, ◌<◌, List, [], length, ◌++◌, ◌≡◌, ◌⊎◌, Option, option_map, unwrap_or}
+use Rattle.std.specs.Prelude.{ℕ, List, length, ◌++◌, ◌≡◌, true, Option, option_map, unwrap_or}
 use Rattle.std.specs.Option.{option_or}
 use Rattle.carte_value.specs.declared.digest.Digest.{Digest}
 use Rattle.carte_value.specs.declared.link.Link.{Link}
@@ -8,15 +8,16 @@ use Rattle.carte_record.specs.declared.entry.Entry.{Entry}
 use Rattle.carte_record.specs.declared.trace.Trace.{Trace}
 use Rattle.carte_record.specs.declared.kept.Kept.{Kept}
 use Rattle.carte_record.specs.declared.lengths.Lengths.{Lengths}
-use Rattle.carte_table.specs.Lookups.{first_value, is_link_of}
-use Rattle.carte_record.specs.Lookups.{first_entry, entry_in, is_entry_of}
-use Rattle.carte_table.specs.Steps.{Begins, replaced_by, IsReady, TakesIn}
-use Rattle.carte_record.specs.Kept.{staled}
-use Rattle.carte_record.specs.Folds.{is_among}
+use Rattle.carte_record.specs.declared.batch.Batch.{Batch}
+use Rattle.carte_table.specs.Lookups.{first_value, is_link_of, link_in}
+use Rattle.carte_record.specs.Lookups.{entry_in, is_entry_of}
+use Rattle.carte_table.specs.Steps.{Begins, IsReady, TakesIn}
+use Rattle.carte_record.specs.Kept.{SomeKept, staled, traces_in}
+use Rattle.carte_record.specs.Folds.{batch_traces, is_among}
+use Rattle.carte_record.specs.Marked.{all_marked}
 
 -- each list begins with what it had
 pub record Grows (old new : Kept) : Type 0 where
-  pub rules : new.rules ≡ old.rules
   pub seen : Begins old.seen new.seen
   pub entries : Begins old.entries new.entries
   pub verifying : Begins old.verifying new.verifying
@@ -46,13 +47,12 @@ pub record IsReadyIn (vs : List Value) (ls : List Link) (es : List Entry) (old n
   pub seen : IsReady is_link_of ls old.seen new.seen
   pub entries : IsReady is_entry_of es old.entries new.entries
 
--- marked and replaced, or where there was no entry the later ones
+-- taken in, and then marked
 abbrev pub TakesEntries : List (List ℕ) → List Entry → List Entry → List Entry → Type 0
-TakesEntries ks es old new = ((old ≡ []) × (new ≡ es)) ⊎ ((0 < length old) × ((k : List ℕ) → first_entry new k ≡ replaced_by (option_map (staled (is_among ks k)) (first_entry old k)) (entry_in es k)))
+TakesEntries ks es old new = (mid : List Entry) × TakesIn is_entry_of es old mid × (new ≡ all_marked true mid ks)
 
 -- with links and entries taken in, and another chain where there is one
-pub record Settles (ls : List Link) (ks : List (List ℕ)) (es : List Entry) (c : Option (List (List ℕ))) (old new : Kept) : Type 0 where
-  pub rules : new.rules ≡ old.rules
+pub record Settles (ls : List Link) (es : List Entry) (ks : List (List ℕ)) (c : Option (List (List ℕ))) (old new : Kept) : Type 0 where
   pub seen : TakesIn is_link_of ls old.seen new.seen
   pub entries : TakesEntries ks es old.entries new.entries
   pub verifying : new.verifying ≡ old.verifying
@@ -60,3 +60,13 @@ pub record Settles (ls : List Link) (ks : List (List ℕ)) (es : List Entry) (c 
   pub deep : new.deep ≡ old.deep
   pub chain : new.chain ≡ unwrap_or c old.chain
   pub values : new.values ≡ old.values
+
+-- what a batch brings that drops nothing
+abbrev pub put_in : Batch → SomeKept → SomeKept
+put_in B K = record {
+  seen = λ k. option_or (link_in B.seen k) (K.seen k);
+  entries = λ k. option_map (staled (is_among B.stale k)) (option_or (entry_in B.entries k) (K.entries k));
+  traces = λ w k. traces_in k (batch_traces w B) (K.traces w k);
+  chain = unwrap_or B.chain K.chain;
+  stored = λ d. option_or (K.stored d) (first_value B.values d);
+}

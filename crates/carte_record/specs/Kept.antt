@@ -12,8 +12,6 @@ use Rattle.carte_table.specs.Lookups.{first_link, first_value}
 use Rattle.carte_record.specs.Lookups.{first_entry, trace_eq}
 
 pub record SomeKept : Type 0 where
-  -- the digest of the rules
-  pub rules : Option Digest
   -- the digest that an input was seen with
   pub seen : List ℕ → Option Digest
   pub entries : List ℕ → Option Entry
@@ -24,7 +22,7 @@ pub record SomeKept : Type 0 where
   pub stored : Digest → Option Value
 
 abbrev pub nothing_kept : SomeKept
-nothing_kept = record { rules = None; seen = λ k. None; entries = λ k. None; traces = λ w k. []; chain = []; stored = λ d. None }
+nothing_kept = record { seen = λ k. None; entries = λ k. None; traces = λ w k. []; chain = []; stored = λ d. None }
 
 -- one trace more, that is then the newest
 abbrev pub newest : Trace → List Trace → List Trace
@@ -43,7 +41,6 @@ kept_traces Deep K = K.deep
 
 abbrev pub kept_view : Kept → SomeKept
 kept_view K = record {
-  rules = K.rules;
   seen = first_link K.seen;
   entries = first_entry K.entries;
   traces = λ w k. traces_in k (kept_traces w K) [];

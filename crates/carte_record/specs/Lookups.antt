@@ -27,4 +27,4 @@ links_eq (l ∷ ls) [] = false
 links_eq (l ∷ ls) (m ∷ ms) = (name_eq l.name m.name && digest_eq l.digest m.digest) && links_eq ls ms
 
 abbrev pub trace_eq : Trace → Trace → Bool
-trace_eq s t = (name_eq s.key t.key && digest_eq s.result t.result) && links_eq s.links t.links
+trace_eq s t = ((name_eq s.key t.key && digest_eq s.task t.task) && digest_eq s.result t.result) && links_eq s.links t.links

@@ -1,8 +1,8 @@
-ghost use Rattle.std.specs.Prelude.{◌≡◌, OnOk, OnErr, length};
+ghost use Rattle.std.specs.Prelude.{◌≡◌, IfOk, OnOk, OnErr, length};
 ghost use Rattle.carte_record.specs.Kept.{kept_view};
 ghost use Rattle.carte_record.specs.declared.kept.Kept.{Kept as SomeLists};
-ghost use Rattle.carte_record.specs.Folds.{apply, carried};
-ghost use Rattle.carte_record.specs.Growth.{Grows, HasTraces, IsReadyIn, Settles, AreLengthsOf};
+ghost use Rattle.carte_record.specs.Folds.{apply, started, without};
+ghost use Rattle.carte_record.specs.Growth.{Grows, HasTraces, IsReadyIn, Settles, AreLengthsOf, put_in};
 
 use crate::lengths::Lengths;
 use crate::{Batch, Entries, Kept, Seen, Start, Store, Traces};
@@ -18,31 +18,41 @@ impl Kept {
         self.absorb(batch)
     }
 
-    /// Takes in what a batch brings, so that no value is held twice.
+    /// Takes in what a batch brings, so that no value is held twice. What is kept is copied only where something is dropped.
     pub fn absorb(&mut self, batch: Batch) -> Result<(), NoMemory>
         ensures ok { OnOk result (kept_view self.new ≡ apply batch (kept_view self.old)) }
         ensures no_memory { OnErr result (self.new ≡ self.old) }
     {
-        let rules = match batch.start {
-            Start::GoOn => return self.carry(batch),
-            Start::Anew(rules) => Some(rules),
-            Start::Cleared => None,
-        };
-        let mut anew = Kept::under(self.seen.allocator(), rules, self.hasher());
-        anew.carry(batch)?;
-        *self = anew;
+        if batch.drops_nothing() {
+            return self.carry(batch);
+        }
+        let mut left = self.left_by(&batch)?;
+        left.carry(batch)?;
+        *self = left;
         Ok(())
     }
 
+    // What a batch begins with, without what it drops.
+    fn left_by(&self, batch: &Batch) -> Result<Kept, NoMemory>
+        ensures { IfOk result (λ left. kept_view left ≡ without batch.now.gone (started batch.now.start (kept_view self.now))) }
+    {
+        let alloc = self.seen.allocator();
+        match batch.start {
+            Start::GoOn => self.without(alloc, &batch.gone),
+            Start::Cleared => Ok(Kept::empty(alloc, self.hasher())),
+        }
+    }
+
+    // All that it brings. What it drops is dropped before.
     fn carry(&mut self, batch: Batch) -> Result<(), NoMemory>
-        ensures ok { OnOk result (kept_view self.new ≡ carried batch (kept_view self.old)) }
+        ensures ok { OnOk result (kept_view self.new ≡ put_in batch (kept_view self.old)) }
         ensures no_memory { OnErr result (self.new ≡ self.old) }
     {
         let Batch {
             values,
             seen,
-            stale,
             entries,
+            stale,
             verifying,
             constructive,
             deep,
@@ -52,7 +62,7 @@ impl Kept {
         let lengths = self.lengths();
         match self.grow(values, verifying, constructive, deep, &seen, &entries) {
             Ok(()) => {
-                self.settle(seen, &stale, entries, chain);
+                self.settle(seen, entries, &stale, chain);
                 Ok(())
             }
             Err(refused) => {
@@ -122,11 +132,11 @@ impl Kept {
     }
 
     // None of this can fail.
-    fn settle(&mut self, seen: Seen, stale: &Names, entries: Entries, chain: Option<Names>)
-        ensures { Settles seen stale.now entries chain self.old self.new }
+    fn settle(&mut self, seen: Seen, entries: Entries, stale: &Names, chain: Option<Names>)
+        ensures { Settles seen entries stale.now chain self.old self.new }
     {
         self.seen.take_in(seen);
-        self.entries.take_in(stale, entries);
+        self.entries.take_in(entries, stale);
         if let Some(chain) = chain {
             self.chain = chain;
         }

@@ -1,5 +1,5 @@
 ghost use Rattle.std.specs.Prelude.{◌≡◌, IfOk, true};
-ghost use Rattle.carte_record.specs.Empty.{is_empty, brings_no_key, brings_no_trace};
+ghost use Rattle.carte_record.specs.Empty.{is_empty, brings_no_key, brings_no_trace, drops_nothing};
 
 use crate::{Entries, Seen, Start, Store, Traces};
 use carte_value::{Names, NoMemory, Seeded};
@@ -10,10 +10,12 @@ use std::alloc::Global;
 pub struct Batch {
     pub start: Start,
     pub values: Store,
+    /// The names of which nothing is kept any more but what the batch brings.
+    pub gone: Names,
     pub seen: Seen,
-    /// The keys whose entries are marked stale, before the entries of the batch are put in.
-    pub stale: Names,
     pub entries: Entries,
+    /// The keys whose entries are marked stale, after the entries of the batch are put in.
+    pub stale: Names,
     pub verifying: Traces,
     pub constructive: Traces,
     pub deep: Traces,
@@ -28,9 +30,10 @@ impl Batch {
         Batch {
             start: Start::GoOn,
             values: Store::new(alloc, hasher),
+            gone: Names::new(alloc),
             seen: Seen::new(alloc, hasher),
-            stale: Names::new(alloc),
             entries: Entries::new(alloc, hasher),
+            stale: Names::new(alloc),
             verifying: Traces::new(alloc, hasher),
             constructive: Traces::new(alloc, hasher),
             deep: Traces::new(alloc, hasher),
@@ -59,13 +62,21 @@ impl Batch {
             && self.brings_no_trace()
     }
 
+    /// Whether it begins with all that is kept.
+    pub(crate) fn drops_nothing(&self) -> bool
+        ensures { result ≡ drops_nothing self.now }
+    {
+        self.start == Start::GoOn && self.gone.is_empty()
+    }
+
     fn brings_no_key(&self) -> bool
         ensures { result ≡ brings_no_key self.now }
     {
         self.values.is_empty()
+            && self.gone.is_empty()
             && self.seen.is_empty()
-            && self.stale.is_empty()
             && self.entries.is_empty()
+            && self.stale.is_empty()
     }
 
     fn brings_no_trace(&self) -> bool
@@ -81,9 +92,10 @@ impl Batch {
         Ok(Batch {
             start: self.start,
             values: self.values.copy(alloc)?,
+            gone: self.gone.copy(alloc)?,
             seen: self.seen.copy(alloc)?,
-            stale: self.stale.copy(alloc)?,
             entries: self.entries.copy(alloc)?,
+            stale: self.stale.copy(alloc)?,
             verifying: self.verifying.copy(alloc)?,
             constructive: self.constructive.copy(alloc)?,
             deep: self.deep.copy(alloc)?,

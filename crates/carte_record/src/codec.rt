@@ -3,7 +3,6 @@
 mod batch;
 mod entry;
 mod lists;
-mod plain;
 mod start;
 mod trace;
 

@@ -1,15 +1,16 @@
-ghost use Rattle.std.specs.Prelude.{◌≡◌, ◌<◌, ◌^◌, ◌∷◌, ◌++◌, [], length, slice_get, option_copied, ◌==◌, is_ok, take, map, IfOk, IfSome, OnOk, if◌then◌else◌};
+ghost use Rattle.std.specs.Prelude.{◌≡◌, ◌<◌, ◌^◌, ◌∷◌, ◌++◌, [], length, slice_get, option_copied, ◌==◌, filter, is_ok, take, map, IfOk, IfSome, OnOk, if◌then◌else◌};
 ghost use Rattle.std.specs.List.{IsDistinct};
 ghost use Rattle.carte_codec.specs.Lengths.{IsLengthOf};
 ghost use Rattle.carte_record.specs.Bodies.{spelled_entry};
 ghost use Rattle.carte_name.specs.Names.{name_eq};
 ghost use Rattle.carte_record.specs.Lookups.{first_entry, is_entry_of};
 ghost use Rattle.carte_record.specs.Marked.{all_marked};
+ghost use Rattle.carte_table.specs.Changes.{is_of_none};
 ghost use Rattle.carte_table.specs.Steps.{Begins, IsReady};
 ghost use Rattle.carte_record.specs.Growth.{TakesEntries};
 
 use crate::Entry;
-use carte_table::Firsts;
+use carte_table::{Firsts, NameTable};
 use carte_value::{Name, Names, NoMemory, Seeded};
 use std::alloc::Global;
 use std::marker::Model;
@@ -118,12 +119,12 @@ impl Entries {
         self.list.make_ready(&later.list)
     }
 
-    /// Marks entries stale, and takes in a later list that it is ready for: where it has nothing, it is then that list.
-    pub(crate) fn take_in(&mut self, stale: &Names, later: Entries)
+    /// Takes in a later list that it is ready for, and marks entries stale: where it has nothing, it is then that list.
+    pub(crate) fn take_in(&mut self, later: Entries, stale: &Names)
         ensures { TakesEntries stale.now later self.old self.new }
     {
-        self.mark_each(stale, true);
         self.list.take_in(later.list);
+        self.mark_each(stale, true);
     }
 
     /// Drops the entries behind the first `len`.
@@ -138,6 +139,14 @@ impl Entries {
         ensures { IfOk result (λ copy. copy ≡ self.now) }
     {
         let list = self.list.copy(alloc)?;
+        Ok(Entries { list })
+    }
+
+    /// A second list of equal entries, but for those of these keys.
+    pub(crate) fn without(&self, alloc: Global, gone: &NameTable) -> Result<Entries, NoMemory>
+        ensures { IfOk result (λ left. left ≡ filter (is_of_none (λ e. e.key) gone.now) self.now) }
+    {
+        let list = self.list.without(alloc, gone)?;
         Ok(Entries { list })
     }
 

@@ -7,11 +7,13 @@ use std::alloc::Global;
 #[derive(Debug, Drop)]
 pub struct Entry {
     pub key: Name,
+    /// The digest of its task: of its formula, and of the kind of its book.
+    pub task: Digest,
     /// The digest of its value.
     pub result: Digest,
     /// The names that it needs; of a shallow entry the inputs beneath it.
     pub needs: Names,
-    /// Whether an input that it leads to has changed since.
+    /// Whether its task, or a name that it leads to, has changed since.
     pub stale: bool,
     pub shallow: bool,
 }
@@ -20,6 +22,7 @@ impl Same for Entry {
     fn same(&self, alloc: Global) -> Result<Entry, NoMemory> {
         Ok(Entry {
             key: self.key.copy(alloc)?,
+            task: self.task,
             result: self.result,
             needs: self.needs.copy(alloc)?,
             stale: self.stale,

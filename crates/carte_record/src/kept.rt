@@ -1,18 +1,17 @@
 ghost use Rattle.std.specs.Prelude.{◌≡◌, IfOk};
 ghost use Rattle.carte_record.specs.Kept.{kept_view, kept_traces, nothing_kept};
-ghost use Rattle.carte_record.specs.Folds.{with_marks};
+ghost use Rattle.carte_record.specs.Folds.{with_marks, without};
 ghost use Rattle.carte_record.specs.Marked.{CanBeMarked, lists_marked};
 ghost use Rattle.carte_record.specs.declared.kept.Kept.{Kept as SomeLists};
 
 use crate::{Entries, Seen, Store, Traces, Way};
-use carte_value::{Digest, Names, NoMemory, Seeded};
+use carte_table::{NameTable, name_table};
+use carte_value::{Names, NoMemory, Seeded};
 use std::alloc::Global;
 
 /// What is kept from one build to the next.
 #[derive(Drop)]
 pub struct Kept {
-    /// The digest of the rules that all of it is about; none where nothing was kept yet.
-    pub rules: Option<Digest>,
     pub seen: Seen,
     pub entries: Entries,
     pub verifying: Traces,
@@ -27,15 +26,7 @@ impl Kept {
     pub fn empty(alloc: Global, hasher: Seeded) -> Kept
         ensures { kept_view result ≡ nothing_kept }
     {
-        Kept::under(alloc, None, hasher)
-    }
-
-    /// Nothing kept, under these rules.
-    pub(crate) fn under(alloc: Global, rules: Option<Digest>, hasher: Seeded) -> Kept
-        ensures { kept_view result ≡ record nothing_kept { rules = rules } }
-    {
         Kept {
-            rules,
             seen: Seen::new(alloc, hasher),
             entries: Entries::new(alloc, hasher),
             verifying: Traces::new(alloc, hasher),
@@ -77,12 +68,33 @@ impl Kept {
         self.entries.mark_each(keys, false);
     }
 
+    /// A second one, without all that is kept of these names.
+    pub fn without(&self, alloc: Global, gone: &Names) -> Result<Kept, NoMemory>
+        ensures { IfOk result (λ left. kept_view left ≡ without gone.now (kept_view self.now)) }
+    {
+        let gone = name_table(alloc, gone, self.hasher())?;
+        self.without_these(alloc, &gone)
+    }
+
+    fn without_these(&self, alloc: Global, gone: &NameTable) -> Result<Kept, NoMemory>
+        ensures { IfOk result (λ left. kept_view left ≡ without gone.now (kept_view self.now)) }
+    {
+        Ok(Kept {
+            seen: self.seen.without(alloc, gone)?,
+            entries: self.entries.without(alloc, gone)?,
+            verifying: self.verifying.without(alloc, gone)?,
+            constructive: self.constructive.without(alloc, gone)?,
+            deep: self.deep.without(alloc, gone)?,
+            chain: self.chain.copy(alloc)?,
+            values: self.values.copy(alloc)?,
+        })
+    }
+
     /// A second, equal one.
     pub fn copy(&self, alloc: Global) -> Result<Kept, NoMemory>
         ensures { IfOk result (λ copy. copy ≡ self.now) }
     {
         Ok(Kept {
-            rules: self.rules,
             seen: self.seen.copy(alloc)?,
             entries: self.entries.copy(alloc)?,
             verifying: self.verifying.copy(alloc)?,

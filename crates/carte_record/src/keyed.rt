@@ -19,6 +19,7 @@ impl Keyed for Entry {
     fn place_holder(&self, alloc: Global) -> Result<Entry, NoMemory> {
         Ok(Entry {
             key: self.key.copy(alloc)?,
+            task: self.task,
             result: self.result,
             needs: Names::new(alloc),
             stale: false,

@@ -7,10 +7,12 @@
 //! table from keys to places beside them: of entries the first place of each key, of traces all.
 //!
 //! A batch is taken in by two steps. First each list grows behind what it has: values and traces are put there, and an
-//! entry for each key that has none. This can fail, and is undone by cutting the lists. Then entries are marked and
-//! replaced in place, which can't fail. Both cost what the batch has in it. Turned down: a copy of all that is kept,
-//! which no batch pays for. A list with nothing in it becomes the batch's own list, unless a key comes twice in that
-//! one: so what a state file begins with is never held twice. A batch may name a key twice; the later one counts.
+//! entry for each key that has none. This can fail, and is undone by cutting the lists. Then entries are replaced and
+//! marked in place, which can't fail. Both cost what the batch has in it. Only a batch that drops names is taken in by a
+//! copy that lacks them, since what is taken out of a table in place can't be put back without memory; names are dropped
+//! where they change their role from one book to the next. Turned down: a copy for every batch. A list with nothing in it
+//! becomes the batch's own list, unless a key comes twice in that one: so what a state file begins with is never held
+//! twice. A batch may name a key twice; the later one counts.
 //!
 //! What is kept is most of what a build holds between builds, so what is read from bytes grows as items come and gives
 //! back the rest.

@@ -11,10 +11,7 @@ impl Measured for Start {
     ghost spelled = { spelled_start };
 
     fn length(&self) -> Option<u64> {
-        match self {
-            Start::Anew(digest) => digest.length()?.checked_add(1),
-            Start::GoOn | Start::Cleared => Some(1),
-        }
+        Some(1)
     }
 }
 
@@ -24,6 +21,7 @@ impl Measured for Entry {
     fn length(&self) -> Option<u64> {
         self.key
             .length()?
+            .checked_add(self.task.length()?)?
             .checked_add(self.result.length()?)?
             .checked_add(1)?
             .checked_add(self.needs.length()?)
@@ -36,6 +34,7 @@ impl Measured for Trace {
     fn length(&self) -> Option<u64> {
         self.key
             .length()?
+            .checked_add(self.task.length()?)?
             .checked_add(list_length(self.links.as_slice())?)?
             .checked_add(self.result.length()?)
     }
@@ -56,9 +55,10 @@ fn front_of(batch: &Batch) -> Option<u64>
         .start
         .length()?
         .checked_add(list_length(batch.values.as_slice())?)?
+        .checked_add(batch.gone.length()?)?
         .checked_add(list_length(batch.seen.as_slice())?)?
-        .checked_add(batch.stale.length()?)?
-        .checked_add(list_length(batch.entries.as_slice())?)
+        .checked_add(list_length(batch.entries.as_slice())?)?
+        .checked_add(batch.stale.length()?)
 }
 
 fn back_of(batch: &Batch) -> Option<u64>

@@ -4,10 +4,12 @@ ghost use Rattle.carte_record.specs.Lookups.{links_eq, trace_eq};
 use carte_value::{Digest, Link, Name, NoMemory, Same, SharedLinks};
 use std::alloc::Global;
 
-/// A run of a key: the digests that its links had, and that of its result. Checks of it, and what they make, share the links.
+/// A run of a key: the digest of the task that it ran, of a deep one that of all rules; the digests that its links had,
+/// and that of its result. Checks of it, and what they make, share the links.
 #[derive(Debug, Drop)]
 pub struct Trace {
     pub key: Name,
+    pub task: Digest,
     pub links: SharedLinks,
     pub result: Digest,
 }
@@ -16,6 +18,7 @@ impl Same for Trace {
     fn same(&self, alloc: Global) -> Result<Trace, NoMemory> {
         Ok(Trace {
             key: self.key.copy(alloc)?,
+            task: self.task,
             links: self.links.copy()?,
             result: self.result,
         })
@@ -23,11 +26,12 @@ impl Same for Trace {
 }
 
 impl Trace {
-    /// Whether another run of a key had the same links and came to the same.
+    /// Whether another run of a key had the same task and links and came to the same.
     pub fn is_same(&self, other: &Trace) -> bool
         ensures { result ≡ trace_eq self.now other.now }
     {
         self.key == other.key
+            && self.task == other.task
             && self.result == other.result
             && are_equal(self.links.as_slice(), other.links.as_slice())
     }

@@ -1,11 +1,12 @@
-ghost use Rattle.std.specs.Prelude.{◌≡◌, ◌<◌, ◌≤◌, ◌^◌, ◌∷◌, ◌++◌, [], length, slice_get, option_copied, ◌==◌, is_ok, take, IfOk, OnOk, if◌then◌else◌};
+ghost use Rattle.std.specs.Prelude.{◌≡◌, ◌<◌, ◌≤◌, ◌^◌, ◌∷◌, ◌++◌, [], length, slice_get, option_copied, ◌==◌, filter, is_ok, take, IfOk, OnOk, if◌then◌else◌};
 ghost use Rattle.carte_record.specs.Latest.{latest_length};
 ghost use Rattle.carte_record.specs.Lookups.{is_trace_of};
+ghost use Rattle.carte_table.specs.Changes.{is_of_none};
 ghost use Rattle.carte_table.specs.Places.{places};
 ghost use Rattle.carte_table.specs.Steps.{Begins};
 
 use crate::Trace;
-use carte_table::All;
+use carte_table::{All, NameTable};
 use carte_value::{Name, NoMemory, Seeded};
 use std::alloc::Global;
 use std::marker::Model;
@@ -118,6 +119,14 @@ impl Traces {
         ensures { IfOk result (λ copy. copy ≡ self.now) }
     {
         let list = self.list.copy(alloc)?;
+        Ok(Traces { list })
+    }
+
+    /// A second list of equal traces, but for those of these keys.
+    pub(crate) fn without(&self, alloc: Global, gone: &NameTable) -> Result<Traces, NoMemory>
+        ensures { IfOk result (λ left. left ≡ filter (is_of_none (λ t. t.key) gone.now) self.now) }
+    {
+        let list = self.list.without(alloc, gone)?;
         Ok(Traces { list })
     }
 

@@ -7,7 +7,7 @@ use Rattle.carte_book.specs.declared.fault.SetFault.{SetFault}
 use Rattle.carte_book.specs.declared.fault.SetFault.TheVariants.{NotInput, NoSuchName, Limit, NoMemory}
 use Rattle.carte_book.specs.declared.reason.Reason.{Reason}
 use Rattle.carte_explain.specs.declared.why.Why.{Why}
-use Rattle.carte_explain.specs.declared.why.Why.TheVariants.{Input, Reusable, NoTrace, FirstDifference, StoredDiffers, NoEntry, Stale, Shallow, DirtyInput}
+use Rattle.carte_explain.specs.declared.why.Why.TheVariants.{Input, Reusable, NoTrace, RuleChanged, FirstDifference, StoredDiffers, NoEntry, Stale, Shallow, DirtyInput, DirtyRule}
 use Rattle.carte_report.specs.Texts.{path_text, reason_text}
 
 -- ---- an input that was set, or not
@@ -47,12 +47,14 @@ abbrev pub why_text : Why → List ℕ
 why_text Input = codes " is an input"
 why_text Reusable = codes " reusable"
 why_text NoTrace = codes " runs: no record"
+why_text RuleChanged = codes " runs: rule changed"
 why_text (FirstDifference k old new) = difference_text k old new
 why_text (StoredDiffers stored result) = codes " runs: stored value differs"
 why_text NoEntry = codes " runs: no entry"
 why_text Stale = codes " runs: entry marked stale"
 why_text Shallow = codes " runs: entry is shallow"
 why_text (DirtyInput path) = codes " runs: input changed: " ++ path_text path
+why_text (DirtyRule path) = codes " runs: rule changed: " ++ path_text path
 
 abbrev pub why_line : List ℕ → Why → List ℕ
 why_line k why = k ++ (why_text why ++ 10 ∷ [])

@@ -73,12 +73,14 @@ fn why_text(alloc: Global, why: &Why) -> Result<String, NoMemory>
         Why::Input => plain(alloc, " is an input"),
         Why::Reusable => plain(alloc, " reusable"),
         Why::NoTrace => plain(alloc, " runs: no record"),
+        Why::RuleChanged => plain(alloc, " runs: rule changed"),
         Why::FirstDifference { name, old, new } => difference_text(alloc, name, old, new),
         Why::StoredDiffers { .. } => plain(alloc, " runs: stored value differs"),
         Why::NoEntry => plain(alloc, " runs: no entry"),
         Why::Stale => plain(alloc, " runs: entry marked stale"),
         Why::Shallow => plain(alloc, " runs: entry is shallow"),
         Why::DirtyInput(path) => path_after(alloc, " runs: input changed: ", path),
+        Why::DirtyRule(path) => path_after(alloc, " runs: rule changed: ", path),
     }
 }
 

@@ -15,7 +15,6 @@ use Rattle.carte_sound.specs.Chains.{ArePicked, IsFirstList, IsRightChain, Stand
 use Rattle.carte_sound.specs.Marks as marks
 use Rattle.carte_sound.specs.Marks.{Leads}
 use Rattle.carte_sound.specs.Treated.{IsLedRule, IsLedTo}
-use Rattle.carte_sound.proofs.Held.{same_rules}
 use Rattle.carte_sound.proofs.Reached.{needing_rule, reached_clean}
 use Rattle.carte_restart.specs.Straight.{IsPrepared, NeedsAmong}
 use Rattle.carte_restart.proofs.Leading.{leads_need}
@@ -113,16 +112,10 @@ module _ (b : Book) (P : List ℕ → Type 0) (further : (k j : List ℕ) → P 
       ]
 
 module _ (K : SomeKept) (b : Book) (H : List Book) (base : IsBase K b H) (targets : List (List ℕ)) (all : AllClean b targets) (right : IsRightChain K b targets) where
-  -- the key of an entry is a rule
-  base_rule : (k : List ℕ) (e : Entry) → K.entries k ≡ Some e → IsRule b k
-  base_rule k e kept =
-      let o = base.sound.entries k e kept in
-      (o.entry.formula, (same_rules K b H base o.book o.stood).rules k o.entry.formula o.entry.is_rule)
-
   -- a reached key that has an entry needs what that tells of
   needs_so : (k : List ℕ) (e : Entry) → Reaches b targets k → K.entries k ≡ Some e → e.needs ≡ needs b k
   needs_so k e reached kept =
-      let r = right.entries k (base_rule k e kept, reached) in
+      let r = right.entries k (base.keys k e kept, reached) in
       let both : Some e ≡ Some r.0 = sym kept ∙ r.1 in
       let same : e ≡ r.0 = cc in
       ap (λ (x : Entry). x.needs) same ∙ r.2

@@ -4,5 +4,4 @@ pub mod Committing
 pub mod Obeying
 pub mod Sounding
 pub mod Sessions
-pub mod RulesKept
 pub mod Lasting

@@ -9,9 +9,10 @@ use Rattle.carte_session.specs.declared.end.SessionEnd.{SessionEnd}
 use Rattle.carte_session.specs.declared.end.SessionEnd.TheVariants.{Machine, NoMemory, ReadFault, TooLong, WriteFault}
 use Rattle.carte_session.specs.declared.end.StepEnd.{StepEnd}
 use Rattle.carte_session.proofs.SessionLemmas.{goes_more}
+use Rattle.carte_engine.specs.Versions.{IsSoundAny}
+use Rattle.carte_engine.proofs.Raising.{sound_behind}
 use Rattle.carte_sound.specs.Base.{HasDistinctDigests}
-use Rattle.carte_sound.specs.Sound.{IsSound}
-use Rattle.carte_sound.proofs.Begins.{behind_sound, front_distinct}
+use Rattle.carte_sound.proofs.Begins.{front_distinct}
 use Rattle.carte_shell.specs.Answers.{Answers, Ends}
 use Rattle.carte_shell.specs.Books.{AreBooks, IsBookAt}
 use Rattle.carte_shell.specs.Scenes.{Scene}
@@ -64,7 +65,7 @@ module _ (tells : Type 0) (m m' : Scene) where
           let a = all.3 told H stands (front_distinct (H ++ J) I distinct_on) in
           leaves_then m.story mid.story m'.story (KeepsSound limit (H ++ (J ++ I)))
           (leaves_more m.story mid.story (KeepsSound limit (H ++ J)) (KeepsSound limit (H ++ (J ++ I)))
-          (λ file keeps. (keeps.0, keeps.1, subst (IsSound keeps.0) assoc (behind_sound keeps.0 (H ++ J) I keeps.2))) a.1)
+          (λ file keeps. (keeps.0, keeps.1, subst (IsSoundAny keeps.0) assoc (sound_behind keeps.0 (H ++ J) I keeps.2))) a.1)
           (subst (λ (most : ℕ). LeavesOnly mid.story m'.story (KeepsSound most (H ++ (J ++ I)))) all.2
           (subst (λ (G : List Book). LeavesOnly mid.story m'.story (KeepsSound mid.stand.journal.limit G)) assoc (last.2 told (H ++ J) a.0 distinct_on)))
 

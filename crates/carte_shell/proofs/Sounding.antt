@@ -9,20 +9,21 @@ use Rattle.carte_book.specs.declared.fault.SetFault.{SetFault}
 use Rattle.carte_book.specs.declared.fault.SetFault.TheVariants as set
 use Rattle.carte_engine.specs.Answers.{Leads}
 use Rattle.carte_engine.specs.Clearing.{clearing}
+use Rattle.carte_engine.specs.Versions.{IsSoundAny}
 use Rattle.carte_engine.specs.declared.answer.Answer.{Answer}
 use Rattle.carte_engine.proofs.Emptying.{clearing_empties}
 use Rattle.carte_engine.proofs.Keeping.{plan_sound}
 use Rattle.carte_engine.proofs.Several.{all_leaves, puts_kept, puts_limit, puts_rest}
+use Rattle.carte_engine.proofs.Raising.{sound_behind}
 use Rattle.carte_record.specs.declared.batch.Batch.{Batch}
-use Rattle.carte_record.specs.Kept.{SomeKept}
 use Rattle.carte_session.specs.declared.end.StepEnd.{StepEnd}
 use Rattle.carte_sound.specs.Base.{HasDistinctDigests}
-use Rattle.carte_sound.specs.Parts.{applied}
-use Rattle.carte_sound.specs.Sound.{IsSound}
-use Rattle.carte_sound.proofs.Begins.{behind_sound, front_distinct}
+use Rattle.carte_sound.proofs.Begins.{front_distinct}
 use Rattle.carte_sound.proofs.Histories.{nothing_sound}
 use Rattle.carte_state.specs.Folding.{Keeps}
-use Rattle.carte_state.specs.States.{IsKeptOn, Stand, kept_in}
+use Rattle.carte_state.specs.Runs.{applied_to}
+use Rattle.carte_state.specs.States.{IsKeptOn, Stand, any_in}
+use Rattle.carte_state.specs.Versions.{AnyKept}
 use Rattle.carte_state.specs.declared.fault.ApplyFault.{ApplyFault}
 use Rattle.carte_state.proofs.Applies.{kept_leaves}
 use Rattle.carte_words.specs.Lines.{Means}
@@ -42,17 +43,17 @@ use Rattle.carte_shell.specs.Sound.{EndLeavesSound, KeepsSound, LeavesSound, Lin
 module _ (m m' : Scene) (Bs : List Batch) (J : List Book) where
   -- what the first of the batches make of what is kept, however many
   abbrev Sounds : List Book → Type 0
-  Sounds H = (some rest : List Batch) → Bs ≡ some ++ rest → IsSound (applied (kept_in m.stand) some) (H ++ J)
+  Sounds H = (some rest : List Batch) → Bs ≡ some ++ rest → IsSoundAny (applied_to (any_in m.stand) some) (H ++ J)
 
   images_sound : (tells : Type 0) (result : Result (Unit {0}) ApplyFault) → Commits tells m m' Bs result → tells → IsKeptOn m.stand m.story → (H : List Book) → Sounds H
       → LeavesOnly m.story m'.story (KeepsSound m.stand.journal.limit (H ++ J))
   images_sound tells result c told on H sounds =
-      leaves_more m.story m'.story (λ file. (some rest : List Batch) × (Bs ≡ some ++ rest) × Keeps m.stand.journal.limit (applied (kept_in m.stand) some) file) (KeepsSound m.stand.journal.limit (H ++ J))
-      (λ file at. (applied (kept_in m.stand) at.0, at.3, sounds at.0 at.1 at.2))
+      leaves_more m.story m'.story (λ file. (some rest : List Batch) × (Bs ≡ some ++ rest) × Keeps m.stand.journal.limit (applied_to (any_in m.stand) some) file) (KeepsSound m.stand.journal.limit (H ++ J))
+      (λ file at. (applied_to (any_in m.stand) at.0, at.3, sounds at.0 at.1 at.2))
       (all_leaves (disk_between tells m m') m.stand m'.stand Bs result c.commits told on)
 
   abbrev MakesSound : Type 0
-  MakesSound = (H : List Book) → IsSound (kept_in m.stand) H → HasDistinctDigests (H ++ J) → Sounds H
+  MakesSound = (H : List Book) → IsSoundAny (any_in m.stand) H → HasDistinctDigests (H ++ J) → Sounds H
 
   pub put_sound : (tells : Type 0) → Puts tells m m' Bs → MakesSound → StaysSound tells m m' J
   put_sound tells puts makes told H stands distinct =
@@ -60,7 +61,7 @@ module _ (m m' : Scene) (Bs : List Batch) (J : List Book) where
       let d = disk_between tells m m' in (
         record {
           kept_on = puts_rest true d m.stand Bs m'.stand puts.commits told stands.kept_on;
-          sound = subst (λ (L : SomeKept). IsSound L (H ++ J)) (sym (puts_kept true d m.stand Bs m'.stand puts.commits)) (made Bs [] (sym (append-nil Bs)));
+          sound = subst (λ (A : AnyKept). IsSoundAny A (H ++ J)) (sym (puts_kept true d m.stand Bs m'.stand puts.commits)) (made Bs [] (sym (append-nil Bs)));
         },
         images_sound tells (Ok tt) puts told stands.kept_on H made,
       )
@@ -72,12 +73,12 @@ module _ (m m' : Scene) (Bs : List Batch) (J : List Book) where
 
 pub still_sound : (tells : Type 0) (m m' : Scene) (J : List Book) → m'.stand ≡ m.stand → m'.story ≡ m.story → StaysSound tells m m' J
 still_sound tells m m' J stand story told H stands distinct =
-    let longer = behind_sound (kept_in m.stand) H J stands.sound in (
+    let longer = sound_behind (any_in m.stand) H J stands.sound in (
       record {
         kept_on = subst (λ (s : Story). IsKeptOn m'.stand s) (sym story) (subst (λ (s : Stand). IsKeptOn s m.story) (sym stand) stands.kept_on);
-        sound = subst (λ (s : Stand). IsSound (kept_in s) (H ++ J)) (sym stand) longer;
+        sound = subst (λ (s : Stand). IsSoundAny (any_in s) (H ++ J)) (sym stand) longer;
       },
-      leaves_none m.story m'.story (KeepsSound m.stand.journal.limit (H ++ J)) story (λ file image. (kept_in m.stand, kept_leaves m.stand m.story stands.kept_on file image, longer)),
+      leaves_none m.story m'.story (KeepsSound m.stand.journal.limit (H ++ J)) story (λ file image. (any_in m.stand, kept_leaves m.stand m.story stands.kept_on file image, longer)),
     )
 
 same_sound : (tells : Type 0) (m m' : Scene) (J : List Book) → m' ≡ m → StaysSound tells m m' J
@@ -85,12 +86,12 @@ same_sound tells m m' J same = still_sound tells m m' J (ap (λ (x : Scene). x.s
 
 -- ---- batches
 
-built_sound : (m : Scene) (targets : List (List ℕ)) (a : Answer) (Bs : List Batch) → Plans m targets a Bs → (H : List Book) → IsSound (kept_in m.stand) H → HasDistinctDigests (H ++ m.book ∷ [])
-    → (some rest : List Batch) → Bs ≡ some ++ rest → IsSound (applied (kept_in m.stand) some) (H ++ m.book ∷ [])
+built_sound : (m : Scene) (targets : List (List ℕ)) (a : Answer) (Bs : List Batch) → Plans m targets a Bs → (H : List Book) → IsSoundAny (any_in m.stand) H → HasDistinctDigests (H ++ m.book ∷ [])
+    → (some rest : List Batch) → Bs ≡ some ++ rest → IsSoundAny (applied_to (any_in m.stand) some) (H ++ m.book ∷ [])
 built_sound m targets a Bs plans H sound distinct some rest are =
     let s = scheduler_of m.choices.scheduler in
     let h = how_of m.choices.rebuilder in
-    plan_sound s h (kept_in m.stand) H m.book targets a some rest sound distinct (subst (Leads s h (kept_in m.stand) m.book targets a) are (plans H sound distinct).leads)
+    plan_sound s h (any_in m.stand) H m.book targets a some rest sound distinct (subst (Leads s h (any_in m.stand) m.book targets a) are (plans H sound distinct).leads)
 
 -- the front of a list with one item has none, or it alone
 one_front : (C : Batch) (some rest : List Batch) → C ∷ [] ≡ some ++ rest → (some ≡ []) ⊎ (some ≡ C ∷ [])
@@ -98,11 +99,11 @@ one_front C [] rest are = inl refl
 one_front C (B ∷ []) rest are = inr cc
 one_front C (B ∷ D ∷ some) rest are = cc
 
-cleaned_sound : (m : Scene) (Bs : List Batch) → Bs ≡ clearing m.stand ∷ [] → (H : List Book) → IsSound (kept_in m.stand) H → HasDistinctDigests (H ++ [])
-    → (some rest : List Batch) → Bs ≡ some ++ rest → IsSound (applied (kept_in m.stand) some) (H ++ [])
+cleaned_sound : (m : Scene) (Bs : List Batch) → Bs ≡ clearing m.stand ∷ [] → (H : List Book) → IsSoundAny (any_in m.stand) H → HasDistinctDigests (H ++ [])
+    → (some rest : List Batch) → Bs ≡ some ++ rest → IsSoundAny (applied_to (any_in m.stand) some) (H ++ [])
 cleaned_sound m Bs is H sound distinct some rest are = elim (one_front (clearing m.stand) some rest (sym is ∙ are)) [
-  | inl none ↦ subst (λ (Cs : List Batch). IsSound (applied (kept_in m.stand) Cs) (H ++ [])) (sym none) (behind_sound (kept_in m.stand) H [] sound)
-  | inr one ↦ subst (λ (Cs : List Batch). IsSound (applied (kept_in m.stand) Cs) (H ++ [])) (sym one) (subst (λ (L : SomeKept). IsSound L (H ++ [])) (sym (clearing_empties m.stand)) (nothing_sound (H ++ [])))
+  | inl none ↦ subst (λ (Cs : List Batch). IsSoundAny (applied_to (any_in m.stand) Cs) (H ++ [])) (sym none) (sound_behind (any_in m.stand) H [] sound)
+  | inr one ↦ subst (λ (Cs : List Batch). IsSoundAny (applied_to (any_in m.stand) Cs) (H ++ [])) (sym one) (subst (λ (A : AnyKept). IsSoundAny A (H ++ [])) (sym (clearing_empties m.stand)) (nothing_sound (H ++ [])))
 ]
 
 -- ---- edits
@@ -157,7 +158,7 @@ then_sound tells m mid m' I J limit one two told H stands distinct =
       subst (StandsSound m') assoc b.0,
       leaves_then m.story mid.story m'.story (KeepsSound m.stand.journal.limit (H ++ (I ++ J)))
           (leaves_more m.story mid.story (KeepsSound m.stand.journal.limit (H ++ I)) (KeepsSound m.stand.journal.limit (H ++ (I ++ J)))
-          (λ file keeps. (keeps.0, keeps.1, subst (IsSound keeps.0) assoc (behind_sound keeps.0 (H ++ I) J keeps.2))) a.1)
+          (λ file keeps. (keeps.0, keeps.1, subst (IsSoundAny keeps.0) assoc (sound_behind keeps.0 (H ++ I) J keeps.2))) a.1)
           (subst (λ (limit : ℕ). LeavesOnly mid.story m'.story (KeepsSound limit (H ++ (I ++ J)))) limit
           (subst (λ (G : List Book). LeavesOnly mid.story m'.story (KeepsSound mid.stand.journal.limit G)) assoc b.1)),
     )

@@ -6,7 +6,8 @@ use Rattle.carte_value.specs.Truths.{Among}
 use Rattle.carte_book.specs.Book.{Book}
 use Rattle.carte_book.specs.Reason.{AllClean, IsReason}
 use Rattle.carte_book.specs.declared.reason.Reason.{Reason}
-use Rattle.carte_engine.specs.Answers.{Under}
+use Rattle.carte_engine.specs.Versions.{Under, kept_for}
+use Rattle.carte_engine.proofs.Raising.{distinct_more, sound_for}
 use Rattle.carte_engine.specs.Previews.{IsPreview}
 use Rattle.carte_explain.specs.Why.{how_of}
 use Rattle.carte_explain.specs.declared.why.RebuilderKind.{RebuilderKind}
@@ -19,6 +20,7 @@ use Rattle.carte_report.specs.Lines.{why_line, why_lines}
 use Rattle.carte_sound.specs.Base.{HasDistinctDigests}
 use Rattle.carte_sound.specs.Held.{How}
 use Rattle.carte_sound.specs.Sound.{IsSound}
+use Rattle.carte_state.specs.Versions.{AnyKept}
 use Rattle.carte_shell.specs.Explained.{AreWhys, Explained, TellAll, Tells, TellsEach, TellsRefusal}
 use Rattle.carte_shell.specs.Replies.{Said}
 
@@ -49,13 +51,19 @@ module _ (r : RebuilderKind) (K : SomeKept) (b : Book) (w : Work) where
   module _ (H : List Book) (targets : List (List ℕ)) (sound : IsSound K H) (distinct : HasDistinctDigests (H ++ b ∷ [])) (p : IsPreview (how_of r) K b targets w) where
     all_why : (told : List (List ℕ × Why)) → ((k : List ℕ) → Among (map (λ t. t.0) told) k → Among targets k) → TellAll r K b w told → AreWhys (how_of r) K b told
     all_why [] within all = tt
-    all_why (t ∷ told) within all = (all.0 H targets p.marks sound distinct p.marked p.work p.clean (within t.0 (inl refl)), all_why told (λ k later. within k (inr later)) all.1)
+    all_why (t ∷ told) within all = (all.0 H targets p.begun sound distinct p.begins p.work p.clean (within t.0 (inl refl)), all_why told (λ k later. within k (inr later)) all.1)
 
-    pub are_why : (told : List (List ℕ × Why)) → map (λ t. t.0) told ≡ targets → TellAll r K b w told → AllClean b targets × AreWhys (how_of r) K b told
+    are_why : (told : List (List ℕ × Why)) → map (λ t. t.0) told ≡ targets → TellAll r K b w told → AllClean b targets × AreWhys (how_of r) K b told
     are_why told is all = (p.clean, all_why told (λ k there. subst (λ ks. Among ks k) is there) all)
 
 -- a refusal is told, and it is for the reason
-pub refused_by : {A : Type 0} (h : How) (K : SomeKept) (b : Book) (targets : List (List ℕ)) (q : Result A PlanFault) (fault : PlanFault) (reply : Said) → q ≡ Err fault
-    → Under K b ((reason : Reason) → q ≡ Err (Refused reason) → IsReason b targets reason) → TellsRefusal fault reply → Explained h K b targets reply
-refused_by h K b targets q (Refused reason) reply is because told = inr (reason, told, (λ H sound distinct. because H sound distinct reason is))
-refused_by h K b targets q NoMemory reply is because told = absurd told
+pub refused_by : {W : Type 0} (h : How) (A : AnyKept) (b : Book) (targets : List (List ℕ)) (q : Result W PlanFault) (fault : PlanFault) (reply : Said) → q ≡ Err fault
+    → Under A b ((reason : Reason) → q ≡ Err (Refused reason) → IsReason b targets reason) → TellsRefusal fault reply → Explained h A b targets reply
+refused_by h A b targets q (Refused reason) reply is because told = inr (reason, told, (λ H sound distinct. because H sound distinct reason is))
+refused_by h A b targets q NoMemory reply is because told = absurd told
+
+-- what is told over what the build finds, whatever history that is sound for
+pub found_why : (r : RebuilderKind) (A : AnyKept) (b : Book) (w : Work) (targets : List (List ℕ)) → Under A b (IsPreview (how_of r) (kept_for A b) b targets w) → (told : List (List ℕ × Why)) → map (λ t. t.0) told ≡ targets
+    → TellAll r (kept_for A b) b w told → Under A b (AllClean b targets × AreWhys (how_of r) (kept_for A b) b told)
+found_why r A b w targets seen told is all H sound distinct =
+    are_why r (kept_for A b) b w (H ++ b ∷ []) targets (sound_for A H b sound distinct) (distinct_more H b distinct) (seen H sound distinct) told is all

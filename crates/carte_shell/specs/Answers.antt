@@ -7,15 +7,17 @@ use Rattle.carte_book.specs.Book.{Book}
 use Rattle.carte_book.specs.Edits.{Sets}
 use Rattle.carte_book.specs.declared.fault.SetFault.{SetFault}
 use Rattle.carte_book.specs.declared.fault.SetFault.TheVariants as set
-use Rattle.carte_engine.specs.Answers.{IsPlan, Under}
+use Rattle.carte_engine.specs.Answers.{IsPlan}
 use Rattle.carte_engine.specs.Clearing.{clearing}
+use Rattle.carte_engine.specs.Versions.{Under}
 use Rattle.carte_engine.specs.declared.answer.Answer.{Answer}
 use Rattle.carte_record.specs.declared.batch.Batch.{Batch}
 use Rattle.carte_record.specs.Kept.{nothing_kept}
 use Rattle.carte_report.specs.Lines.{cleaned_line, not_set_line, set_line, stray_line}
 use Rattle.carte_session.specs.declared.end.StepEnd.{StepEnd}
 use Rattle.carte_session.specs.declared.end.StepEnd.TheVariants.{NoMemory}
-use Rattle.carte_state.specs.States.{kept_in}
+use Rattle.carte_state.specs.States.{any_in}
+use Rattle.carte_state.specs.Versions.{InTwo}
 use Rattle.carte_words.specs.Lines.{Means}
 use Rattle.carte_words.specs.declared.line.Line.{Line}
 use Rattle.carte_words.specs.declared.line.Line.TheVariants as line
@@ -30,7 +32,7 @@ use Rattle.carte_shell.specs.Scenes.{Scene}
 -- a build of the targets answers so, rightly, and commits the batches: whatever history what is kept is sound for
 abbrev pub Plans : Scene → List (List ℕ) → Answer → List Batch → Type 0
 Plans m targets a Bs =
-    Under (kept_in m.stand) m.book (IsPlan (scheduler_of m.choices.scheduler) (how_of m.choices.rebuilder) (kept_in m.stand) m.book targets Bs a)
+    Under (any_in m.stand) m.book (IsPlan (scheduler_of m.choices.scheduler) (how_of m.choices.rebuilder) (any_in m.stand) m.book targets Bs a)
 
 -- ---- inputs
 
@@ -57,8 +59,8 @@ abbrev pub Obeys : Type 0 → Scene → Line → Said → Scene → Type 0
 Obeys tells m line.Nothing reply m' = (reply ≡ plain []) × (m' ≡ m)
 Obeys tells m (line.Set k v) reply m' = SetsInput m.book m'.book k v reply × (m' ≡ record m { book = m'.book })
 Obeys tells m (line.Build targets) reply m' = (a : Answer) × (Bs : List Batch) × Plans m targets a Bs × (reply ≡ build_reply m.choices.list targets a) × Puts tells m m' Bs
-Obeys tells m (line.Explain targets) reply m' = Explained (how_of m.choices.rebuilder) (kept_in m.stand) m.book targets reply × (m' ≡ m)
-Obeys tells m line.Clean reply m' = (reply ≡ plain cleaned_line) × Puts tells m m' (clearing m.stand ∷ []) × (kept_in m'.stand ≡ nothing_kept)
+Obeys tells m (line.Explain targets) reply m' = Explained (how_of m.choices.rebuilder) (any_in m.stand) m.book targets reply × (m' ≡ m)
+Obeys tells m line.Clean reply m' = (reply ≡ plain cleaned_line) × Puts tells m m' (clearing m.stand ∷ []) × (any_in m'.stand ≡ InTwo nothing_kept)
 
 -- line number n: where it means nothing that there is, that is told; else it is obeyed
 abbrev pub Answers : Type 0 → Scene → ℕ → List ℕ → List ℕ → Scene → Type 0

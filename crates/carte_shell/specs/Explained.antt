@@ -3,7 +3,7 @@ use Rattle.std.specs.Prelude.{ℕ, ◌≡◌, ◌⊎◌, List, [], ◌∷◌, ma
 use Rattle.carte_book.specs.Book.{Book}
 use Rattle.carte_book.specs.Reason.{AllClean, IsReason}
 use Rattle.carte_book.specs.declared.reason.Reason.{Reason}
-use Rattle.carte_engine.specs.Answers.{Under}
+use Rattle.carte_engine.specs.Versions.{Under, kept_for}
 use Rattle.carte_explain.specs.Why.{Explains, IsWhy}
 use Rattle.carte_explain.specs.declared.why.RebuilderKind.{RebuilderKind}
 use Rattle.carte_explain.specs.declared.why.Why.{Why}
@@ -13,6 +13,7 @@ use Rattle.carte_rebuild.specs.declared.work.PlanFault.TheVariants.{Refused, NoM
 use Rattle.carte_rebuild.specs.declared.work.Work.{Work}
 use Rattle.carte_report.specs.Lines.{why_lines}
 use Rattle.carte_sound.specs.Held.{How}
+use Rattle.carte_state.specs.Versions.{AnyKept}
 use Rattle.carte_shell.specs.Replies.{Said, plain, refusal}
 
 -- each key with the cause why a build would run it, or would not
@@ -20,11 +21,11 @@ abbrev pub AreWhys : How → SomeKept → Book → List (List ℕ × Why) → Ty
 AreWhys h K b [] = Unit {0}
 AreWhys h K b (t ∷ told) = IsWhy h K b t.0 t.1 × AreWhys h K b told
 
--- each target with its cause; or a target has no value, for this reason
-abbrev pub Explained : How → SomeKept → Book → List (List ℕ) → Said → Type 0
-Explained h K b targets reply =
-    ((told : List (List ℕ × Why)) × (map (λ t. t.0) told ≡ targets) × (reply ≡ plain (why_lines told)) × Under K b (AllClean b targets × AreWhys h K b told))
-    ⊎ ((reason : Reason) × (reply ≡ refusal reason) × Under K b (IsReason b targets reason))
+-- each target with its cause over what a build would find; or a target has no value, for this reason
+abbrev pub Explained : How → AnyKept → Book → List (List ℕ) → Said → Type 0
+Explained h A b targets reply =
+    ((told : List (List ℕ × Why)) × (map (λ t. t.0) told ≡ targets) × (reply ≡ plain (why_lines told)) × Under A b (AllClean b targets × AreWhys h (kept_for A b) b told))
+    ⊎ ((reason : Reason) × (reply ≡ refusal reason) × Under A b (IsReason b targets reason))
 
 -- what `explain` promises of such a cause
 abbrev pub Tells : RebuilderKind → SomeKept → Book → Work → List ℕ → Why → Type 0

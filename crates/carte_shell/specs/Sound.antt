@@ -3,26 +3,26 @@ use Rattle.std.specs.Prelude.{ℕ, ◌≡◌, ◌⊎◌, List, [], ◌++◌, Res
 use Rattle.carte_io.specs.Disk.{LeavesOnly}
 use Rattle.carte_io.specs.Streams.{SinkState, SourceState}
 use Rattle.carte_book.specs.Book.{Book}
-use Rattle.carte_record.specs.Kept.{SomeKept}
+use Rattle.carte_engine.specs.Versions.{IsSoundAny}
 use Rattle.carte_session.specs.Session.{Goes, IsSession}
 use Rattle.carte_session.specs.declared.end.SessionEnd.{SessionEnd}
 use Rattle.carte_session.specs.declared.end.StepEnd.{StepEnd}
 use Rattle.carte_sound.specs.Base.{HasDistinctDigests}
-use Rattle.carte_sound.specs.Sound.{IsSound}
 use Rattle.carte_state.specs.Folding.{Keeps}
-use Rattle.carte_state.specs.States.{IsKeptOn, kept_in}
+use Rattle.carte_state.specs.States.{IsKeptOn, any_in}
+use Rattle.carte_state.specs.Versions.{AnyKept}
 use Rattle.carte_shell.specs.Answers.{Answers, Ends}
 use Rattle.carte_shell.specs.Books.{AreBooks, IsBookAt}
 use Rattle.carte_shell.specs.Scenes.{Scene}
 
--- a file keeps what is sound for a history
+-- a file keeps, in either version, what is sound for a history
 abbrev pub KeepsSound : ℕ → List Book → List ℕ → Type 0
-KeepsSound limit H file = (K : SomeKept) × Keeps limit K file × IsSound K H
+KeepsSound limit H file = (A : AnyKept) × Keeps limit A file × IsSoundAny A H
 
 -- the disk keeps what memory does, and that is sound for the history
 pub record StandsSound (m : Scene) (H : List Book) : Type 0 where
   pub kept_on : IsKeptOn m.stand m.story
-  pub sound : IsSound (kept_in m.stand) H
+  pub sound : IsSoundAny (any_in m.stand) H
 
 -- from a scene that stands sound, with these books behind its history, only sound files are left at each moment
 abbrev pub LeavesSound : Type 0 → Scene → Scene → List Book → Type 0

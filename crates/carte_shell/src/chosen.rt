@@ -1,13 +1,13 @@
 // The scheduler and the rebuilder that the words choose.
 ghost use Rattle.std.specs.Prelude.{◌≡◌, ℕ, IfOk, Err};
 ghost use Rattle.carte_book.specs.Book.{book_view};
-ghost use Rattle.carte_book.specs.Digest.{rules_digest_of};
 ghost use Rattle.carte_book.specs.Reason.{IsReason};
 ghost use Rattle.carte_book.specs.declared.reason.Reason.{Reason as SomeReason};
-ghost use Rattle.carte_state.specs.Runs.{AreUnmarked};
-ghost use Rattle.carte_state.specs.States.{kept_in};
-ghost use Rattle.carte_engine.specs.Answers.{IsPlan, Under};
+ghost use Rattle.carte_state.specs.Runs.{AreUnmarked, BeginAll};
+ghost use Rattle.carte_state.specs.States.{any_in};
+ghost use Rattle.carte_engine.specs.Answers.{IsPlan};
 ghost use Rattle.carte_engine.specs.Previews.{IsPreview};
+ghost use Rattle.carte_engine.specs.Versions.{Under, kept_for};
 ghost use Rattle.carte_explain.specs.Why.{how_of as how_of_kind};
 ghost use Rattle.carte_shell.specs.Chosen.{scheduler_of, how_of};
 
@@ -19,7 +19,7 @@ use carte_dirty::Dirty;
 use carte_engine::{Engine, Plan, Scheduler};
 use carte_explain::RebuilderKind;
 use carte_rebuild::{PlanFault, Work};
-use carte_value::{Digest, Names, NoMemory};
+use carte_value::{Names, NoMemory};
 use carte_verify::Verify;
 use carte_wave::Gate;
 use carte_words::{Rebuilder4, Scheduler4};
@@ -27,40 +27,33 @@ use std::alloc::Global;
 use std::marker::Sync;
 use std::thread::Threads;
 
-/// The plan of a build by what the words choose, for whoever has the digest of the book's rules.
-pub(crate) fn plan_under<G: Gate, T: Threads + Sync>(
+/// The plan of a build by what the words choose.
+pub(crate) fn plan<G: Gate, T: Threads + Sync>(
     rt: &T,
     alloc: Global,
     choices: Choices,
     engine: &mut Engine,
     book: &Book,
-    rules: &Digest,
     targets: &Names,
     gate: &G,
 ) -> Result<Plan, NoMemory>
-    requires { rules.now ≡ rules_digest_of (book_view book.now) }
     ensures kept { engine.new ≡ engine.old }
     ensures unmarked { IfOk result (λ p. AreUnmarked p.batches.items) }
-    ensures plans { Under (kept_in engine.old) (book_view book.now)
-        (IfOk result (λ p. IsPlan (scheduler_of choices.scheduler) (how_of choices.rebuilder) (kept_in engine.old) (book_view book.now) targets.now p.batches.items p.answer)) }
+    ensures begins { IfOk result (λ p. BeginAll (any_in engine.old) p.batches.items) }
+    ensures plans { Under (any_in engine.old) (book_view book.now)
+        (IfOk result (λ p. IsPlan (scheduler_of choices.scheduler) (how_of choices.rebuilder) (any_in engine.old) (book_view book.now) targets.now p.batches.items p.answer)) }
 {
     let by = scheduler_of(choices.scheduler);
     let workers = choices.workers;
     match choices.rebuilder {
-        Rebuilder4::Dirty => {
-            engine.plan_under(rt, alloc, book, rules, &Dirty, by, workers, targets, gate)
-        }
+        Rebuilder4::Dirty => engine.plan(rt, alloc, book, &Dirty, by, workers, targets, gate),
         Rebuilder4::Verifying => {
-            engine.plan_under(rt, alloc, book, rules, &Verify, by, workers, targets, gate)
+            engine.plan(rt, alloc, book, &Verify, by, workers, targets, gate)
         }
         Rebuilder4::Constructive => {
-            engine.plan_under(
-                rt, alloc, book, rules, &Construct, by, workers, targets, gate,
-            )
+            engine.plan(rt, alloc, book, &Construct, by, workers, targets, gate)
         }
-        Rebuilder4::Deep => {
-            engine.plan_under(rt, alloc, book, rules, &Deep, by, workers, targets, gate)
-        }
+        Rebuilder4::Deep => engine.plan(rt, alloc, book, &Deep, by, workers, targets, gate),
     }
 }
 
@@ -70,21 +63,29 @@ pub(crate) fn preview(
     rebuilder: Rebuilder4,
     engine: &mut Engine,
     book: &Book,
-    rules: &Digest,
     targets: &Names,
 ) -> Result<Work, PlanFault>
-    requires { rules.now ≡ rules_digest_of (book_view book.now) }
     ensures kept { engine.new ≡ engine.old }
-    ensures served { Under (kept_in engine.old) (book_view book.now)
-        (IfOk result (IsPreview (how_of rebuilder) (kept_in engine.old) (book_view book.now) targets.now)) }
-    ensures refused { Under (kept_in engine.old) (book_view book.now)
+    ensures served { Under (any_in engine.old) (book_view book.now)
+        (IfOk result (IsPreview (how_of rebuilder) (kept_for (any_in engine.old) (book_view book.now)) (book_view book.now) targets.now)) }
+    ensures refused { Under (any_in engine.old) (book_view book.now)
         ((reason : SomeReason) → result ≡ Err (PlanFault.Refused reason) → IsReason (book_view book.now) targets.now reason) }
 {
     match rebuilder {
-        Rebuilder4::Dirty => engine.preview_under(alloc, book, rules, &Dirty, targets),
-        Rebuilder4::Verifying => engine.preview_under(alloc, book, rules, &Verify, targets),
-        Rebuilder4::Constructive => engine.preview_under(alloc, book, rules, &Construct, targets),
-        Rebuilder4::Deep => engine.preview_under(alloc, book, rules, &Deep, targets),
+        Rebuilder4::Dirty => engine.preview(alloc, book, &Dirty, targets),
+        Rebuilder4::Verifying => engine.preview(alloc, book, &Verify, targets),
+        Rebuilder4::Constructive => engine.preview(alloc, book, &Construct, targets),
+        Rebuilder4::Deep => engine.preview(alloc, book, &Deep, targets),
+    }
+}
+
+/// Whether the rebuilder compares the digest of all rules.
+pub(crate) fn compares_rules(rebuilder: Rebuilder4) -> bool {
+    match rebuilder {
+        Rebuilder4::Dirty => false,
+        Rebuilder4::Verifying => false,
+        Rebuilder4::Constructive => false,
+        Rebuilder4::Deep => true,
     }
 }
 

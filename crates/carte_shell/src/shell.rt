@@ -1,15 +1,14 @@
-ghost use Rattle.std.specs.Prelude.{◌≡◌, false, IfOk, IsTrue, MatchResult, OnOk, Some};
-ghost use Rattle.carte_value.specs.declared.digest.Digest.{Digest as SomeDigest};
+ghost use Rattle.std.specs.Prelude.{◌≡◌, false, IfOk, IsTrue, MatchResult, OnOk};
 ghost use Rattle.carte_book.specs.Book.{book_view};
-ghost use Rattle.carte_book.specs.Digest.{rules_digest_of};
-ghost use Rattle.carte_state.specs.Runs.{AreUnmarked};
+ghost use Rattle.carte_state.specs.Runs.{AreUnmarked, BeginAll};
+ghost use Rattle.carte_state.specs.States.{any_in};
 ghost use Rattle.carte_engine.specs.Clearing.{clearing};
 ghost use Rattle.carte_words.specs.declared.line.Line.TheVariants.{Build as build_line, Clean as clean_line};
 
-use crate::chosen::plan_under;
-use crate::inputs::{known, set_input};
+use crate::chosen::{compares_rules, plan};
+use crate::inputs::set_input;
 use crate::stops::{build_reply, stopped};
-use crate::why::explanation_under;
+use crate::why::explanation;
 use crate::{Choices, Reply};
 use carte_book::Book;
 use carte_engine::{Engine, Plan};
@@ -17,7 +16,7 @@ use carte_io::Disk;
 use carte_record::Batch;
 use carte_report::{cleaned_line, stray_line};
 use carte_session::{Machine, StepEnd};
-use carte_value::{Digest, Names};
+use carte_value::{Names, NoMemory};
 use carte_wave::{Gate, NoGate};
 use carte_words::{Line, read_line};
 use std::alloc::Global;
@@ -31,9 +30,6 @@ pub struct Shell {
     pub(crate) choices: Choices,
     pub(crate) book: Book,
     pub(crate) engine: Engine,
-    /// The digest of the book's rules, from when it was first needed. Lines set inputs, and change no rule.
-    pub(crate) rules: Option<Digest>,
-    ghost known: { (d : SomeDigest) → rules ≡ Some d → d ≡ rules_digest_of (book_view book) },
 }
 
 impl<D: Disk> Machine<D> for Shell {
@@ -80,7 +76,6 @@ impl Shell {
             choices,
             book,
             engine,
-            rules: None,
         }
     }
 
@@ -105,16 +100,31 @@ impl Shell {
     {
         match line {
             Line::Set(name, value) => set_input(alloc, &mut self.book, &name, value),
-            Line::Build(targets) => self.build(rt, alloc, disk, &targets, gate),
+            Line::Build(targets) => {
+                self.know_digest(alloc)?;
+                self.build(rt, alloc, disk, &targets, gate)
+            }
             Line::Explain(targets) => {
-                let rules = known(alloc, &mut self.rules, &self.book)?;
+                self.know_digest(alloc)?;
                 let rebuilder = self.choices.rebuilder;
-                let engine = &mut self.engine;
-                Ok(explanation_under(alloc, rebuilder, engine, &self.book, &rules, &targets)?)
+                Ok(explanation(alloc, rebuilder, &mut self.engine, &self.book, &targets)?)
             }
             Line::Clean => self.clean(alloc, disk),
             Line::Nothing => Ok(Reply::plain(String::new(alloc))),
         }
+    }
+
+    // The digest of all rules is worked out once, and no input changes it. It is wanted for deep traces, and to read what is
+    // kept in version 1.
+    fn know_digest(&mut self, alloc: Global) -> Result<(), NoMemory>
+        ensures choices { self.new.choices ≡ self.old.choices }
+        ensures book { book_view self.new.book ≡ book_view self.old.book }
+        ensures engine { self.new.engine ≡ self.old.engine }
+    {
+        if compares_rules(self.choices.rebuilder) || self.engine.is_old() {
+            self.book.know_digest(alloc)?;
+        }
+        Ok(())
     }
 
     fn build<D: Disk, G: Gate, T: Threads + Sync>(
@@ -131,14 +141,12 @@ impl Shell {
             (λ end. Breaks D.tells (scene D.story D.faults (self.old, disk.old)) (build_line targets.now) end (scene D.story D.faults (self.new, disk.new))) }
         ensures on { OnOk result (self.new.engine.journal.broken ≡ false) }
     {
-        let rules = known(alloc, &mut self.rules, &self.book)?;
-        let Plan { batches, answer } = plan_under(
+        let Plan { batches, answer } = plan(
             rt,
             alloc,
             self.choices,
             &mut self.engine,
             &self.book,
-            &rules,
             targets,
             gate,
         )?;
@@ -157,6 +165,7 @@ impl Shell {
     ) -> Result<(), StepEnd>
         requires whole { self.old.engine.journal.broken ≡ false }
         requires unmarked { AreUnmarked batches.items }
+        requires begins { BeginAll (any_in self.old.engine) batches.items }
         ensures carried { MatchResult result
             (λ _. Puts D.tells (scene D.story D.faults (self.old, disk.old)) (scene D.story D.faults (self.new, disk.new)) batches.items)
             (λ end. Stops D.tells (scene D.story D.faults (self.old, disk.old)) (scene D.story D.faults (self.new, disk.new)) batches.items end) }

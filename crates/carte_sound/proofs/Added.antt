@@ -1,21 +1,21 @@
 -- One finished key more keeps what is kept sound, under all four rebuilders.
-use Rattle.std.proofs.Common.{◌≡◌, ℕ, Bool, true, false, List, Some, None, refl, ap, sym, ◌∙◌, inl, inr, subst}
+use Rattle.std.proofs.Common.{◌≡◌, ℕ, Bool, true, false, List, Some, refl, ap, sym, ◌∙◌, inl, inr, subst}
 use Rattle.carte_value.specs.declared.digest.Digest.{Digest}
 use Rattle.carte_value.specs.Spelling.{digest_of}
 use Rattle.carte_book.specs.Book.{Book, clean}
-use Rattle.carte_book.specs.Digest.{rules_digest_of}
+use Rattle.carte_book.specs.Edits.{IsInput}
 use Rattle.carte_record.specs.declared.entry.Entry.{Entry}
 use Rattle.carte_record.specs.declared.trace.Trace.{Trace}
 use Rattle.carte_record.specs.declared.way.Way.{Way}
 use Rattle.carte_record.specs.Kept.{SomeKept, is_fresh, put_at}
 use Rattle.carte_value.specs.Lists.{Has}
 use Rattle.carte_sound.specs.True.{digest_or, IsTraceOf, IsEntryOf}
-use Rattle.carte_sound.specs.Sound.{Stood, IsStored, IsEntryOfSome, IsTraceOfSome, IsSound}
+use Rattle.carte_sound.specs.Sound.{IsStored, IsEntryOfSome, IsTraceOfSome, IsSound}
 use Rattle.carte_sound.specs.Base.{IsBase}
 use Rattle.carte_sound.specs.Held.{How}
 use Rattle.carte_sound.specs.Left.{entry_left, add}
 use Rattle.carte_sound.proofs.Tests.{eq_or_apart, put_here, put_there, put_cases}
-use Rattle.carte_sound.proofs.Begun.{present_input}
+use Rattle.carte_sound.proofs.Begun.{present_input, not_both}
 use Rattle.carte_sound.proofs.Entries.{Leaves, full, old, shallow, leaves}
 use Rattle.carte_sound.proofs.Written.{seen_back, stored_grows, stored_ran, stored_back, traces_back}
 use Rattle.carte_sound.proofs.NowFresh.{now_fresh}
@@ -27,12 +27,6 @@ module _ (h : How) (b : Book) (H : List Book) (K : SomeKept) (k : List ℕ) (ran
     | inl is ↦ (entry_left h K b k, ap (put_at K.entries k (entry_left h K b k)) is ∙ put_here K.entries k (entry_left h K b k))
     | inr apart ↦ (e, put_there K.entries k (entry_left h K b k) q apart ∙ kept)
   ]
-
-  stood_on : (c : Book) → Stood H K c → Stood H (add h b K k ran) c
-  stood_on c stood = record { stood = stood.stood; rules = stood.rules }
-
-  stood_now : Stood H (add h b K k ran) b
-  stood_now = record { stood = p.base.present; rules = p.rules }
 
   -- the store p.clean the key's value
   pub value_stored : IsStored (add h b K k ran) (digest_or (clean b k))
@@ -53,18 +47,18 @@ module _ (h : How) (b : Book) (H : List Book) (K : SomeKept) (k : List ℕ) (ran
   entry_sound q e kept = elim (put_cases K.entries k (entry_left h K b k) q e kept) [
     | inl new ↦ record {
       book = b;
-      stood = stood_now;
+      stood = p.base.present;
       entry = subst (λ j. IsEntryOf b j e) (sym new.0) (leaves_entry h b H K k ran p e (subst (Leaves b K k) new.1 (leaves h b K k p.order)));
       fresh = λ fresh. now_fresh (add h b K k ran) b (added_now h b H K k ran p) (added_rule h b H K k ran p) q e kept fresh;
     }
     | inr before ↦ elim (is_fresh e) as (λ t. is_fresh e ≡ t → IsEntryOfSome (add h b K k ran) H q e) [
       | true ↦ λ fresh. record {
         book = b;
-        stood = stood_now;
+        stood = p.base.present;
         entry = now_entry K b q e fresh (p.base.now q e before.1 fresh);
         fresh = λ again. now_fresh (add h b K k ran) b (added_now h b H K k ran p) (added_rule h b H K k ran p) q e kept again;
       }
-      | false ↦ λ not_fresh. let s = p.base.sound.entries q e before.1 in record { book = s.book; stood = stood_on s.book s.stood; entry = s.entry; fresh = λ fresh. cc }
+      | false ↦ λ not_fresh. let s = p.base.sound.entries q e before.1 in record { book = s.book; stood = s.stood; entry = s.entry; fresh = λ fresh. cc }
     ] refl
   ]
 
@@ -73,19 +67,25 @@ module _ (h : How) (b : Book) (H : List Book) (K : SomeKept) (k : List ℕ) (ran
     | inl before ↦
         let s = p.base.sound.traces w q t before in
         let x = entry_stays q s.entry s.kept in
-        record { book = s.book; stood = stood_on s.book s.stood; trace = s.trace; entry = x.0; kept = x.1 }
+        record { book = s.book; stood = s.stood; trace = s.trace; entry = x.0; kept = x.1 }
     | inr new ↦ record {
       book = b;
-      stood = stood_now;
+      stood = p.base.present;
       trace = subst (λ j. IsTraceOf w b j t) (sym new.0) (record { formula = p.formula; is_rule = p.is_rule; value = p.value; clean = p.clean; trace = new.1 });
       entry = entry_left h K b k;
       kept = ap (put_at K.entries k (entry_left h K b k)) new.0 ∙ put_here K.entries k (entry_left h K b k);
     }
   ]
 
+  -- what was seen is an input
+  added_input : (i : List ℕ) (d : Digest) → (add h b K k ran).seen i ≡ Some d → IsInput b i
+  added_input i d is = elim (seen_back h b K k ran i d is) [
+    | inl before ↦ p.base.inputs i d before
+    | inr now ↦ let v = present_input b i d now in (v.0, v.1)
+  ]
+
   pub added_sound : IsSound (add h b K k ran) H
   added_sound = record {
-    nothing = λ none. let e : None ≡ Some (rules_digest_of b) = sym none ∙ p.rules in cc;
     traces = trace_sound;
     entries = entry_sound;
     stored = λ d u is. elim (stored_back h b K k ran p.value p.clean d u is) [
@@ -101,10 +101,7 @@ module _ (h : How) (b : Book) (H : List Book) (K : SomeKept) (k : List ℕ) (ran
       | inr new ↦ subst (λ (x : Trace). IsStored (add h b K k ran) x.result) (sym new.1) value_stored
     ];
     chain = p.base.sound.chain;
-    seen = λ i d is. elim (seen_back h b K k ran i d is) [
-      | inl before ↦ let s = p.base.sound.seen i d before in record { book = s.book; stood = stood_on s.book s.stood; value = s.value; is_input = s.is_input }
-      | inr now ↦ let x = present_input b i d now in record { book = b; stood = stood_now; value = x.0; is_input = x.1 }
-    ];
+    apart = λ i d e seen kept. let v = added_input i d seen in let r = added_rule h b H K k ran p i e kept in not_both b i v.0 r.0 v.1 r.1;
   }
 
   -- one finished key more
@@ -113,6 +110,7 @@ module _ (h : How) (b : Book) (H : List Book) (K : SomeKept) (k : List ℕ) (ran
     sound = added_sound;
     present = p.base.present;
     distinct = p.base.distinct;
-    rules = inr p.rules;
+    keys = added_rule h b H K k ran p;
+    inputs = added_input;
     now = added_now h b H K k ran p;
   }

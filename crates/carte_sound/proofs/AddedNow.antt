@@ -6,7 +6,6 @@ use Rattle.carte_value.specs.Truths.{Among}
 use Rattle.carte_tree.specs.Tree.{Tree}
 use Rattle.carte_book.specs.Book.{input, rule, Book, content, clean}
 use Rattle.carte_book.specs.Needs.{IsRule, needs}
-use Rattle.carte_book.specs.Digest.{rules_digest_of}
 use Rattle.carte_record.specs.declared.entry.Entry.{Entry}
 use Rattle.carte_record.specs.Kept.{SomeKept, is_fresh, put_at}
 use Rattle.carte_sound.specs.Marks.{IsFresh}
@@ -17,7 +16,7 @@ use Rattle.carte_sound.specs.Base.{IsNow, AllNow, IsBase}
 use Rattle.carte_sound.specs.Held.{How}
 use Rattle.carte_sound.specs.Left.{entry_left, is_kept, add}
 use Rattle.carte_sound.proofs.Tests.{eq_or_apart, put_here, put_there, put_cases, fresh_parts}
-use Rattle.carte_sound.proofs.Held.{same_rules}
+use Rattle.carte_sound.proofs.Tasks.{own_task}
 use Rattle.carte_sound.proofs.Entries.{kept_is, Leaves, full, old, shallow, NeedsFresh, leaves}
 use Rattle.carte_sound.proofs.Written.{seen_grows, seen_written}
 
@@ -29,6 +28,7 @@ now_entry K b k e fresh n = record {
   value = n.value;
   clean = n.clean;
   key = n.key;
+  task = n.task;
   result = n.result;
   needs = n.needs ∙ ap (λ t. cond t (beneath b k) (needs b k)) (sym (fresh_parts e fresh).1);
 }
@@ -41,7 +41,6 @@ fresh_leaves b K k e (shallow none) f = absurd (none f)
 -- A key that may be finished next: a rule with a clean value that the store has or will have. The rules that it needs are fresh.
 pub record IsNext (h : How) (b : Book) (H : List Book) (K : SomeKept) (k : List ℕ) (ran : Bool) : Type 0 where
   pub base : IsBase K b H
-  pub rules : K.rules ≡ Some (rules_digest_of b)
   pub formula : Tree
   pub is_rule : content b k ≡ Some (rule formula)
   pub value : Value
@@ -68,6 +67,7 @@ module _ (h : How) (b : Book) (H : List Book) (K : SomeKept) (k : List ℕ) (ran
     value = n.value;
     clean = n.clean;
     key = n.key;
+    task = n.task;
     result = n.result;
     needs = n.needs;
     rules = λ j among r. fresh_grows j (n.rules j among r);
@@ -90,6 +90,7 @@ module _ (h : How) (b : Book) (H : List Book) (K : SomeKept) (k : List ℕ) (ran
     value = p.value;
     clean = p.clean;
     key = refl;
+    task = own_task b k p.formula p.is_rule;
     result = ap digest_or p.clean;
     needs = refl;
     rules = λ j among is. fresh_grows j (r j among is);
@@ -99,9 +100,9 @@ module _ (h : How) (b : Book) (H : List Book) (K : SomeKept) (k : List ℕ) (ran
   leaves_now e (shallow none) equal fresh = cc
 
   pub leaves_entry : (e : Entry) → Leaves b K k e → IsEntryOf b k e
-  leaves_entry e (full r) = record { formula = p.formula; is_rule = p.is_rule; value = p.value; clean = p.clean; key = refl; result = ap digest_or p.clean; needs = refl }
+  leaves_entry e (full r) = record { formula = p.formula; is_rule = p.is_rule; value = p.value; clean = p.clean; key = refl; task = own_task b k p.formula p.is_rule; result = ap digest_or p.clean; needs = refl }
   leaves_entry e (old x kept fresh) = now_entry K b k e fresh (p.base.now k e kept fresh)
-  leaves_entry e (shallow none) = record { formula = p.formula; is_rule = p.is_rule; value = p.value; clean = p.clean; key = refl; result = ap digest_or p.clean; needs = refl }
+  leaves_entry e (shallow none) = record { formula = p.formula; is_rule = p.is_rule; value = p.value; clean = p.clean; key = refl; task = own_task b k p.formula p.is_rule; result = ap digest_or p.clean; needs = refl }
 
   -- what is fresh is true now
   pub added_now : AllNow (add h b K k ran) b
@@ -110,8 +111,9 @@ module _ (h : How) (b : Book) (H : List Book) (K : SomeKept) (k : List ℕ) (ran
     | inr before ↦ now_grows q e (p.base.now q e before.1 fresh)
   ]
 
+  -- and what has an entry is a rule
   pub added_rule : (q : List ℕ) (e : Entry) → (add h b K k ran).entries q ≡ Some e → IsRule b q
   added_rule q e kept = elim (put_cases K.entries k (entry_left h K b k) q e kept) [
     | inl new ↦ (p.formula, ap (content b) new.0 ∙ p.is_rule)
-    | inr before ↦ let s = p.base.sound.entries q e before.1 in (s.entry.formula, (same_rules K b H p.base s.book s.stood).rules q s.entry.formula s.entry.is_rule)
+    | inr before ↦ p.base.keys q e before.1
   ]

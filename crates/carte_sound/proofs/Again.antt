@@ -1,19 +1,20 @@
 -- A key that was finished is held from then on, until what it was made of changes.
-use Rattle.std.proofs.Common.{◌≡◌, ℕ, Bool, true, false, List, [], ◌∷◌, refl, ap, sym, ◌∙◌, inl, inr, subst}
+use Rattle.std.proofs.Common.{◌≡◌, ℕ, Bool, true, false, List, [], ◌∷◌, Some, refl, ap, sym, ◌∙◌, inl, inr, subst}
 use Rattle.carte_name.specs.Names.{name_eq}
 use Rattle.carte_value.specs.Truths.{Among}
 use Rattle.carte_book.specs.Book.{Book, clean}
 use Rattle.carte_book.specs.Needs.{IsRule}
 use Rattle.carte_book.specs.Reason.{IsClean}
+use Rattle.carte_book.proofs.Tasks.{task_of_rule}
 use Rattle.carte_record.specs.declared.trace.Trace.{Trace}
 use Rattle.carte_record.specs.declared.way.Way.{Way}
 use Rattle.carte_record.specs.declared.way.Way.TheVariants.{Verifying, Constructive, Deep}
 use Rattle.carte_record.specs.Kept.{SomeKept}
 use Rattle.carte_value.specs.Lists.{Has}
-use Rattle.carte_sound.specs.True.{digest_or, trace_of, full_entry}
+use Rattle.carte_sound.specs.True.{digest_or, or_none, wanted_task, trace_of, full_entry}
 use Rattle.carte_sound.specs.Base.{IsBase}
 use Rattle.carte_sound.specs.Held.{How, dirty, tracing, IsTrusted, IsHeld}
-use Rattle.carte_sound.specs.Left.{entry_left, add, opened, Finishes, add_all}
+use Rattle.carte_sound.specs.Left.{entry_left, add, Finishes, add_all}
 use Rattle.carte_sound.specs.Finished.{RanOrHeld, IsFinishedAfter, AreFinished}
 use Rattle.carte_sound.proofs.Tests.{name_self, eq_or_apart, put_here, put_there}
 use Rattle.carte_sound.proofs.Held.{verifying_held}
@@ -25,6 +26,12 @@ use Rattle.carte_sound.proofs.LeftSound.{finished_before, fresh_here}
 pub record IsHolding (h : How) (b : Book) (M L : SomeKept) (before : List (List ℕ)) : Type 0 where
   pub traces : (w : Way) (q : List ℕ) (t : Trace) → Has (M.traces w q) t → Has (L.traces w q) t
   pub held : (j : List ℕ) → Among before j → IsHeld h L b j
+
+-- a rule has the task that its new trace has
+pub own_wanted : (w : Way) (b : Book) (k : List ℕ) → IsRule b k → wanted_task w b k ≡ Some (trace_of w b k).task
+own_wanted Verifying b k r = let t = task_of_rule b k r.0 r.1 in t ∙ ap (λ o. Some (or_none o)) (sym t)
+own_wanted Constructive b k r = let t = task_of_rule b k r.0 r.1 in t ∙ ap (λ o. Some (or_none o)) (sym t)
+own_wanted Deep b k r = refl
 
 full_result : (b : Book) (L : SomeKept) (k : List ℕ) (ran : Bool) (t : Trace) → t.result ≡ digest_or (clean b k) → IsTrusted Verifying (add (tracing Verifying) b L k ran) k t
 full_result b L k ran t is = (full_entry b k, put_here L.entries k (full_entry b k), sym is)
@@ -40,6 +47,7 @@ module _ (b : Book) (H : List Book) (M : SomeKept) (begun : IsBase M b H) where
     trace_of Verifying b k,
     record {
       kept = trace_there Verifying b L k refl;
+      task = own_wanted Verifying b k is_rule;
       links = held_links Verifying b k is_rule has;
       trusted = full_result b L k true (trace_of Verifying b k) refl;
     },
@@ -49,6 +57,7 @@ module _ (b : Book) (H : List Book) (M : SomeKept) (begun : IsBase M b H) where
         came.0,
         record {
           kept = traces_grow (tracing Verifying) b L k false Verifying k came.0 (at.traces Verifying k came.0 came.1.kept);
+          task = came.1.task;
           links = came.1.links;
           trusted = full_result b L k false came.0 (r.digest ∙ ap digest_or (sym r.clean));
         },
@@ -57,6 +66,7 @@ module _ (b : Book) (H : List Book) (M : SomeKept) (begun : IsBase M b H) where
     trace_of Constructive b k,
     record {
       kept = trace_there Constructive b L k refl;
+      task = own_wanted Constructive b k is_rule;
       links = held_links Constructive b k is_rule has;
       trusted = tt;
     },
@@ -65,6 +75,7 @@ module _ (b : Book) (H : List Book) (M : SomeKept) (begun : IsBase M b H) where
     came.0,
     record {
       kept = traces_grow (tracing Constructive) b L k false Constructive k came.0 (at.traces Constructive k came.0 came.1.kept);
+      task = came.1.task;
       links = came.1.links;
       trusted = tt;
     },
@@ -73,6 +84,7 @@ module _ (b : Book) (H : List Book) (M : SomeKept) (begun : IsBase M b H) where
     trace_of Deep b k,
     record {
       kept = trace_there Deep b L k refl;
+      task = own_wanted Deep b k is_rule;
       links = held_links Deep b k is_rule has;
       trusted = tt;
     },
@@ -81,6 +93,7 @@ module _ (b : Book) (H : List Book) (M : SomeKept) (begun : IsBase M b H) where
     came.0,
     record {
       kept = traces_grow (tracing Deep) b L k false Deep k came.0 (at.traces Deep k came.0 came.1.kept);
+      task = came.1.task;
       links = came.1.links;
       trusted = tt;
     },
@@ -93,12 +106,13 @@ module _ (b : Book) (H : List Book) (M : SomeKept) (begun : IsBase M b H) where
     held.0,
     record {
       kept = traces_grow (tracing Verifying) b L k ran Verifying j held.0 held.1.kept;
+      task = held.1.task;
       links = held.1.links;
       trusted = (held.1.trusted.0, put_there L.entries k (entry_left (tracing Verifying) L b k) j apart ∙ held.1.trusted.1, held.1.trusted.2);
     },
   )
-  held_on (tracing Constructive) L k ran j apart held = (held.0, record { kept = traces_grow (tracing Constructive) b L k ran Constructive j held.0 held.1.kept; links = held.1.links; trusted = tt })
-  held_on (tracing Deep) L k ran j apart held = (held.0, record { kept = traces_grow (tracing Deep) b L k ran Deep j held.0 held.1.kept; links = held.1.links; trusted = tt })
+  held_on (tracing Constructive) L k ran j apart held = (held.0, record { kept = traces_grow (tracing Constructive) b L k ran Constructive j held.0 held.1.kept; task = held.1.task; links = held.1.links; trusted = tt })
+  held_on (tracing Deep) L k ran j apart held = (held.0, record { kept = traces_grow (tracing Deep) b L k ran Deep j held.0 held.1.kept; task = held.1.task; links = held.1.links; trusted = tt })
 
   pub next_holding : (h : How) (L : SomeKept) (before : List (List ℕ)) (k : List ℕ) (ran : Bool) → IsHolding h b M L before → IsFinishedAfter h b M before k ran → IsHolding h b M (add h b L k ran) (k ∷ before)
   next_holding h L before k ran at next = record {
@@ -117,5 +131,5 @@ module _ (b : Book) (H : List Book) (M : SomeKept) (begun : IsBase M b H) where
   holdings h [] L before at are = at
   holdings h (f ∷ fs) L before at are = holdings h fs (add h b L f.0 f.1) (f.0 ∷ before) (next_holding h L before f.0 f.1 at are.0) are.1
 
-  pub first_holding : (h : How) → IsHolding h b M (opened b M) []
+  pub first_holding : (h : How) → IsHolding h b M M []
   first_holding h = record { traces = λ w q t there. there; held = λ j among. absurd among }

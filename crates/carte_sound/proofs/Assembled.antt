@@ -1,27 +1,26 @@
 -- From the batch that notes finished keys one by one to the batch of a build.
-use Rattle.std.proofs.Common.{◌≡◌, ℕ, Bool, true, false, ◌&&◌, cond, List, [], ◌∷◌, ◌++◌, refl, ap, sym, ◌∙◌, subst}
+use Rattle.std.proofs.Common.{◌≡◌, ℕ, Bool, true, false, ◌&&◌, cond, List, [], ◌∷◌, ◌++◌, refl, ap, sym, ◌∙◌}
 use Rattle.std.specs.Prelude.{if◌then◌else◌}
 use Rattle.carte_value.specs.Lists.{Has}
 use Rattle.carte_book.specs.Book.{Book}
-use Rattle.carte_book.specs.Digest.{rules_digest_of}
 use Rattle.carte_record.specs.declared.batch.Batch.{Batch}
 use Rattle.carte_record.specs.declared.entry.Entry.{Entry}
-use Rattle.carte_record.specs.declared.start.Start.TheVariants.{GoOn, Anew}
+use Rattle.carte_record.specs.declared.start.Start.TheVariants.{GoOn}
 use Rattle.carte_record.specs.declared.way.Way.{Way}
 use Rattle.carte_record.specs.Folds.{batch_traces}
 use Rattle.carte_record.specs.Kept.{SomeKept}
-use Rattle.carte_sound.specs.Begun.{has_rules_of, begin, AreMarks}
+use Rattle.carte_sound.specs.Begun.{Beginning, IsBeginning, begin}
 use Rattle.carte_sound.specs.True.{trace_of}
 use Rattle.carte_sound.specs.Held.{How}
 use Rattle.carte_sound.specs.Left.{is_way, Finishes, add_all, left}
 use Rattle.carte_sound.specs.Finished.{IsFinishing}
 use Rattle.carte_sound.specs.Carries.{Carries}
 use Rattle.carte_sound.specs.LeadsTo.{empty_batch, traces_made, marks_left, chain_stays, Brings}
-use Rattle.carte_sound.proofs.Finishing.{opened_adds, adds_chain}
+use Rattle.carte_sound.proofs.Finishing.{adds_chain}
 use Rattle.carte_sound.proofs.Emptied.{nothing_more, no_traces}
 use Rattle.carte_sound.proofs.Applied.{difference_applied}
 
--- an empty batch carries nothing, whatever it starts with and marks
+-- an empty batch carries nothing, whatever it starts with, drops and marks
 pub carries_nothing : (b : Book) (K : SomeKept) → Carries b K K empty_batch
 carries_nothing b K = record {
   values = λ d. sym (nothing_more (K.stored d));
@@ -41,7 +40,7 @@ carries_nothing b K = record {
 
 -- what carries the finished keys carries what is left, where the chain stays
 pub carries_left : (h : How) (b : Book) (M : SomeKept) (fs : Finishes) (B : Batch) → Carries b M (add_all h b M fs) B → Carries b M (left h b M fs M.chain) B
-carries_left h b M fs B c = subst (λ L. Carries b M (record L { chain = M.chain }) B) (sym (opened_adds h b M fs)) (record {
+carries_left h b M fs B c = record {
   values = c.values;
   values_lacked = c.values_lacked;
   values_once = c.values_once;
@@ -55,24 +54,24 @@ carries_left h b M fs B c = subst (λ L. Carries b M (record L { chain = M.chain
   traces = c.traces;
   chain = sym (adds_chain h b M fs) ∙ c.chain;
   chain_differs = c.chain_differs;
-})
+}
 
--- a batch that carries the finished keys, with the start, the marks and the traces of a build, is one that the build brings
-pub brings_by : (h : How) (done : SomeKept → List ℕ → Type 0) (K : SomeKept) (b : Book) (B : Batch) (ms : List (List ℕ)) → AreMarks K b ms → (fs : Finishes) → IsFinishing h b (begin K b ms) (done (begin K b ms)) fs → (has_rules_of K b ≡ false → ¬ (fs ≡ [])) → B.start ≡ (if has_rules_of K b then GoOn else Anew (rules_digest_of b)) → B.stale ≡ marks_left fs ms → ((w : Way) → batch_traces w B ≡ traces_made h b fs w) → ((e : Entry) → Has B.entries e → e.stale ≡ false) → Carries b (begin K b ms) (add_all h b (begin K b ms) fs) B → Brings h done chain_stays K b B
-brings_by h done K b B ms marked fs order something start stale traces unmarked carries =
-    let whole = carries_left h b (begin K b ms) fs B carries in
+-- a batch that carries the finished keys, with what a build drops and marks and the traces of its keys, is one that the build brings
+pub brings_by : (h : How) (done : SomeKept → List ℕ → Type 0) (K : SomeKept) (b : Book) (B : Batch) (x : Beginning) → IsBeginning K b x → (fs : Finishes) → IsFinishing h b (begin K x) (done (begin K x)) fs → B.start ≡ GoOn → B.gone ≡ x.gone → B.stale ≡ marks_left fs x → ((w : Way) → batch_traces w B ≡ traces_made h b fs w) → ((e : Entry) → Has B.entries e → e.stale ≡ false) → Carries b (begin K x) (add_all h b (begin K x) fs) B → Brings h done chain_stays K b B
+brings_by h done K b B x begins fs order start gone stale traces unmarked carries =
+    let whole = carries_left h b (begin K x) fs B carries in
     record {
-      marks = ms;
-      marked = marked;
+      begun = x;
+      begins = begins;
       finished = fs;
       order = order;
-      something = something;
       start = start;
+      gone = gone;
       stale = stale;
       traces = traces;
       unmarked = unmarked;
       carries = whole;
-      applied = difference_applied h b K ms fs (begin K b ms).chain B start stale whole;
+      applied = difference_applied h b K x fs K.chain B start gone stale whole;
     }
 
 -- traces of a list that grows at its end

@@ -1,17 +1,14 @@
--- What a build begins with, under its book's rules or others.
-use Rattle.std.proofs.Common.{◌≡◌, ℕ, true, false, cond, List, [], ◌∷◌, ◌++◌, Option, Some, None, refl, ap, inl, inr}
-use Rattle.carte_value.specs.declared.digest.Digest.{Digest}
+-- What a build begins with, for the history with its book.
+use Rattle.std.proofs.Common.{List, [], ◌∷◌, ◌++◌, refl, inl, inr}
 use Rattle.carte_book.specs.Book.{Book}
-use Rattle.carte_book.specs.Digest.{rules_digest_of}
-use Rattle.carte_record.specs.Folds.{with_marks}
-use Rattle.carte_record.specs.Kept.{SomeKept, nothing_kept}
+use Rattle.carte_record.specs.Kept.{SomeKept}
 use Rattle.carte_value.specs.Lists.{Has}
-use Rattle.carte_sound.specs.Begun.{is_digest, has_rules_of, begin, AreMarks}
+use Rattle.carte_sound.specs.Begun.{Beginning, IsBeginning, begin}
 use Rattle.carte_sound.specs.Sound.{IsSound}
 use Rattle.carte_sound.specs.Base.{HasDistinctDigests, IsBase}
-use Rattle.carte_sound.proofs.Tests.{same_digest}
-use Rattle.carte_sound.proofs.Begun.{marked_begun}
-use Rattle.carte_sound.proofs.Histories.{longer_sound, nothing_begun}
+use Rattle.carte_sound.proofs.Fresh.{all_now}
+use Rattle.carte_sound.proofs.Begun.{begun_true, begun_sound, begun_keys, begun_inputs}
+use Rattle.carte_sound.proofs.Histories.{longer_sound}
 
 pub has_left : {A : Type 0} (xs ys : List A) (x : A) → Has xs x → Has (xs ++ ys) x
 has_left [] ys x there = absurd there
@@ -35,18 +32,16 @@ pub front_distinct : (H J : List Book) → HasDistinctDigests (H ++ J) → HasDi
 front_distinct H J distinct = record {
   values = λ b c j k v w in_b in_c has also same. distinct.values b c j k v w (has_left H J b in_b) (has_left H J c in_c) has also same;
   rules = λ b c in_b in_c same. distinct.rules b c (has_left H J b in_b) (has_left H J c in_c) same;
+  tasks = λ b c j k f g in_b in_c at_b at_c same. distinct.tasks b c j k f g (has_left H J b in_b) (has_left H J c in_c) at_b at_c same;
 }
 
-pub rules_kept : (K : SomeKept) (b : Book) → has_rules_of K b ≡ true → K.rules ≡ Some (rules_digest_of b)
-rules_kept K b = on_rules (K.rules)
-  where
-    on_rules : (o : Option Digest) → is_digest o (rules_digest_of b) ≡ true → o ≡ Some (rules_digest_of b)
-    on_rules None is = cc
-    on_rules (Some d) is = ap Some (same_digest d (rules_digest_of b) is)
-
-pub begun_base : (K : SomeKept) (b : Book) (H : List Book) (ms : List (List ℕ)) → IsSound K H → Has H b → HasDistinctDigests H → AreMarks K b ms → IsBase (begin K b ms) b H
-begun_base K b H ms sound stands distinct marked =
-    elim (has_rules_of K b) as (λ t. has_rules_of K b ≡ t → IsBase (cond t (with_marks K ms) nothing_kept) b H) [
-      | true ↦ λ is. marked_begun K H b sound stands distinct (rules_kept K b is) ms (marked.same is)
-      | false ↦ λ is. nothing_begun b H stands distinct
-    ] refl
+-- what a build begins with may be relied on
+pub begun_base : (K : SomeKept) (b : Book) (H : List Book) (x : Beginning) → IsSound K H → Has H b → HasDistinctDigests H → IsBeginning K b x → IsBase (begin K x) b H
+begun_base K b H x sound stands distinct begins = record {
+  sound = begun_sound K H b sound stands distinct x begins;
+  present = stands;
+  distinct = distinct;
+  keys = begun_keys K H b sound stands distinct x begins;
+  inputs = begun_inputs K H b sound stands distinct x begins;
+  now = all_now (begin K x) b (begun_true K H b sound stands distinct x begins);
+}

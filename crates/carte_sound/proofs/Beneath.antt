@@ -1,4 +1,4 @@
--- The inputs beneath a rule, in books with the same rules whose inputs there are the same.
+-- What is beneath a rule, in books in which the same stands at the rules and inputs there.
 use Rattle.std.proofs.Common.{◌≡◌, ℕ, zero, suc, List, [], ◌∷◌, ◌++◌, Option, Some, None, Ok, refl, ap, sym, ◌∙◌, inl, inr, subst}
 use Rattle.std.specs.Result.{result_ok}
 use Rattle.carte_value.specs.declared.value.Value.{Value}
@@ -8,11 +8,11 @@ use Rattle.carte_value.proofs.Asks.{asked_kept, asked_known}
 use Rattle.carte_value.proofs.Firsts.{among_firsts, firsts_among}
 use Rattle.carte_value.proofs.Members.{among_append, among_left, among_right}
 use Rattle.carte_tree.specs.Tree.{Tree}
-use Rattle.carte_tree.specs.Meaning.{asks, eval}
+use Rattle.carte_tree.specs.Meaning.{asks, eval, fetched}
 use Rattle.carte_book.specs.Book.{Item, input, rule, Book, content, valued, val, clean}
-use Rattle.carte_book.specs.Needs.{needs}
+use Rattle.carte_book.specs.Needs.{IsRule, needs, needs_of}
 use Rattle.carte_book.proofs.Clean.{clean_nothing, val_clean}
-use Rattle.carte_sound.specs.Beneath.{gathered, beneath_item, beneath_in}
+use Rattle.carte_sound.specs.Beneath.{gathered, walk, beneath_item, rules_item, beneath_in, rules_beneath_in}
 use Rattle.carte_sound.specs.Base.{SameRules}
 use Rattle.carte_value.proofs.Agreeing.{same_run, same_asked}
 use Rattle.carte_sound.proofs.Fresh.{val_rule}
@@ -34,13 +34,25 @@ pub gathered_same : (f g : List ℕ → List (List ℕ)) (ks : List (List ℕ)) 
 gathered_same f g [] same = refl
 gathered_same f g (k ∷ ks) same = ap (λ xs. xs ++ gathered f ks) (same k (inl refl)) ∙ ap (λ xs. g k ++ xs) (gathered_same f g ks (λ j among. same j (inr among)))
 
+-- an input has no needs
+no_needs : (c : Book) (k : List ℕ) (x : Value) → content c k ≡ Some (input x) → needs c k ≡ []
+no_needs c k x is = ap (λ o. needs_of o (λ f. fetched c.kind (clean c) f)) is
+
 -- beneath an input there is that input
 pub beneath_of_input : (n : ℕ) (c : Book) (k : List ℕ) (v : Value) → content c k ≡ Some (input v) → beneath_in n c k ≡ k ∷ []
-beneath_of_input zero c k v is = rw is refl
-beneath_of_input (suc n) c k v is = rw is refl
+beneath_of_input zero c k v is = ap (λ o. beneath_item o k []) is
+beneath_of_input (suc n) c k v is = ap (λ o. beneath_item o k (gathered (λ j. beneath_in n c j) (needs c k))) is
 
 pub beneath_of_rule : (n : ℕ) (c : Book) (k : List ℕ) (f : Tree) → content c k ≡ Some (rule f) → beneath_in (suc n) c k ≡ gathered (λ j. beneath_in n c j) (needs c k)
-beneath_of_rule n c k f is = rw is refl
+beneath_of_rule n c k f is = ap (λ o. beneath_item o k (gathered (λ j. beneath_in n c j) (needs c k))) is
+
+-- and among the rules beneath a rule there are it and those beneath its needs
+rules_of_rule : (n : ℕ) (c : Book) (k : List ℕ) (f : Tree) → content c k ≡ Some (rule f) → rules_beneath_in (suc n) c k ≡ k ∷ gathered (λ j. rules_beneath_in n c j) (needs c k)
+rules_of_rule n c k f is = ap (λ o. rules_item o k (gathered (λ j. rules_beneath_in n c j) (needs c k))) is
+
+pub rule_itself : (n : ℕ) (c : Book) (k : List ℕ) (f : Tree) → content c k ≡ Some (rule f) → Among (rules_beneath_in n c k) k
+rule_itself zero c k f is = subst (λ o. Among (rules_item o k []) k) (sym is) (inl refl)
+rule_itself (suc n) c k f is = subst (λ ks. Among ks k) (sym (rules_of_rule n c k f is)) (inl refl)
 
 pub no_value_yet : (c : Book) (k : List ℕ) (f : Tree) (v : Value) → content c k ≡ Some (rule f) → val c zero k ≡ Some v → ⊥
 no_value_yet c k f v is has = let none : valued (content c k) (λ f. None) ≡ None = rw is refl in cc
@@ -73,67 +85,112 @@ beneath_input zero c k i among = beneath_of_item c k i [] (content c k) refl (λ
 beneath_input (suc n) c k i among = beneath_of_item c k i (gathered (λ j. beneath_in n c j) (needs c k)) (content c k) refl
     (λ here. let r = gathered_among (λ j. beneath_in n c j) (needs c k) i here in beneath_input n c r.0 i r.2) among
 
--- two books, the one with the rules of the other
-module _ (c b : Book) (rules : SameRules c b) where
-  abbrev pub AgreeBeneath : ℕ → List ℕ → Type 0
-  AgreeBeneath n k = (i : List ℕ) → Among (beneath_in n c k) i → content b i ≡ content c i
+rules_of_item : (c : Book) (k i : List ℕ) (ks : List (List ℕ)) (o : Option Item) → content c k ≡ o → (Among ks i → IsRule c i) → Among (rules_item o k ks) i → IsRule c i
+rules_of_item c k i ks None is rec among = absurd among
+rules_of_item c k i ks (Some (input x)) is rec among = absurd among
+rules_of_item c k i ks (Some (rule f)) is rec (inl same) = (f, ap (content c) same ∙ is)
+rules_of_item c k i ks (Some (rule f)) is rec (inr later) = rec later
 
-  agree_need : (n : ℕ) (k : List ℕ) (f : Tree) → content c k ≡ Some (rule f) → AgreeBeneath (suc n) k → (j : List ℕ) → Among (needs c k) j → AgreeBeneath n j
-  agree_need n k f is agree j among i here = agree i (rw (beneath_of_rule n c k f is) (among_gathered (λ j. beneath_in n c j) (needs c k) j i among here))
+-- or, of the rules beneath, a rule
+pub beneath_rule : (n : ℕ) (c : Book) (k i : List ℕ) → Among (rules_beneath_in n c k) i → IsRule c i
+beneath_rule zero c k i among = rules_of_item c k i [] (content c k) refl (λ none. absurd none) among
+beneath_rule (suc n) c k i among = rules_of_item c k i (gathered (λ j. rules_beneath_in n c j) (needs c k)) (content c k) refl
+    (λ here. let r = gathered_among (λ j. rules_beneath_in n c j) (needs c k) i here in beneath_rule n c r.0 i r.2) among
 
-  -- where the inputs beneath a key are the same in both, each round that finds its value in the one finds that value in the other
-  pub beneath_val : (n : ℕ) (k : List ℕ) (v : Value) → val c n k ≡ Some v → AgreeBeneath n k → val b n k ≡ Some v
-  beneath_val zero k v has agree = on_item (content c k) refl
+-- two books of one kind that have the same at the rules and at the inputs beneath a key
+pub record AgreeBeneath (c b : Book) (n : ℕ) (k : List ℕ) : Type 0 where
+  pub kind : c.kind ≡ b.kind
+  pub rules : (i : List ℕ) → Among (rules_beneath_in n c k) i → content b i ≡ content c i
+  pub inputs : (i : List ℕ) → Among (beneath_in n c k) i → content b i ≡ content c i
+
+-- books with the same rules have the same at those beneath
+pub agree_by_rules : (c b : Book) (n : ℕ) (k : List ℕ) → SameRules c b → ((i : List ℕ) → Among (beneath_in n c k) i → content b i ≡ content c i) → AgreeBeneath c b n k
+agree_by_rules c b n k same inputs = record { kind = same.kind; rules = λ i among. let f = beneath_rule n c k i among in same.rules i f.0 f.1 ∙ sym f.1; inputs = inputs }
+
+module _ (c b : Book) where
+  agree_need : (n : ℕ) (k : List ℕ) (f : Tree) → content c k ≡ Some (rule f) → AgreeBeneath c b (suc n) k → (j : List ℕ) → Among (needs c k) j → AgreeBeneath c b n j
+  agree_need n k f is agree j among = record {
+    kind = agree.kind;
+    rules = λ i here. agree.rules i (subst (λ ks. Among ks i) (sym (rules_of_rule n c k f is)) (inr (among_gathered (λ q. rules_beneath_in n c q) (needs c k) j i among here)));
+    inputs = λ i here. agree.inputs i (subst (λ ks. Among ks i) (sym (beneath_of_rule n c k f is)) (among_gathered (λ q. beneath_in n c q) (needs c k) j i among here));
+  }
+
+  -- a key with a value has the same in both
+  agree_here : (n : ℕ) (k : List ℕ) (v : Value) → val c n k ≡ Some v → AgreeBeneath c b n k → content b k ≡ content c k
+  agree_here n k v has agree = on_item (content c k) refl
     where
-      on_item : (o : Option Item) → content c k ≡ o → val b zero k ≡ Some v
-      on_item None is = absurd (no_value c zero k v is has)
-      on_item (Some (input x)) is =
-          let same : content b k ≡ Some (input x) = agree k (rw (beneath_of_input zero c k x is) (inl refl)) ∙ is in
-          let there : Some x ≡ Some v = (rw is at has) in
-          rw same there
-      on_item (Some (rule f)) is = absurd (no_value_yet c k f v is has)
+      on_item : (o : Option Item) → content c k ≡ o → content b k ≡ content c k
+      on_item None is = absurd (no_value c n k v is has)
+      on_item (Some (input x)) is = agree.inputs k (subst (λ ks. Among ks k) (sym (beneath_of_input n c k x is)) (inl refl))
+      on_item (Some (rule f)) is = agree.rules k (rule_itself n c k f is)
+
+  -- each round that finds its value in the one finds that value in the other
+  pub beneath_val : (n : ℕ) (k : List ℕ) (v : Value) → val c n k ≡ Some v → AgreeBeneath c b n k → val b n k ≡ Some v
+  beneath_val zero k v has agree = ap (λ o. valued o (λ f. None)) (agree_here zero k v has agree) ∙ has
   beneath_val (suc n) k v has agree = on_item (content c k) refl (λ j w known there. beneath_val n j w known there)
     where
-      on_item : (o : Option Item) → content c k ≡ o → ((j : List ℕ) (w : Value) → val c n j ≡ Some w → AgreeBeneath n j → val b n j ≡ Some w) → val b (suc n) k ≡ Some v
+      same : content b k ≡ content c k
+      same = agree_here (suc n) k v has agree
+
+      on_item : (o : Option Item) → content c k ≡ o → ((j : List ℕ) (w : Value) → val c n j ≡ Some w → AgreeBeneath c b n j → val b n j ≡ Some w) → val b (suc n) k ≡ Some v
       on_item None is rec = absurd (no_value c (suc n) k v is has)
       on_item (Some (input x)) is rec =
-          let same : content b k ≡ Some (input x) = agree k (rw (beneath_of_input (suc n) c k x is) (inl refl)) ∙ is in
           let there : Some x ≡ Some v = (rw is at has) in
-          rw same there
+          ap (λ o. valued o (λ f. result_ok (eval b.kind (val b n) f))) (same ∙ is) ∙ there
       on_item (Some (rule f)) is rec =
-          let here : content b k ≡ Some (rule f) = rules.rules k f is in
-          let ran : eval b.kind (val c n) f ≡ Ok v = subst (λ q. eval q (val c n) f ≡ Ok v) rules.kind (val_rule c n k f v is has) in
-          let looks : needs c k ≡ firsts (asked (val c n) (asks b.kind f)) = round_needs c n k f v is has ∙ ap (λ q. firsts (asked (val c n) (asks q f))) rules.kind in
+          let ran : eval b.kind (val c n) f ≡ Ok v = subst (λ q. eval q (val c n) f ≡ Ok v) agree.kind (val_rule c n k f v is has) in
+          let looks : needs c k ≡ firsts (asked (val c n) (asks b.kind f)) = round_needs c n k f v is has ∙ ap (λ q. firsts (asked (val c n) (asks q f))) agree.kind in
           let runs : eval b.kind (val b n) f ≡ Ok v = same_run (val c n) (val b n) (asks b.kind f) v ran (λ j w among known.
           rec j w known (agree_need n k f is agree j (rw looks (firsts_among (asked (val c n) (asks b.kind f)) j among)))) in
-          rw here (ap result_ok runs)
+          ap (λ o. valued o (λ f. result_ok (eval b.kind (val b n) f))) (same ∙ is) ∙ ap result_ok runs
 
   -- so the clean value is the same
-  pub beneath_value : (n : ℕ) (k : List ℕ) (v : Value) → val c n k ≡ Some v → ((i : List ℕ) → Among (beneath_in n c k) i → content b i ≡ content c i) → clean b k ≡ Some v
+  pub beneath_value : (n : ℕ) (k : List ℕ) (v : Value) → val c n k ≡ Some v → AgreeBeneath c b n k → clean b k ≡ Some v
   beneath_value n k v has agree = val_clean b n k v (beneath_val n k v has agree)
 
-  -- and the same inputs are beneath
-  pub beneath_same : (n : ℕ) (k : List ℕ) (v : Value) → val c n k ≡ Some v → ((i : List ℕ) → Among (beneath_in n c k) i → content b i ≡ content c i) → beneath_in n b k ≡ beneath_in n c k
-  beneath_same zero k v has agree = on_item (content c k) refl
+  -- and so are the needs
+  round_same : (n : ℕ) (k : List ℕ) (v : Value) → val c (suc n) k ≡ Some v → AgreeBeneath c b (suc n) k → needs b k ≡ needs c k
+  round_same n k v has agree = on_item (content c k) refl
     where
-      on_item : (o : Option Item) → content c k ≡ o → beneath_in zero b k ≡ beneath_in zero c k
-      on_item None is = absurd (no_value c zero k v is has)
-      on_item (Some (input x)) is = beneath_of_input zero b k x (agree k (rw (beneath_of_input zero c k x is) (inl refl)) ∙ is) ∙ sym (beneath_of_input zero c k x is)
-      on_item (Some (rule f)) is = absurd (no_value_yet c k f v is has)
-  beneath_same (suc n) k v has agree = on_item (content c k) refl (λ j w known there. beneath_same n j w known there)
-    where
-      on_item : (o : Option Item) → content c k ≡ o → ((j : List ℕ) (w : Value) → val c n j ≡ Some w → AgreeBeneath n j → beneath_in n b j ≡ beneath_in n c j) → beneath_in (suc n) b k ≡ beneath_in (suc n) c k
-      on_item None is rec = absurd (no_value c (suc n) k v is has)
-      on_item (Some (input x)) is rec = beneath_of_input (suc n) b k x (agree k (rw (beneath_of_input (suc n) c k x is) (inl refl)) ∙ is) ∙ sym (beneath_of_input (suc n) c k x is)
-      on_item (Some (rule f)) is rec =
-          let here : content b k ≡ Some (rule f) = rules.rules k f is in
-          let in_b : val b (suc n) k ≡ Some v = beneath_val (suc n) k v has agree in
-          let ran : eval b.kind (val c n) f ≡ Ok v = subst (λ q. eval q (val c n) f ≡ Ok v) rules.kind (val_rule c n k f v is has) in
-          let looks : needs c k ≡ firsts (asked (val c n) (asks b.kind f)) = round_needs c n k f v is has ∙ ap (λ q. firsts (asked (val c n) (asks q f))) rules.kind in
-          let same : asked (val b n) (asks b.kind f) ≡ asked (val c n) (asks b.kind f) = same_asked (val c n) (val b n) (asks b.kind f) v ran (λ j w among known.
+      same : content b k ≡ content c k
+      same = agree_here (suc n) k v has agree
+
+      on_item : (o : Option Item) → content c k ≡ o → needs b k ≡ needs c k
+      on_item None is = absurd (no_value c (suc n) k v is has)
+      on_item (Some (input x)) is = no_needs b k x (same ∙ is) ∙ sym (no_needs c k x is)
+      on_item (Some (rule f)) is =
+          let ran : eval b.kind (val c n) f ≡ Ok v = subst (λ q. eval q (val c n) f ≡ Ok v) agree.kind (val_rule c n k f v is has) in
+          let looks : needs c k ≡ firsts (asked (val c n) (asks b.kind f)) = round_needs c n k f v is has ∙ ap (λ q. firsts (asked (val c n) (asks q f))) agree.kind in
+          let alike : asked (val b n) (asks b.kind f) ≡ asked (val c n) (asks b.kind f) = same_asked (val c n) (val b n) (asks b.kind f) v ran (λ j w among known.
           beneath_val n j w known (agree_need n k f is agree j (rw looks (firsts_among (asked (val c n) (asks b.kind f)) j among)))) in
-          let needed : needs b k ≡ needs c k = round_needs b n k f v here in_b ∙ ap firsts same ∙ sym looks in
-          beneath_of_rule n b k f here ∙ ap (gathered (λ j. beneath_in n b j)) needed
-          ∙ gathered_same (λ j. beneath_in n b j) (λ j. beneath_in n c j) (needs c k) (λ j among.
-          let w = round_known c n k f v is has j among in rec j w.0 w.1 (agree_need n k f is agree j among))
-          ∙ sym (beneath_of_rule n c k f is)
+          round_needs b n k f v (same ∙ is) (beneath_val (suc n) k v has agree) ∙ ap firsts alike ∙ sym looks
+
+  -- and what is beneath, inputs and rules alike
+  pub walk_same : (met : Option Item → List ℕ → List (List ℕ) → List (List ℕ)) (n : ℕ) (k : List ℕ) (v : Value) → val c n k ≡ Some v → AgreeBeneath c b n k → walk met n b k ≡ walk met n c k
+  walk_same met zero k v has agree = ap (λ o. met o k []) (agree_here zero k v has agree)
+  walk_same met (suc n) k v has agree =
+      ap (λ o. met o k (gathered (λ j. walk met n b j) (needs b k))) (agree_here (suc n) k v has agree)
+      ∙ ap (met (content c k) k) (ap (gathered (λ j. walk met n b j)) (round_same n k v has agree) ∙ gathered_same (λ j. walk met n b j) (λ j. walk met n c j) (needs c k) (at_need (λ j w known there. walk_same met n j w known there) (content c k) refl))
+    where
+      at_need : ((j : List ℕ) (w : Value) → val c n j ≡ Some w → AgreeBeneath c b n j → walk met n b j ≡ walk met n c j) → (o : Option Item) → content c k ≡ o → (j : List ℕ) → Among (needs c k) j → walk met n b j ≡ walk met n c j
+      at_need rec None is j among = absurd (no_value c (suc n) k v is has)
+      at_need rec (Some (input x)) is j among = absurd (subst (λ ks. Among ks j) (no_needs c k x is) among)
+      at_need rec (Some (rule f)) is j among =
+          let w = round_known c n k f v is has j among in
+          rec j w.0 w.1 (agree_need n k f is agree j among)
+
+-- a round that finds a key's value finds all that is beneath it
+pub walk_stays : (met : Option Item → List ℕ → List (List ℕ) → List (List ℕ)) (b : Book) (n : ℕ) (k : List ℕ) (v : Value) → val b n k ≡ Some v → walk met (suc n) b k ≡ walk met n b k
+walk_stays met b zero k v has = on_item (content b k) refl
+  where
+    on_item : (o : Option Item) → content b k ≡ o → walk met (suc zero) b k ≡ walk met zero b k
+    on_item None is = absurd (no_value b zero k v is has)
+    on_item (Some (input x)) is = ap (λ ks. met (content b k) k (gathered (λ j. walk met zero b j) ks)) (no_needs b k x is)
+    on_item (Some (rule f)) is = absurd (no_value_yet b k f v is has)
+walk_stays met b (suc n) k v has =
+    ap (met (content b k) k) (gathered_same (λ j. walk met (suc n) b j) (λ j. walk met n b j) (needs b k) (at_need (λ j w known. walk_stays met b n j w known) (content b k) refl))
+  where
+    at_need : ((j : List ℕ) (w : Value) → val b n j ≡ Some w → walk met (suc n) b j ≡ walk met n b j) → (o : Option Item) → content b k ≡ o → (j : List ℕ) → Among (needs b k) j → walk met (suc n) b j ≡ walk met n b j
+    at_need rec None is j among = absurd (no_value b (suc n) k v is has)
+    at_need rec (Some (input x)) is j among = absurd (subst (λ ks. Among ks j) (no_needs b k x is) among)
+    at_need rec (Some (rule f)) is j among = let w = round_known b n k f v is has j among in rec j w.0 w.1

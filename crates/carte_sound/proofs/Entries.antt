@@ -36,10 +36,10 @@ same_bool true false is = cc
 same_bool false true is = cc
 same_bool false false is = refl
 
-entry_by : List ℕ → Digest → List (List ℕ) → Bool → Bool → Entry
-entry_by k d ks s t = record { key = k; result = d; needs = ks; stale = s; shallow = t }
+entry_by : List ℕ → Digest → Digest → List (List ℕ) → Bool → Bool → Entry
+entry_by k a d ks s t = record { key = k; task = a; result = d; needs = ks; stale = s; shallow = t }
 
-by_parts : (e f : Entry) → entry_by e.key e.result e.needs e.stale e.shallow ≡ entry_by f.key f.result f.needs f.stale f.shallow → e ≡ f
+by_parts : (e f : Entry) → entry_by e.key e.task e.result e.needs e.stale e.shallow ≡ entry_by f.key f.task f.result f.needs f.stale f.shallow → e ≡ f
 unfolding entry_by
 by_parts e f same = same
 
@@ -47,13 +47,15 @@ by_parts e f same = same
 pub same_entry : (e f : Entry) → entry_eq e f ≡ true → e ≡ f
 same_entry e f is = by_parts e f parts
   where
-    parts : entry_by e.key e.result e.needs e.stale e.shallow ≡ entry_by f.key f.result f.needs f.stale f.shallow
+    parts : entry_by e.key e.task e.result e.needs e.stale e.shallow ≡ entry_by f.key f.task f.result f.needs f.stale f.shallow
     parts =
-        let halves = both_true (name_eq e.key f.key && digest_eq e.result f.result) (names_eq e.needs f.needs && (bool_eq e.stale f.stale && bool_eq e.shallow f.shallow)) is in
-        let front = both_true (name_eq e.key f.key) (digest_eq e.result f.result) halves.0 in
+        let halves = both_true ((name_eq e.key f.key && digest_eq e.task f.task) && digest_eq e.result f.result) (names_eq e.needs f.needs && (bool_eq e.stale f.stale && bool_eq e.shallow f.shallow)) is in
+        let front = both_true (name_eq e.key f.key && digest_eq e.task f.task) (digest_eq e.result f.result) halves.0 in
+        let first = both_true (name_eq e.key f.key) (digest_eq e.task f.task) front.0 in
         let back = both_true (names_eq e.needs f.needs) (bool_eq e.stale f.stale && bool_eq e.shallow f.shallow) halves.1 in
         let marks = both_true (bool_eq e.stale f.stale) (bool_eq e.shallow f.shallow) back.1 in
-        let k : e.key ≡ f.key = same_name e.key f.key front.0 in
+        let k : e.key ≡ f.key = same_name e.key f.key first.0 in
+        let a : e.task ≡ f.task = same_digest e.task f.task first.1 in
         let d : e.result ≡ f.result = same_digest e.result f.result front.1 in
         let ks : e.needs ≡ f.needs = same_names e.needs f.needs back.0 in
         let s : e.stale ≡ f.stale = same_bool e.stale f.stale marks.0 in

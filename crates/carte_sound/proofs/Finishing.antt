@@ -1,11 +1,10 @@
 -- Lists of finished keys that grow at their end.
-use Rattle.std.proofs.Common.{◌≡◌, ◌⊎◌, ℕ, Bool, List, [], ◌∷◌, ◌++◌, refl, ap, ◌∙◌, inl, inr}
+use Rattle.std.proofs.Common.{◌≡◌, ◌⊎◌, ℕ, Bool, List, [], ◌∷◌, ◌++◌, refl, ap, inl, inr}
 use Rattle.carte_value.specs.Truths.{Among}
 use Rattle.carte_book.specs.Book.{Book}
-use Rattle.carte_record.specs.declared.way.Way.TheVariants.{Verifying, Constructive, Deep}
 use Rattle.carte_record.specs.Kept.{SomeKept}
-use Rattle.carte_sound.specs.Held.{How, dirty, tracing}
-use Rattle.carte_sound.specs.Left.{Finishes, keys_of, opened, add, add_all}
+use Rattle.carte_sound.specs.Held.{How}
+use Rattle.carte_sound.specs.Left.{Finishes, keys_of, add, add_all}
 use Rattle.carte_sound.specs.Finished.{IsFinishedAfter, AreFinished}
 use Rattle.carte_sound.proofs.LeftSound.{finished_before}
 
@@ -53,17 +52,6 @@ keys_end (f ∷ fs) k ran = ap (λ ks. f.0 ∷ ks) (keys_end fs k ran)
 pub adds_end : (h : How) (b : Book) (K : SomeKept) (fs : Finishes) (k : List ℕ) (ran : Bool) → add_all h b K (fs ++ (k, ran) ∷ []) ≡ add h b (add_all h b K fs) k ran
 adds_end h b K [] k ran = refl
 adds_end h b K (f ∷ fs) k ran = adds_end h b (add h b K f.0 f.1) fs k ran
-
-opened_add : (h : How) (b : Book) (K : SomeKept) (k : List ℕ) (ran : Bool) → add h b (opened b K) k ran ≡ opened b (add h b K k ran)
-opened_add dirty b K k ran = refl
-opened_add (tracing Verifying) b K k ran = refl
-opened_add (tracing Constructive) b K k ran = refl
-opened_add (tracing Deep) b K k ran = refl
-
--- the rules of the book may be put in before or behind
-pub opened_adds : (h : How) (b : Book) (K : SomeKept) (fs : Finishes) → add_all h b (opened b K) fs ≡ opened b (add_all h b K fs)
-opened_adds h b K [] = refl
-opened_adds h b K (f ∷ fs) = ap (λ L. add_all h b L fs) (opened_add h b K f.0 f.1) ∙ opened_adds h b (add h b K f.0 f.1) fs
 
 -- finished keys leave the chain
 pub adds_chain : (h : How) (b : Book) (K : SomeKept) (fs : Finishes) → (add_all h b K fs).chain ≡ K.chain

@@ -10,6 +10,7 @@ use Rattle.carte_tree.specs.Tree.{Tree}
 use Rattle.carte_tree.specs.Meaning.{asks, eval, fetched}
 use Rattle.carte_book.specs.Book.{Item, input, rule, Book, content, valued, val, rules_of, clean}
 use Rattle.carte_book.specs.Needs.{IsRule, needs, needs_of}
+use Rattle.carte_book.specs.Task.{task_digest_of}
 use Rattle.carte_book.proofs.Clean.{ended, clean_rule, clean_input, clean_nothing, val_clean}
 use Rattle.carte_record.specs.declared.entry.Entry.{Entry}
 use Rattle.carte_record.specs.Kept.{SomeKept, is_fresh}
@@ -32,6 +33,7 @@ pub record IsTrue (K : SomeKept) (b : Book) (k : List ℕ) (e : Entry) : Type 0 
   pub value : Value
   pub ends : clean book k ≡ Some value
   pub key : e.key ≡ k
+  pub task : e.task ≡ task_digest_of b.kind formula
   pub result : e.result ≡ digest_of value
   pub needs : e.needs ≡ fetched b.kind (clean book) formula
   pub seen : (i : List ℕ) (v : Value) → Among e.needs i → content b i ≡ Some (input v) → K.seen i ≡ Some (digest_of v)
@@ -122,6 +124,7 @@ module _ (K : SomeKept) (b : Book) (holds : (k : List ℕ) (e : Entry) → K.ent
     value = t.value;
     clean = fresh_ends k e kept fresh t;
     key = t.key;
+    task = t.task;
     result = t.result;
     needs = fresh_needs k e kept fresh t;
     rules = t.rules;

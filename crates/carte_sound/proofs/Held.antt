@@ -11,20 +11,21 @@ use Rattle.carte_tree.specs.Tree.{Tree}
 use Rattle.carte_tree.specs.Meaning.{asks, eval, fetched}
 use Rattle.carte_book.specs.Book.{rule, Book, content, clean}
 use Rattle.carte_book.specs.Needs.{needs, needs_of}
-use Rattle.carte_book.specs.Digest.{rules_digest_of}
+use Rattle.carte_book.specs.Task.{task_now}
 use Rattle.carte_record.specs.declared.trace.Trace.{Trace}
 use Rattle.carte_record.specs.declared.way.Way.{Way}
 use Rattle.carte_record.specs.declared.way.Way.TheVariants.{Verifying, Constructive}
 use Rattle.carte_record.specs.Kept.{SomeKept}
 use Rattle.carte_value.specs.Lists.{Has}
 use Rattle.carte_sound.specs.Marks.{IsFresh}
-use Rattle.carte_sound.specs.True.{digest_or, links_to, trace_of}
-use Rattle.carte_sound.specs.Sound.{Stood, IsTraceOfSome, IsStored, IsSound}
-use Rattle.carte_sound.specs.Base.{SameRules, HasDistinctDigests, IsBase}
+use Rattle.carte_sound.specs.True.{digest_or, or_none, links_to, trace_of}
+use Rattle.carte_sound.specs.Sound.{IsTraceOfSome, IsStored, IsSound}
+use Rattle.carte_sound.specs.Base.{HasDistinctDigests, IsBase}
 use Rattle.carte_sound.specs.Held.{AreLinks, clean_digest, IsHeldBy}
 use Rattle.carte_sound.specs.Results.{HasResult}
 use Rattle.carte_value.proofs.Agreeing.{same_run, same_asked}
 use Rattle.carte_sound.proofs.Fresh.{clean_ends, ends_clean}
+use Rattle.carte_sound.proofs.Tasks.{own_task, same_task}
 
 pub needs_rule : (b : Book) (k : List ℕ) (f : Tree) → content b k ≡ Some (rule f) → needs b k ≡ fetched b.kind (clean b) f
 needs_rule b k f is = ap (λ o. needs_of o (λ g. fetched b.kind (clean b) g)) is
@@ -92,49 +93,35 @@ stored_value K H sound distinct c in_c k v has d stored is =
     stored.1 ∙ ap Some (distinct.values s.1.book c s.1.name k stored.0 v s.1.stood in_c s.1.clean has (s.0 ∙ is))
 
 module _ (K : SomeKept) (b : Book) (H : List Book) (base : IsBase K b H) where
-  -- a book that stood under the kept rules has the rules of this one
-  pub same_rules : (c : Book) → Stood H K c → SameRules c b
-  same_rules c stood = elim (base.rules) [
-    | inl nothing ↦ let none : K.rules ≡ None = ap (λ (L : SomeKept). L.rules) nothing in let some : K.rules ≡ Some (rules_digest_of c) = stood.rules in cc
-    | inr same ↦
-        let e : rules_digest_of c ≡ rules_digest_of b = (let s : Some (rules_digest_of c) ≡ Some (rules_digest_of b) = sym stood.rules ∙ same in cc) in
-        base.distinct.rules c b stood.stood base.present e
-  ]
-
-  -- and the other way
-  pub same_rules_back : (c : Book) → Stood H K c → SameRules b c
-  same_rules_back c stood = elim (base.rules) [
-    | inl nothing ↦ let none : K.rules ≡ None = ap (λ (L : SomeKept). L.rules) nothing in let some : K.rules ≡ Some (rules_digest_of c) = stood.rules in cc
-    | inr same ↦
-        let e : rules_digest_of b ≡ rules_digest_of c = (let s : Some (rules_digest_of b) ≡ Some (rules_digest_of c) = sym same ∙ stood.rules in cc) in
-        base.distinct.rules b c base.present stood.stood e
-  ]
+  -- a trace whose task the key has now tells of the present rule, in a book of the same kind
+  pub same_rule : (w : Way) (k : List ℕ) (t : Trace) (s : IsTraceOfSome K H w k t) → t.task ≡ or_none (task_now s.book k) → task_now b k ≡ Some t.task → (s.book.kind ≡ b.kind) × (content b k ≡ Some (rule s.trace.formula))
+  same_rule w k t s is now = same_task H base.distinct s.book b s.stood base.present k s.trace.formula s.trace.is_rule (now ∙ ap Some (is ∙ own_task s.book k s.trace.formula s.trace.is_rule))
 
   -- a trace of needs that is held: its result, and its links
-  needs_held : (k : List ℕ) (t : Trace) (s : (w : Way) × IsTraceOfSome K H w k t) → t ≡ trace_of Constructive s.1.book k → IsStored K t.result → AreLinks (clean_digest b) t.links → HasResult K b k t.result × (t.links ≡ links_to (clean b) (needs b k))
-  needs_held k t s is stored are =
+  needs_held : (k : List ℕ) (t : Trace) (s : (w : Way) × IsTraceOfSome K H w k t) → t ≡ trace_of Constructive s.1.book k → IsStored K t.result → task_now b k ≡ Some t.task → AreLinks (clean_digest b) t.links → HasResult K b k t.result × (t.links ≡ links_to (clean b) (needs b k))
+  needs_held k t s is stored task are =
       let c = s.1.book in
       let f = s.1.trace.formula in
       let v = s.1.trace.value in
-      let rules = same_rules c s.1.stood in
-      let rule_b : content b k ≡ Some (rule f) = rules.rules k f s.1.trace.is_rule in
+      let same = same_rule s.0 k t s.1 (ap (λ (x : Trace). x.task) is) task in
+      let rule_b : content b k ≡ Some (rule f) = same.1 in
       let then : AreLinks (clean_digest b) (links_to (clean c) (needs c k)) = subst (λ (x : Trace). AreLinks (clean_digest b) x.links) is are in
-      let now : clean b k ≡ Some v = same_value H base.distinct c b s.1.stood.stood base.present rules.kind k f v s.1.trace.is_rule rule_b s.1.trace.clean then in
+      let now : clean b k ≡ Some v = same_value H base.distinct c b s.1.stood base.present same.0 k f v s.1.trace.is_rule rule_b s.1.trace.clean then in
       let of : t.result ≡ digest_of v = ap (λ (x : Trace). x.result) is ∙ ap digest_or s.1.trace.clean in (
-        record { value = v; clean = now; digest = of; stored = stored_value K H base.sound base.distinct c s.1.stood.stood k v s.1.trace.clean t.result stored of },
-        ap (λ (x : Trace). x.links) is ∙ same_links H base.distinct c b s.1.stood.stood base.present rules.kind k f v s.1.trace.is_rule rule_b s.1.trace.clean then,
+        record { value = v; clean = now; digest = of; stored = stored_value K H base.sound base.distinct c s.1.stood k v s.1.trace.clean t.result stored of },
+        ap (λ (x : Trace). x.links) is ∙ same_links H base.distinct c b s.1.stood base.present same.0 k f v s.1.trace.is_rule rule_b s.1.trace.clean then,
       )
 
   -- a key held by links of its needs
   pub verifying_held : (k : List ℕ) (t : Trace) → IsHeldBy Verifying K b k t → HasResult K b k t.result × (t.links ≡ links_to (clean b) (needs b k))
   verifying_held k t held =
       let s = base.sound.traces Verifying k t held.kept in
-      needs_held k t (Verifying, s) s.trace.trace (base.sound.trace_stored Verifying k t held.kept) held.links
+      needs_held k t (Verifying, s) s.trace.trace (base.sound.trace_stored Verifying k t held.kept) held.task held.links
 
   pub constructive_held : (k : List ℕ) (t : Trace) → IsHeldBy Constructive K b k t → HasResult K b k t.result × (t.links ≡ links_to (clean b) (needs b k))
   constructive_held k t held =
       let s = base.sound.traces Constructive k t held.kept in
-      needs_held k t (Constructive, s) s.trace.trace (base.sound.trace_stored Constructive k t held.kept) held.links
+      needs_held k t (Constructive, s) s.trace.trace (base.sound.trace_stored Constructive k t held.kept) held.task held.links
 
   -- and one that is held by a fresh entry
   pub fresh_result : (k : List ℕ) (f : IsFresh K k) → HasResult K b k f.entry.result

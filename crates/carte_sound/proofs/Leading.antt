@@ -1,26 +1,25 @@
 -- A batch that a build leads to leaves what is kept sound, and what was done kept with its clean value.
-use Rattle.std.proofs.Common.{◌≡◌, ◌⊎◌, ℕ, Bool, true, false, not, cond, filter, List, [], ◌∷◌, ◌++◌, refl, ap, sym, ◌∙◌, inl, inr, subst}
+use Rattle.std.proofs.Common.{◌≡◌, ℕ, Bool, true, false, not, cond, filter, List, [], ◌∷◌, ◌++◌, refl, sym, ◌∙◌, inl, inr, subst}
 use Rattle.carte_value.specs.Truths.{Among, NoneTwice}
 use Rattle.carte_value.proofs.Members.{apart_append}
 use Rattle.carte_book.specs.Book.{Book}
 use Rattle.carte_record.specs.declared.batch.Batch.{Batch}
 use Rattle.carte_record.specs.Folds.{apply, is_among}
 use Rattle.carte_record.specs.declared.way.Way.TheVariants.{Deep}
-use Rattle.carte_record.specs.Kept.{SomeKept, nothing_kept}
-use Rattle.carte_sound.specs.Begun.{AreMarks, begin}
+use Rattle.carte_record.specs.Kept.{SomeKept}
+use Rattle.carte_sound.specs.Begun.{Beginning, IsBeginning, begin}
 use Rattle.carte_sound.specs.Sound.{IsSound}
 use Rattle.carte_sound.specs.Base.{HasDistinctDigests, IsBase}
 use Rattle.carte_sound.specs.Finished.{IsFinishing}
 use Rattle.carte_sound.specs.Held.{How, tracing}
 use Rattle.carte_sound.specs.Marks.{IsFresh}
 use Rattle.carte_sound.specs.Results.{IsKeptNow}
-use Rattle.carte_sound.specs.Left.{Finishes, keys_of, left, opened}
-use Rattle.carte_sound.specs.LeadsTo.{Chaining, chain_behind, Brings, BringsNothing, LeadsTo}
+use Rattle.carte_sound.specs.Left.{Finishes, keys_of, add_all, left}
+use Rattle.carte_sound.specs.LeadsTo.{Chaining, chain_behind, Brings}
 use Rattle.carte_sound.proofs.Tests.{among_tested}
-use Rattle.carte_sound.proofs.Emptied.{empty_applied}
 use Rattle.carte_sound.proofs.Begins.{has_last, behind_sound, begun_base}
 use Rattle.carte_sound.proofs.Finishing.{among_finished}
-use Rattle.carte_sound.proofs.LeftSound.{first_station, stations, left_base}
+use Rattle.carte_sound.proofs.LeftSound.{IsStation, finished_before, first_station, stations, left_base}
 
 -- the new chain names no name twice where the old one and the finished keys don't
 abbrev pub KeepsOnce : Chaining → Type 0
@@ -56,45 +55,42 @@ kept_once ks (j ∷ old) once = on (is_among ks j) (kept_once ks old once.1)
 pub behind_once : KeepsOnce chain_behind
 behind_once ks old once before = apart_append ks (filter (λ k. not (is_among ks k)) old) once (kept_once ks old before) (λ k here there. kept_apart ks old k there here)
 
--- what a build has left that marked and finished what is done, by whatever batches
+-- what a build has left that marked, dropped, and finished what is done, by whatever batches
 pub record HasLeft (h : How) (done : SomeKept → List ℕ → Type 0) (chained : Chaining) (K : SomeKept) (b : Book) (L : SomeKept) : Type 0 where
-  pub marks : List (List ℕ)
-  pub marked : AreMarks K b marks
+  pub begun : Beginning
+  pub begins : IsBeginning K b begun
   pub finished : Finishes
-  pub order : IsFinishing h b (begin K b marks) (done (begin K b marks)) finished
-  pub is : L ≡ left h b (begin K b marks) finished (chained (keys_of finished) (begin K b marks).chain)
-
--- or it did nothing
-abbrev pub Leaves : How → (SomeKept → List ℕ → Type 0) → Chaining → SomeKept → Book → SomeKept → Type 0
-Leaves h done chained K b L = HasLeft h done chained K b L ⊎ ((k : List ℕ) → ¬ (done nothing_kept k))
+  pub order : IsFinishing h b (begin K begun) (done (begin K begun)) finished
+  pub is : L ≡ left h b (begin K begun) finished (chained (keys_of finished) K.chain)
 
 module _ (h : How) (done : SomeKept → List ℕ → Type 0) (chained : Chaining) (K : SomeKept) (H : List Book) (b : Book) (L : SomeKept) (sound : IsSound K H) (distinct : HasDistinctDigests (H ++ b ∷ [])) where
-  pub left_begun : (r : HasLeft h done chained K b L) → IsBase (begin K b r.marks) b (H ++ b ∷ [])
-  left_begun r = begun_base K b (H ++ b ∷ []) r.marks (behind_sound K H (b ∷ []) sound) (has_last H b) distinct r.marked
+  pub left_begun : (r : HasLeft h done chained K b L) → IsBase (begin K r.begun) b (H ++ b ∷ [])
+  left_begun r = begun_base K b (H ++ b ∷ []) r.begun (behind_sound K H (b ∷ []) sound) (has_last H b) distinct r.begins
+
+  left_station : (r : HasLeft h done chained K b L) → IsStation h b (H ++ b ∷ []) (begin K r.begun) (add_all h b (begin K r.begun) r.finished) (finished_before r.finished [])
+  left_station r =
+      let M = begin K r.begun in
+      let base = left_begun r in
+      stations h b (H ++ b ∷ []) M base r.finished M [] (first_station h b (H ++ b ∷ []) M base) r.order.finished
 
   -- what it leaves may be relied on
   pub left_relied : KeepsOnce chained → HasLeft h done chained K b L → IsBase L b (H ++ b ∷ [])
   left_relied once r =
-      let M = begin K b r.marks in
+      let M = begin K r.begun in
       let base = left_begun r in
-      subst (λ N. IsBase N b (H ++ b ∷ [])) (sym r.is) (left_base h b (H ++ b ∷ []) M base r.finished (chained (keys_of r.finished) M.chain)
-      (once (keys_of r.finished) M.chain r.order.once base.sound.chain) r.order.finished)
+      subst (λ N. IsBase N b (H ++ b ∷ [])) (sym r.is) (left_base h b (H ++ b ∷ []) M base r.finished (chained (keys_of r.finished) K.chain)
+      (once (keys_of r.finished) K.chain r.order.once sound.chain) r.order.finished)
 
   -- what was done is kept with its clean value
-  pub left_kept : (r : HasLeft h done chained K b L) → (k : List ℕ) → done (begin K b r.marks) k → IsKeptNow L b k
+  pub left_kept : (r : HasLeft h done chained K b L) → (k : List ℕ) → done (begin K r.begun) k → IsKeptNow L b k
   left_kept r k is_done =
-      let M = begin K b r.marks in
-      let base = left_begun r in
-      let at = stations h b (H ++ b ∷ []) M base r.finished (opened b M) [] (first_station h b (H ++ b ∷ []) M base) r.order.finished in
-      let x = at.kept k (among_finished r.finished [] k (inl (r.order.each k is_done))) in
+      let x = (left_station r).kept k (among_finished r.finished [] k (inl (r.order.each k is_done))) in
       subst (λ N. IsKeptNow N b k) (sym r.is) (record { entry = x.entry; kept = x.kept; result = record { value = x.result.value; clean = x.result.clean; digest = x.result.digest; stored = x.result.stored } })
 
   -- but under deep traces it is fresh
-  pub left_fresh : (r : HasLeft h done chained K b L) → ¬ (h ≡ tracing Deep) → (k : List ℕ) → done (begin K b r.marks) k → IsFresh L k
+  pub left_fresh : (r : HasLeft h done chained K b L) → ¬ (h ≡ tracing Deep) → (k : List ℕ) → done (begin K r.begun) k → IsFresh L k
   left_fresh r shallow k is_done =
-      let M = begin K b r.marks in
-      let base = left_begun r in
-      elim ((stations h b (H ++ b ∷ []) M base r.finished (opened b M) [] (first_station h b (H ++ b ∷ []) M base) r.order.finished).finished) [
+      elim ((left_station r).finished) [
         | inl is_deep ↦ absurd (shallow is_deep)
         | inr all ↦
             let f = all k (among_finished r.finished [] k (inl (r.order.each k is_done))) in
@@ -104,21 +100,13 @@ module _ (h : How) (done : SomeKept → List ℕ → Type 0) (chained : Chaining
 -- one batch
 module _ (h : How) (done : SomeKept → List ℕ → Type 0) (chained : Chaining) (K : SomeKept) (b : Book) (B : Batch) where
   pub brings_left : (r : Brings h done chained K b B) → HasLeft h done chained K b (apply B K)
-  brings_left r = record { marks = r.marks; marked = r.marked; finished = r.finished; order = r.order; is = r.applied }
-
-  pub leads_left : LeadsTo h done chained K b B → Leaves h done chained K b (apply B K)
-  leads_left (inl r) = inl (brings_left r)
-  leads_left (inr r) = inr r.none
-
-pub nothing_brought : (done : SomeKept → List ℕ → Type 0) (K : SomeKept) (H : List Book) (b : Book) (B : Batch) → IsSound K H → BringsNothing done K b B → IsSound (apply B K) (H ++ b ∷ [])
-nothing_brought done K H b B sound r = subst (λ L. IsSound L (H ++ b ∷ [])) (sym (ap (λ C. apply C K) r.empty ∙ empty_applied K)) (behind_sound K H (b ∷ []) sound)
+  brings_left r = record { begun = r.begun; begins = r.begins; finished = r.finished; order = r.order; is = r.applied }
 
 module _ (h : How) (done : SomeKept → List ℕ → Type 0) (chained : Chaining) (K : SomeKept) (H : List Book) (b : Book) (B : Batch) (sound : IsSound K H) (distinct : HasDistinctDigests (H ++ b ∷ [])) where
   -- what it leaves is sound
-  pub leads_sound : KeepsOnce chained → LeadsTo h done chained K b B → IsSound (apply B K) (H ++ b ∷ [])
-  leads_sound once (inl r) = (left_relied h done chained K H b (apply B K) sound distinct once (brings_left h done chained K b B r)).sound
-  leads_sound once (inr r) = nothing_brought done K H b B sound r
+  pub brings_sound : KeepsOnce chained → Brings h done chained K b B → IsSound (apply B K) (H ++ b ∷ [])
+  brings_sound once r = (left_relied h done chained K H b (apply B K) sound distinct once (brings_left h done chained K b B r)).sound
 
-  pub brings_kept : (r : Brings h done chained K b B) → (k : List ℕ) → done (begin K b r.marks) k → IsKeptNow (apply B K) b k
+  pub brings_kept : (r : Brings h done chained K b B) → (k : List ℕ) → done (begin K r.begun) k → IsKeptNow (apply B K) b k
   unfolding brings_left
   brings_kept r k is_done = left_kept h done chained K H b (apply B K) sound distinct (brings_left h done chained K b B r) k is_done

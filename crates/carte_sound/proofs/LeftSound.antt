@@ -6,7 +6,6 @@ use Rattle.carte_value.specs.Spelling.{digest_of}
 use Rattle.carte_value.specs.Truths.{Among, NoneTwice}
 use Rattle.carte_book.specs.Book.{Book, clean}
 use Rattle.carte_book.specs.Needs.{IsRule, needs}
-use Rattle.carte_book.specs.Digest.{rules_digest_of}
 use Rattle.carte_record.specs.declared.way.Way.TheVariants.{Verifying, Constructive, Deep}
 use Rattle.carte_record.specs.Kept.{SomeKept}
 use Rattle.carte_sound.specs.Marks.{IsFresh}
@@ -14,7 +13,7 @@ use Rattle.carte_sound.specs.Sound.{IsStored}
 use Rattle.carte_sound.specs.Base.{IsBase}
 use Rattle.carte_sound.specs.Held.{How, dirty, tracing, IsHeld}
 use Rattle.carte_sound.specs.Results.{IsKeptNow}
-use Rattle.carte_sound.specs.Left.{entry_left, add, opened, Finishes, add_all, left}
+use Rattle.carte_sound.specs.Left.{entry_left, add, Finishes, add_all, left}
 use Rattle.carte_sound.specs.Finished.{RanOrHeld, IsFinishedAfter, AreFinished}
 use Rattle.carte_sound.proofs.Tests.{put_here}
 use Rattle.carte_sound.proofs.Deep.{held_result}
@@ -23,12 +22,11 @@ use Rattle.carte_sound.proofs.Written.{stored_grows}
 use Rattle.carte_sound.proofs.AddedNow.{IsNext, fresh_grows}
 use Rattle.carte_sound.proofs.Added.{added}
 use Rattle.carte_sound.proofs.AddedKept.{kept_here, kept_grows}
-use Rattle.carte_sound.proofs.Rebased.{chained_base, opened_base}
+use Rattle.carte_sound.proofs.Rebased.{chained_base}
 
 -- a build that began with M stands at L, with these keys finished
 pub record IsStation (h : How) (b : Book) (H : List Book) (M L : SomeKept) (before : List (List ℕ)) : Type 0 where
   pub base : IsBase L b H
-  pub rules : L.rules ≡ Some (rules_digest_of b)
   pub stored : (d : Digest) (u : Value) → M.stored d ≡ Some u → L.stored d ≡ Some u
   pub fresh : (j : List ℕ) → IsFresh M j → IsFresh L j
   pub kept : (j : List ℕ) → Among before j → IsKeptNow L b j
@@ -76,12 +74,11 @@ finished_before [] before = before
 finished_before (f ∷ fs) before = finished_before fs (f.0 ∷ before)
 
 module _ (h : How) (b : Book) (H : List Book) (M : SomeKept) (begun : IsBase M b H) where
-  pub first_station : IsStation h b H M (opened b M) []
+  pub first_station : IsStation h b H M M []
   first_station = record {
-    base = opened_base M b H begun;
-    rules = refl;
+    base = begun;
     stored = λ d u is. is;
-    fresh = λ j f. record { entry = f.entry; kept = f.kept; fresh = f.fresh };
+    fresh = λ j f. f;
     kept = λ j among. absurd among;
     finished = inr (λ j among. absurd among);
   }
@@ -89,7 +86,6 @@ module _ (h : How) (b : Book) (H : List Book) (M : SomeKept) (begun : IsBase M b
   may_be_next : (L : SomeKept) (before : List (List ℕ)) (k : List ℕ) (ran : Bool) → IsStation h b H M L before → IsFinishedAfter h b M before k ran → IsNext h b H L k ran
   may_be_next L before k ran at next = record {
     base = at.base;
-    rules = at.rules;
     formula = next.is_rule.0;
     is_rule = next.is_rule.1;
     value = next.clean.0;
@@ -111,7 +107,6 @@ module _ (h : How) (b : Book) (H : List Book) (M : SomeKept) (begun : IsBase M b
       let p = may_be_next L before k ran at next in
       record {
         base = added h b H L k ran p;
-        rules = at.rules;
         stored = λ d u is. stored_grows h b L k ran d u (at.stored d u is);
         fresh = λ j fresh. fresh_grows h b H L k ran p j (at.fresh j fresh);
         kept = λ j among. elim among [
@@ -128,5 +123,5 @@ module _ (h : How) (b : Book) (H : List Book) (M : SomeKept) (begun : IsBase M b
   -- what is left, under a chain without repeats, is sound and true now
   pub left_base : (fs : Finishes) (chain : List (List ℕ)) → NoneTwice chain → AreFinished h b M [] fs → IsBase (left h b M fs chain) b H
   left_base fs chain once are =
-      let at = stations fs (opened b M) [] first_station are in
-      chained_base (add_all h b (opened b M) fs) H chain b at.rules once at.base
+      let at = stations fs M [] first_station are in
+      chained_base (add_all h b M fs) H chain b once at.base

@@ -1,6 +1,8 @@
 pub mod Fresh
 pub mod Tests
+pub mod Tasks
 pub mod Begun
+pub mod ByRole
 pub mod Histories
 pub mod Held
 pub mod Beneath
@@ -15,6 +17,7 @@ pub mod Rebased
 pub mod LeftSound
 pub mod Reached
 pub mod Minimal
+pub mod DeepRules
 pub mod Begins
 pub mod Finishing
 pub mod Emptied

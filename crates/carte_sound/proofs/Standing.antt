@@ -14,22 +14,30 @@ use Rattle.carte_value.specs.Lists.{Has}
 use Rattle.carte_value.specs.Truths.{Among}
 use Rattle.carte_name.specs.Names.{name_cmp}
 use Rattle.carte_tree.specs.Meaning.{eval, fetched}
-use Rattle.carte_tree.specs.Tree.{ref}
+use Rattle.carte_tree.specs.Tree.{Tree, ref}
 use Rattle.carte_book.specs.Book.{Book, Item, clean, content, input, or_default, rule, rules_of, val, valued}
 use Rattle.carte_book.specs.Needs.{IsRule, needs, needs_of}
+use Rattle.carte_book.specs.Task.{task_digest_of, task_now}
 use Rattle.carte_book.proofs.Books.{item_put}
+use Rattle.carte_book.proofs.Tasks.{task_of_rule}
+use Rattle.carte_record.specs.declared.entry.Entry.{Entry}
+use Rattle.carte_record.specs.declared.way.Way.TheVariants.{Verifying, Constructive, Deep}
 use Rattle.carte_record.specs.Folds.{is_among}
 use Rattle.carte_record.specs.Kept.{nothing_kept}
 use Rattle.carte_sound.specs.Base.{HasDistinctDigests, IsBase, SameRules}
-use Rattle.carte_sound.specs.Begun.{AreMarks}
+use Rattle.carte_sound.specs.Begun as dropped
+use Rattle.carte_sound.specs.Begun.{IsGone, IsBeginning, no_change}
 use Rattle.carte_sound.specs.Finished.{AreFinished}
 use Rattle.carte_sound.specs.Held.{How, dirty, tracing, IsHeld}
-use Rattle.carte_sound.specs.Left.{entry_left, opened}
-use Rattle.carte_sound.specs.Marks.{IsMarked, present}
+use Rattle.carte_sound.specs.Left.{entry_left}
+use Rattle.carte_sound.specs.Marks as marks
+use Rattle.carte_sound.specs.Marks.{IsChanged, present}
 use Rattle.carte_sound.specs.Standing.{Stands, left_of_run, standing_book}
 use Rattle.carte_sound.proofs.Histories.{nothing_begun}
 use Rattle.carte_sound.proofs.LeftSound.{left_base}
 use Rattle.carte_sound.proofs.Next.{again_held}
+use Rattle.carte_sound.proofs.Tasks.{own_task}
+use Rattle.carte_sound.proofs.Tests.{put_cases}
 
 abbrev one : Value
 one = Number (pos 1)
@@ -120,10 +128,22 @@ one_of b (inr never) = absurd never
 same_rules : (b c : Book) → b ≡ c → SameRules b c
 same_rules b c is = record { kind = ap (λ (x : Book). x.kind) is; rules = λ q e at. subst (λ (x : Book). content x q ≡ Some (rule e)) is at }
 
+formula_by : (q : List ℕ) (f : Tree) → Holds q → content standing_book q ≡ Some (rule f) → f ≡ ref a
+formula_by q f (the_rule is) at = let both : Some (rule (ref a)) ≡ Some (rule f) = sym is ∙ at in cc
+formula_by q f (the_input is) at = let both : Some (input one) ≡ Some (rule f) = sym is ∙ at in cc
+formula_by q f (nothing is) at = let both : None ≡ Some (rule f) = sym is ∙ at in cc
+
+one_formula : (q : List ℕ) (f : Tree) → content standing_book q ≡ Some (rule f) → f ≡ ref a
+one_formula q f at = formula_by q f (holds q) at
+
 distinct : HasDistinctDigests (standing_book ∷ [])
 distinct = record {
   values = λ b c i j v w has_b has_c of_v of_w same. one_clean b i v has_b of_v ∙ sym (one_clean c j w has_c of_w);
   rules = λ b c has_b has_c same. same_rules b c (one_of b has_b ∙ sym (one_of c has_c));
+  tasks = λ b c i j f g has_b has_c at_b at_c same. (
+    ap (λ (y : Book). y.kind) (one_of b has_b ∙ sym (one_of c has_c)),
+    one_formula i f (subst (λ (y : Book). content y i ≡ Some (rule f)) (one_of b has_b) at_b) ∙ sym (one_formula j g (subst (λ (y : Book). content y j ≡ Some (rule g)) (one_of c has_c) at_c)),
+  );
 }
 
 -- ---- a run of the rule
@@ -152,26 +172,44 @@ runs h = (
   tt,
 )
 
--- ---- nothing is to be marked
+-- ---- nothing is to be marked, and nothing dropped
 
-seen_now : (t : Bool) (p : Option Digest) (d : Digest) → cond t p None ≡ Some d → p ≡ Some d
-seen_now true p d is = is
-seen_now false p d is = cc
+module _ (h : How) where
+  left_base_of : IsBase (left_of_run h standing_book k) standing_book (standing_book ∷ [])
+  left_base_of = left_base h standing_book (standing_book ∷ []) nothing_kept (nothing_begun standing_book (standing_book ∷ []) (inl refl) distinct) ((k, true) ∷ []) [] tt (runs h)
 
-not_marked : (h : How) (q : List ℕ) → IsMarked (left_of_run h standing_book k) standing_book q → ⊥
-not_marked h q marked =
-    marked.changed.differs (seen_now
-    (is_among (entry_left h (opened standing_book nothing_kept) standing_book k).needs marked.name && is_some (present standing_book marked.name))
-    (present standing_book marked.name) marked.changed.digest marked.changed.seen)
+  seen_now : (t : Bool) (p : Option Digest) (d : Digest) → cond t p None ≡ Some d → p ≡ Some d
+  seen_now true p d is = is
+  seen_now false p d is = cc
+
+  now_entry_of : (q : List ℕ) (e : Entry) → (left_of_run h standing_book k).entries q ≡ Some e → task_now standing_book q ≡ Some e.task
+  now_entry_of q e kept = elim (put_cases nothing_kept.entries k (entry_left h nothing_kept standing_book k) q e kept) [
+    | inl new ↦ ap (task_now standing_book) new.0 ∙ task_of_rule standing_book k (ref a) at_rule ∙ ap Some (sym (left_task h)) ∙ ap (λ (y : Entry). Some y.task) new.1
+    | inr before ↦ absurd (let none : None ≡ Some e = before.1 in let no : ⊥ = cc in no)
+  ]
+    where
+      left_task : (h : How) → (entry_left h nothing_kept standing_book k).task ≡ task_digest_of Rules (ref a)
+      left_task dirty = own_task standing_book k (ref a) at_rule
+      left_task (tracing Verifying) = own_task standing_book k (ref a) at_rule
+      left_task (tracing Constructive) = own_task standing_book k (ref a) at_rule
+      left_task (tracing Deep) = own_task standing_book k (ref a) at_rule
+
+  not_changed : (q : List ℕ) → IsChanged (left_of_run h standing_book k) standing_book q → ⊥
+  not_changed q (marks.IsChanged.seen d at differs) = differs (seen_now (is_among (entry_left h nothing_kept standing_book k).needs q && is_some (present standing_book q)) (present standing_book q) d at)
+  not_changed q (marks.IsChanged.task e at differs) = differs (now_entry_of q e at)
+
+  not_gone : (q : List ℕ) → IsGone (left_of_run h standing_book k) standing_book q → ⊥
+  not_gone q (dropped.IsGone.seen d at none) = none (left_base_of.inputs q d at)
+  not_gone q (dropped.IsGone.entry e at none) = none (left_base_of.keys q e at)
 
 nil_rising : IsStrictlySortedBy name_cmp []
 unfolding IsStrictlySortedBy
 nil_rising = tt
 
-unmarked : (h : How) → AreMarks (left_of_run h standing_book k) standing_book []
+unmarked : (h : How) → IsBeginning (left_of_run h standing_book k) standing_book no_change
 unmarked h = record {
-  same = λ is. record { rising = nil_rising; only = λ q never. absurd never; each = λ q marked. not_marked h q marked };
-  other = λ is. refl;
+  marks = record { rising = nil_rising; only = λ q never. absurd never; each = λ q marked. not_changed h marked.name marked.changed };
+  gone = record { rising = nil_rising; only = λ q never. absurd never; each = λ q gone. not_gone h q gone };
 }
 
 pub stands : (h : How) → Stands h standing_book (codes "b")
@@ -181,7 +219,7 @@ stands h =
       is_rule = (ref a, at_rule);
       distinct = distinct;
       runs = runs h;
-      sound = (left_base h standing_book (standing_book ∷ []) nothing_kept begun ((k, true) ∷ []) [] tt (runs h)).sound;
+      sound = (left_base_of h).sound;
       unmarked = unmarked h;
-      held = again_held standing_book (standing_book ∷ []) nothing_kept begun h ((k, true) ∷ []) [] tt (runs h) [] (unmarked h) k (inl refl);
+      held = again_held standing_book (standing_book ∷ []) nothing_kept begun h ((k, true) ∷ []) [] tt (runs h) no_change (unmarked h) k (inl refl);
     }

@@ -40,25 +40,27 @@ same_links (l ∷ ls) (m ∷ ms) is =
     let later : ls ≡ ms = same_links ls ms both.1 in
     cc
 
-trace_by : List ℕ → List Link → Digest → Trace
-trace_by k ls d = record { key = k; links = ls; result = d }
+trace_by : List ℕ → Digest → List Link → Digest → Trace
+trace_by k a ls d = record { key = k; task = a; links = ls; result = d }
 
-trace_parts : (s t : Trace) → trace_by s.key s.links s.result ≡ trace_by t.key t.links t.result → s ≡ t
+trace_parts : (s t : Trace) → trace_by s.key s.task s.links s.result ≡ trace_by t.key t.task t.links t.result → s ≡ t
 unfolding trace_by
 trace_parts s t same = same
 
 -- traces with the same parts are the same
-pub same_parts : (s t : Trace) → s.key ≡ t.key → s.links ≡ t.links → s.result ≡ t.result → s ≡ t
-same_parts s t key links result = trace_parts s t (cc)
+pub same_parts : (s t : Trace) → s.key ≡ t.key → s.task ≡ t.task → s.links ≡ t.links → s.result ≡ t.result → s ≡ t
+same_parts s t key task links result = trace_parts s t (cc)
 
 pub same_trace : (s t : Trace) → trace_eq s t ≡ true → s ≡ t
 same_trace s t is =
-    let both = both_true (name_eq s.key t.key && digest_eq s.result t.result) (links_eq s.links t.links) is in
-    let front = both_true (name_eq s.key t.key) (digest_eq s.result t.result) both.0 in
-    let k : s.key ≡ t.key = same_name s.key t.key front.0 in
+    let both = both_true ((name_eq s.key t.key && digest_eq s.task t.task) && digest_eq s.result t.result) (links_eq s.links t.links) is in
+    let front = both_true (name_eq s.key t.key && digest_eq s.task t.task) (digest_eq s.result t.result) both.0 in
+    let first = both_true (name_eq s.key t.key) (digest_eq s.task t.task) front.0 in
+    let k : s.key ≡ t.key = same_name s.key t.key first.0 in
+    let a : s.task ≡ t.task = same_digest s.task t.task first.1 in
     let d : s.result ≡ t.result = same_digest s.result t.result front.1 in
     let ls : s.links ≡ t.links = same_links s.links t.links both.1 in
-    same_parts s t k ls d
+    same_parts s t k a ls d
 
 filter_has : (p : Trace → Bool) (ts : List Trace) (t : Trace) → p t ≡ true → Has ts t → Has (filter p ts) t
 filter_has p [] t passes there = absurd there

@@ -10,8 +10,8 @@ use Rattle.carte_record.specs.Kept.{SomeKept, is_fresh, staled}
 use Rattle.carte_sound.specs.True.{shallow_entry}
 use Rattle.carte_sound.specs.Held.{How, dirty, tracing}
 use Rattle.carte_sound.specs.Left.{fresh_or, entry_left, Finishes, keys_of, add, add_all}
-use Rattle.carte_sound.specs.LeadsTo.{marks_left}
-use Rattle.carte_sound.proofs.Tests.{name_self, eq_or_apart, put_cases, fresh_parts}
+use Rattle.std.specs.Option.{option_or}
+use Rattle.carte_sound.proofs.Tests.{name_self, apart_name, eq_or_apart, put_there, put_cases, fresh_parts}
 use Rattle.carte_sound.proofs.LeftSound.{finished_before}
 
 -- an entry of the key, if there is one, isn't stale
@@ -73,13 +73,29 @@ among_filtered p (m ∷ ms) q = elim (eq_or_apart m q) [
     there true apart later = rw apart later
     there false apart later = rw apart later
 
--- where the batch brings no entry of a key, its mark is carried, or it has no entry that could be marked
-pub marks_same : (fs : Finishes) (ms : List (List ℕ)) (q : List ℕ) (o left : Option Entry) → (is_among (keys_of fs) q ≡ true → (e : Entry) → left ≡ Some e → e.stale ≡ false) → left ≡ option_map (staled (is_among ms q)) o → option_map (staled (is_among (marks_left fs ms) q)) o ≡ left
-marks_same fs ms q o left unstale is =
-    ap (λ x. option_map (staled x) o) (among_filtered (λ k. not (is_among (keys_of fs) k)) ms q) ∙ on_tests (is_among ms q) (is_among (keys_of fs) q) o unstale is
+-- a key that isn't finished keeps its entry
+pub unfinished_entry : (h : How) (b : Book) (fs : Finishes) (L : SomeKept) (q : List ℕ) → is_among (keys_of fs) q ≡ false → (add_all h b L fs).entries q ≡ L.entries q
+unfinished_entry h b [] L q none = refl
+unfinished_entry h b (f ∷ fs) L q none =
+    let parts = both_false (name_eq f.0 q) (is_among (keys_of fs) q) none in
+    unfinished_entry h b fs (add h b L f.0 f.1) q parts.1
+    ∙ put_there L.entries f.0 (entry_left h L b f.0) q (apart_name q f.0 (λ same. let t : name_eq f.0 q ≡ true = ap (name_eq f.0) same ∙ name_self f.0 in let e : name_eq f.0 q ≡ false = parts.0 in cc))
   where
-    on_tests : (m k : Bool) (o : Option Entry) → (k ≡ true → (e : Entry) → left ≡ Some e → e.stale ≡ false) → left ≡ option_map (staled m) o → option_map (staled (m && not k)) o ≡ left
-    on_tests false k o unstale is = sym is
-    on_tests true false o unstale is = sym is
-    on_tests true true None unstale is = sym is
-    on_tests true true (Some e) unstale is = let fresh : true ≡ false = unstale refl (staled true e) is in cc
+    both_false : (x y : Bool) → (x || y) ≡ false → (x ≡ false) × (y ≡ false)
+    both_false true y is = cc
+    both_false false y is = (refl, is)
+
+-- Of one key: g says that it is dropped, m that it is marked and k that it is finished. An entry that the batch brings has no mark of the batch, and where
+-- it brings none, the mark is carried or there is no entry that could be marked.
+pub mark_carried : (g m k : Bool) (brought o left : Option Entry) → (k ≡ true → (e : Entry) → left ≡ Some e → e.stale ≡ false) → (k ≡ false → left ≡ cond g None (option_map (staled m) o)) → ((e : Entry) → brought ≡ Some e → ¬ (cond g None (option_map (staled m) o) ≡ Some e))
+    → left ≡ option_or brought (cond g None (option_map (staled m) o)) → option_map (staled (m && (not g && not k))) (option_or brought (cond g None o)) ≡ left
+mark_carried g false k (Some e) o left unstale keeps differs is = sym is
+mark_carried true true k (Some e) o left unstale keeps differs is = sym is
+mark_carried false true true (Some e) o left unstale keeps differs is = sym is
+mark_carried false true false (Some e) o left unstale keeps differs is = absurd (differs e refl (sym (keeps refl) ∙ is))
+mark_carried true false k None o left unstale keeps differs is = sym is
+mark_carried true true k None o left unstale keeps differs is = sym is
+mark_carried false false k None o left unstale keeps differs is = sym is
+mark_carried false true false None o left unstale keeps differs is = sym is
+mark_carried false true true None None left unstale keeps differs is = sym is
+mark_carried false true true None (Some e) left unstale keeps differs is = let fresh : true ≡ false = unstale refl (staled true e) is in cc

@@ -11,6 +11,7 @@ use Rattle.carte_record.specs.declared.way.Way.{Way}
 use Rattle.carte_record.specs.declared.way.Way.TheVariants.{Verifying, Constructive, Deep}
 use Rattle.carte_value.specs.Lists.{Has}
 use Rattle.carte_sound.specs.Marks.{present, IsFresh}
+use Rattle.carte_sound.specs.True.{wanted_task}
 
 -- how a build tells what has changed: by the marks of entries, or by traces of one kind
 pub data How : Type 0 where
@@ -39,6 +40,7 @@ IsTrusted Deep K k t = Unit {0}
 
 pub record IsHeldBy (w : Way) (K : SomeKept) (b : Book) (k : List ℕ) (t : Trace) : Type 0 where
   pub kept : Has (K.traces w k) t
+  pub task : wanted_task w b k ≡ Some t.task
   pub links : AreLinks (digest_now w b) t.links
   pub trusted : IsTrusted w K k t
 

@@ -1,16 +1,15 @@
 -- The batches that a build may commit.
-use Rattle.std.specs.Prelude.{ℕ, ◌≡◌, ◌⊎◌, ◌&&◌, false, not, List, [], ◌∷◌, ◌++◌, None, filter, if◌then◌else◌}
+use Rattle.std.specs.Prelude.{ℕ, ◌≡◌, ◌&&◌, false, not, List, [], ◌∷◌, ◌++◌, None, filter, if◌then◌else◌}
 use Rattle.carte_book.specs.Book.{Book}
-use Rattle.carte_book.specs.Digest.{rules_digest_of}
 use Rattle.carte_record.specs.declared.batch.Batch.{Batch}
 use Rattle.carte_record.specs.declared.entry.Entry.{Entry}
-use Rattle.carte_record.specs.declared.start.Start.TheVariants.{GoOn, Anew}
+use Rattle.carte_record.specs.declared.start.Start.TheVariants.{GoOn}
 use Rattle.carte_record.specs.declared.trace.Trace.{Trace}
 use Rattle.carte_record.specs.declared.way.Way.{Way}
 use Rattle.carte_record.specs.Folds.{is_among, batch_traces, apply}
-use Rattle.carte_record.specs.Kept.{SomeKept, nothing_kept}
+use Rattle.carte_record.specs.Kept.{SomeKept}
 use Rattle.carte_value.specs.Lists.{Has}
-use Rattle.carte_sound.specs.Begun.{has_rules_of, begin, AreMarks}
+use Rattle.carte_sound.specs.Begun.{Beginning, IsBeginning, begin}
 use Rattle.carte_sound.specs.True.{trace_of}
 use Rattle.carte_sound.specs.Held.{How}
 use Rattle.carte_sound.specs.Left.{is_way, Finishes, keys_of, left}
@@ -19,16 +18,16 @@ use Rattle.carte_sound.specs.Treated.{IsDoneInOrder, IsDoneSuspending, IsDoneRes
 use Rattle.carte_sound.specs.Carries.{Carries}
 
 abbrev pub empty_batch : Batch
-empty_batch = record { start = GoOn; values = []; seen = []; stale = []; entries = []; verifying = []; constructive = []; deep = []; chain = None }
+empty_batch = record { start = GoOn; values = []; gone = []; seen = []; entries = []; stale = []; verifying = []; constructive = []; deep = []; chain = None }
 
 -- of each key that ran one trace, in the order in which the keys were finished
 abbrev pub traces_made : How → Book → Finishes → Way → List Trace
 traces_made h b [] w = []
 traces_made h b (f ∷ fs) w = if f.1 && is_way h w then trace_of w b f.0 ∷ traces_made h b fs w else traces_made h b fs w
 
--- the new marks but those of keys that are finished
-abbrev pub marks_left : Finishes → List (List ℕ) → List (List ℕ)
-marks_left fs ms = filter (λ k. not (is_among (keys_of fs) k)) ms
+-- the new marks but those of keys that are dropped or finished
+abbrev pub marks_left : Finishes → Beginning → List (List ℕ)
+marks_left fs x = filter (λ k. not (is_among x.gone k) && not (is_among (keys_of fs) k)) x.marks
 
 -- how a build's finished keys and the old chain make the new one: it stays, or they come first
 abbrev pub Chaining : Type 0
@@ -40,48 +39,32 @@ chain_stays ks old = old
 abbrev pub chain_behind : Chaining
 chain_behind ks old = ks ++ filter (λ k. not (is_among ks k)) old
 
--- A build marks, finishes what is done in some order, and brings just what is new by that. What is done is told over what it begins with.
+-- A build marks and drops, finishes what is done in some order, and brings just what is new by that. What is done is told over what it begins with.
 pub record Brings (h : How) (done : SomeKept → List ℕ → Type 0) (chained : Chaining) (K : SomeKept) (b : Book) (B : Batch) : Type 0 where
-  pub marks : List (List ℕ)
-  pub marked : AreMarks K b marks
+  pub begun : Beginning
+  pub begins : IsBeginning K b begun
   pub finished : Finishes
-  pub order : IsFinishing h b (begin K b marks) (done (begin K b marks)) finished
-  pub something : has_rules_of K b ≡ false → ¬ (finished ≡ [])
-  pub start : B.start ≡ (if has_rules_of K b then GoOn else Anew (rules_digest_of b))
-  pub stale : B.stale ≡ marks_left finished marks
+  pub order : IsFinishing h b (begin K begun) (done (begin K begun)) finished
+  pub start : B.start ≡ GoOn
+  pub gone : B.gone ≡ begun.gone
+  pub stale : B.stale ≡ marks_left finished begun
   pub traces : (w : Way) → batch_traces w B ≡ traces_made h b finished w
   pub unmarked : (e : Entry) → Has B.entries e → e.stale ≡ false
-  pub carries : Carries b (begin K b marks) (left h b (begin K b marks) finished (chained (keys_of finished) (begin K b marks).chain)) B
-  pub applied : apply B K ≡ left h b (begin K b marks) finished (chained (keys_of finished) (begin K b marks).chain)
-
--- where the rules are others and nothing is done it brings nothing, and all stays as it is
-pub record BringsNothing (done : SomeKept → List ℕ → Type 0) (K : SomeKept) (b : Book) (B : Batch) : Type 0 where
-  pub other : has_rules_of K b ≡ false
-  pub none : (k : List ℕ) → ¬ (done nothing_kept k)
-  pub empty : B ≡ empty_batch
-
--- what a build that does what is done leads to
-abbrev pub LeadsTo : How → (SomeKept → List ℕ → Type 0) → Chaining → SomeKept → Book → Batch → Type 0
-LeadsTo h done chained K b B = Brings h done chained K b B ⊎ BringsNothing done K b B
+  pub carries : Carries b (begin K begun) (left h b (begin K begun) finished (chained (keys_of finished) K.chain)) B
+  pub applied : apply B K ≡ left h b (begin K begun) finished (chained (keys_of finished) K.chain)
 
 -- where rules are ordered before any is worked out: what is reached is done
 abbrev pub LeadsInOrder : How → SomeKept → Book → List (List ℕ) → Batch → Type 0
-LeadsInOrder h K b targets B = LeadsTo h (λ M k. IsDoneInOrder b targets k) chain_stays K b B
+LeadsInOrder h K b targets B = Brings h (λ M k. IsDoneInOrder b targets k) chain_stays K b B
 
 -- and nothing where the build is refused then
 abbrev pub LeadsRefused : How → SomeKept → Book → Batch → Type 0
-LeadsRefused h K b B = LeadsTo h (λ M k. ⊥) chain_stays K b B
+LeadsRefused h K b B = Brings h (λ M k. ⊥) chain_stays K b B
 
 -- where a rule waits for what it needs: what is treated over what the build begins with
-abbrev pub BringsSuspending : How → SomeKept → Book → List (List ℕ) → Batch → Type 0
-BringsSuspending h K b targets B = Brings h (λ M k. IsDoneSuspending h M b targets k) chain_stays K b B
-
 abbrev pub LeadsSuspending : How → SomeKept → Book → List (List ℕ) → Batch → Type 0
-LeadsSuspending h K b targets B = LeadsTo h (λ M k. IsDoneSuspending h M b targets k) chain_stays K b B
+LeadsSuspending h K b targets B = Brings h (λ M k. IsDoneSuspending h M b targets k) chain_stays K b B
 
 -- where a rule is begun anew once what it needs is done: the finished keys come before the old chain
-abbrev pub BringsRestarting : How → SomeKept → Book → List (List ℕ) → Batch → Type 0
-BringsRestarting h K b targets B = Brings h (λ M k. IsDoneRestarting h M b targets k) chain_behind K b B
-
 abbrev pub LeadsRestarting : How → SomeKept → Book → List (List ℕ) → Batch → Type 0
-LeadsRestarting h K b targets B = LeadsTo h (λ M k. IsDoneRestarting h M b targets k) chain_behind K b B
+LeadsRestarting h K b targets B = Brings h (λ M k. IsDoneRestarting h M b targets k) chain_behind K b B

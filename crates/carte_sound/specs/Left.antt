@@ -4,7 +4,6 @@ use Rattle.carte_value.specs.declared.digest.Digest.{Digest}
 use Rattle.carte_value.specs.declared.value.Value.{Value}
 use Rattle.carte_name.specs.Names.{name_eq}
 use Rattle.carte_book.specs.Book.{Book, clean}
-use Rattle.carte_book.specs.Digest.{rules_digest_of}
 use Rattle.carte_record.specs.Folds.{is_among}
 use Rattle.carte_record.specs.Kept.{SomeKept, put_at, newest, is_fresh}
 use Rattle.carte_table.specs.Lookups.{digest_eq}
@@ -37,7 +36,7 @@ bool_eq true c = c
 bool_eq false c = not c
 
 abbrev pub entry_eq : Entry → Entry → Bool
-entry_eq e f = (name_eq e.key f.key && digest_eq e.result f.result) && (names_eq e.needs f.needs && (bool_eq e.stale f.stale && bool_eq e.shallow f.shallow))
+entry_eq e f = ((name_eq e.key f.key && digest_eq e.task f.task) && digest_eq e.result f.result) && (names_eq e.needs f.needs && (bool_eq e.stale f.stale && bool_eq e.shallow f.shallow))
 
 -- whether the entry is kept as it is, so that it isn't written
 abbrev pub is_kept : Option Entry → Entry → Bool
@@ -61,17 +60,12 @@ or_first (Some v) o = Some v
 -- one finished key more, that ran or was held: its entry, where that is written the inputs that it names, and if it ran its trace and its value
 abbrev pub add : How → Book → SomeKept → List ℕ → Bool → SomeKept
 add h b K k ran = record {
-  rules = K.rules;
   seen = λ q. if is_kept (K.entries k) (entry_left h K b k) then K.seen q else seen_left K.seen b (entry_left h K b k).needs q;
   entries = put_at K.entries k (entry_left h K b k);
   traces = λ w q. if (ran && is_way h w) && name_eq q k then newest (trace_of w b k) (K.traces w q) else K.traces w q;
   chain = K.chain;
   stored = λ d. if ran && digest_eq d (digest_or (clean b k)) then or_first (K.stored d) (clean b k) else K.stored d;
 }
-
--- what is kept, under the rules of a book
-abbrev pub opened : Book → SomeKept → SomeKept
-opened b K = record K { rules = Some (rules_digest_of b) }
 
 -- finished keys, each with whether it ran
 abbrev pub Finishes : Type 0
@@ -87,4 +81,4 @@ add_all h b K (f ∷ fs) = add_all h b (add h b K f.0 f.1) fs
 
 -- what is left of what a build begins with, by its finished keys in their order and the new chain
 abbrev pub left : How → Book → SomeKept → Finishes → List (List ℕ) → SomeKept
-left h b K fs chain = record (add_all h b (opened b K) fs) { chain = chain }
+left h b K fs chain = record (add_all h b K fs) { chain = chain }

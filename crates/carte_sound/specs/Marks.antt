@@ -1,9 +1,10 @@
--- Which keys a changed input makes stale.
-use Rattle.std.specs.Prelude.{ℕ, ◌≡◌, true, false, List, Option, Some, None}
+-- Which keys a changed name makes stale.
+use Rattle.std.specs.Prelude.{ℕ, ◌≡◌, ◌⊎◌, true, false, List, Option, Some, None}
 use Rattle.carte_value.specs.declared.digest.Digest.{Digest}
 use Rattle.carte_value.specs.Spelling.{digest_of}
 use Rattle.carte_value.specs.Truths.{Among}
 use Rattle.carte_book.specs.Book.{Item, input, rule, Book, content}
+use Rattle.carte_book.specs.Task.{task_now}
 use Rattle.carte_record.specs.Kept.{SomeKept, is_fresh}
 use Rattle.carte_record.specs.declared.entry.Entry.{Entry}
 
@@ -27,17 +28,20 @@ digest_in (Some (rule e)) = None
 abbrev pub present : Book → List ℕ → Option Digest
 present b k = digest_in (content b k)
 
--- it was seen with a digest that it hasn't now
-pub record IsChanged (K : SomeKept) (b : Book) (k : List ℕ) : Type 0 where
-  pub digest : Digest
-  pub seen : K.seen k ≡ Some digest
-  pub differs : ¬ (present b k ≡ Some digest)
+-- it was seen with a digest that it hasn't now, or its entry has a task that it hasn't now
+pub data IsChanged (K : SomeKept) (b : Book) (k : List ℕ) : Type 0 where
+  seen : (d : Digest) → K.seen k ≡ Some d → ¬ (present b k ≡ Some d) → IsChanged K b k
+  task : (e : Entry) → K.entries k ≡ Some e → ¬ (task_now b k ≡ Some e.task) → IsChanged K b k
 
--- a key with an entry that isn't stale yet and leads to a changed name
+-- the name itself, or one that it leads to
+abbrev pub Comes : SomeKept → List ℕ → List ℕ → Type 0
+Comes K k j = (j ≡ k) ⊎ Leads K k j
+
+-- a key with an entry that isn't stale yet, that is changed or leads to a changed name
 pub record IsMarked (K : SomeKept) (b : Book) (k : List ℕ) : Type 0 where
   pub entry : Entry
   pub kept : K.entries k ≡ Some entry
   pub unmarked : entry.stale ≡ false
   pub name : List ℕ
-  pub leads : Leads K k name
+  pub leads : Comes K k name
   pub changed : IsChanged K b name

@@ -1,23 +1,21 @@
 -- The batches that a build may commit one after another, each with a part of the keys that it finished.
-use Rattle.std.specs.Prelude.{ℕ, ◌≡◌, ◌⊎◌, ◌<◌, ◌≤◌, false, List, [], ◌∷◌, ◌++◌, length, if◌then◌else◌}
+use Rattle.std.specs.Prelude.{ℕ, ◌≡◌, ◌<◌, ◌≤◌, false, List, [], ◌∷◌, ◌++◌, length}
 use Rattle.std.specs.List.{flat_map}
 use Rattle.carte_book.specs.Book.{Book}
-use Rattle.carte_book.specs.Digest.{rules_digest_of}
 use Rattle.carte_record.specs.declared.batch.Batch.{Batch}
 use Rattle.carte_record.specs.declared.entry.Entry.{Entry}
-use Rattle.carte_record.specs.declared.start.Start.{Start}
-use Rattle.carte_record.specs.declared.start.Start.TheVariants.{GoOn, Anew}
+use Rattle.carte_record.specs.declared.start.Start.TheVariants.{GoOn}
 use Rattle.carte_record.specs.declared.way.Way.{Way}
 use Rattle.carte_record.specs.Folds.{batch_traces, apply}
 use Rattle.carte_record.specs.Kept.{SomeKept}
 use Rattle.carte_value.specs.Lists.{Has}
-use Rattle.carte_sound.specs.Begun.{has_rules_of, begin, AreMarks}
+use Rattle.carte_sound.specs.Begun.{Beginning, IsBeginning, begin, no_change}
 use Rattle.carte_sound.specs.Held.{How}
 use Rattle.carte_sound.specs.Left.{Finishes, keys_of, left}
 use Rattle.carte_sound.specs.Finished.{IsFinishing}
 use Rattle.carte_sound.specs.Treated.{IsDoneInOrder, IsDoneSuspending, IsDoneRestarting}
 use Rattle.carte_sound.specs.Carries.{Carries}
-use Rattle.carte_sound.specs.LeadsTo.{Chaining, chain_stays, chain_behind, marks_left, traces_made, BringsNothing}
+use Rattle.carte_sound.specs.LeadsTo.{Chaining, chain_stays, chain_behind, marks_left, traces_made}
 
 -- so many keys are a full part
 abbrev pub full_part : ℕ
@@ -39,56 +37,46 @@ abbrev pub later_chain : {A : Type 0} → List (List ℕ) → List (List ℕ) �
 later_chain old new [] = new
 later_chain old new (x ∷ xs) = old
 
--- what the keys of a part bring besides those that were finished before, with this start and the marks of none of them
-pub record IsOfPart (h : How) (b : Book) (M : SomeKept) (before part : Finishes) (chain : List (List ℕ)) (start : Start) (marks : List (List ℕ)) (B : Batch) : Type 0 where
-  pub starts : B.start ≡ start
-  pub stale : B.stale ≡ marks_left part marks
+-- what the keys of a part bring besides those that were finished before, with these marks but those of its keys, and these names dropped
+pub record IsOfPart (h : How) (b : Book) (M : SomeKept) (before part : Finishes) (chain : List (List ℕ)) (x : Beginning) (B : Batch) : Type 0 where
+  pub starts : B.start ≡ GoOn
+  pub gone : B.gone ≡ x.gone
+  pub stale : B.stale ≡ marks_left part x
   pub traces : (w : Way) → batch_traces w B ≡ traces_made h b part w
   pub unmarked : (e : Entry) → Has B.entries e → e.stale ≡ false
   pub carries : Carries b (left h b M before M.chain) (left h b M (before ++ part) chain) B
 
--- a batch for each part: the first has the start and the marks, and the last the chain
-abbrev pub AreOfParts : How → Book → SomeKept → List (List ℕ) → Finishes → Start → List (List ℕ) → List Finishes → List Batch → Type 0
-AreOfParts h b M chain before start marks [] [] = Unit {0}
-AreOfParts h b M chain before start marks [] (B ∷ Bs) = ⊥
-AreOfParts h b M chain before start marks (part ∷ parts) [] = ⊥
-AreOfParts h b M chain before start marks (part ∷ parts) (B ∷ Bs) =
-    IsOfPart h b M before part (later_chain M.chain chain parts) start marks B
-    × AreOfParts h b M chain (before ++ part) GoOn [] parts Bs
+-- a batch for each part: the first has the marks and the dropped names, and the last the chain
+abbrev pub AreOfParts : How → Book → SomeKept → List (List ℕ) → Finishes → Beginning → List Finishes → List Batch → Type 0
+AreOfParts h b M chain before x [] [] = Unit {0}
+AreOfParts h b M chain before x [] (B ∷ Bs) = ⊥
+AreOfParts h b M chain before x (part ∷ parts) [] = ⊥
+AreOfParts h b M chain before x (part ∷ parts) (B ∷ Bs) =
+    IsOfPart h b M before part (later_chain M.chain chain parts) x B
+    × AreOfParts h b M chain (before ++ part) no_change parts Bs
 
--- A build marks, finishes what is done in some order, and brings just what is new by that, part by part.
+-- A build marks and drops, finishes what is done in some order, and brings just what is new by that, part by part.
 pub record BringsParts (h : How) (done : SomeKept → List ℕ → Type 0) (chained : Chaining) (K : SomeKept) (b : Book) (Bs : List Batch) : Type 0 where
-  pub marks : List (List ℕ)
-  pub marked : AreMarks K b marks
+  pub begun : Beginning
+  pub begins : IsBeginning K b begun
   pub finished : Finishes
-  pub order : IsFinishing h b (begin K b marks) (done (begin K b marks)) finished
-  pub something : has_rules_of K b ≡ false → ¬ (finished ≡ [])
+  pub order : IsFinishing h b (begin K begun) (done (begin K begun)) finished
   pub parts : List Finishes
   pub are_parts : AreParts finished parts
-  pub batches : AreOfParts h b (begin K b marks) (chained (keys_of finished) (begin K b marks).chain) [] (if has_rules_of K b then GoOn else Anew (rules_digest_of b)) marks parts Bs
-
--- where the rules are others and nothing is done, one batch that brings nothing
-pub record BringsNoPart (done : SomeKept → List ℕ → Type 0) (K : SomeKept) (b : Book) (Bs : List Batch) : Type 0 where
-  pub batch : Batch
-  pub one : Bs ≡ batch ∷ []
-  pub nothing : BringsNothing done K b batch
-
--- what a build that does what is done leads to, part by part
-abbrev pub PartsTo : How → (SomeKept → List ℕ → Type 0) → Chaining → SomeKept → Book → List Batch → Type 0
-PartsTo h done chained K b Bs = BringsParts h done chained K b Bs ⊎ BringsNoPart done K b Bs
+  pub batches : AreOfParts h b (begin K begun) (chained (keys_of finished) K.chain) [] begun parts Bs
 
 -- by each way in which a build goes
 abbrev pub PartsInOrder : How → SomeKept → Book → List (List ℕ) → List Batch → Type 0
-PartsInOrder h K b targets Bs = PartsTo h (λ M k. IsDoneInOrder b targets k) chain_stays K b Bs
+PartsInOrder h K b targets Bs = BringsParts h (λ M k. IsDoneInOrder b targets k) chain_stays K b Bs
 
 abbrev pub PartsRefused : How → SomeKept → Book → List Batch → Type 0
-PartsRefused h K b Bs = PartsTo h (λ M k. ⊥) chain_stays K b Bs
+PartsRefused h K b Bs = BringsParts h (λ M k. ⊥) chain_stays K b Bs
 
 abbrev pub PartsSuspending : How → SomeKept → Book → List (List ℕ) → List Batch → Type 0
-PartsSuspending h K b targets Bs = PartsTo h (λ M k. IsDoneSuspending h M b targets k) chain_stays K b Bs
+PartsSuspending h K b targets Bs = BringsParts h (λ M k. IsDoneSuspending h M b targets k) chain_stays K b Bs
 
 abbrev pub PartsRestarting : How → SomeKept → Book → List (List ℕ) → List Batch → Type 0
-PartsRestarting h K b targets Bs = PartsTo h (λ M k. IsDoneRestarting h M b targets k) chain_behind K b Bs
+PartsRestarting h K b targets Bs = BringsParts h (λ M k. IsDoneRestarting h M b targets k) chain_behind K b Bs
 
 -- what is kept behind batches
 abbrev pub applied : SomeKept → List Batch → SomeKept

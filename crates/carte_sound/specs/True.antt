@@ -8,6 +8,8 @@ use Rattle.carte_value.specs.Truths.{Truth}
 use Rattle.carte_tree.specs.Tree.{Tree}
 use Rattle.carte_book.specs.Book.{rule, Book, content, clean}
 use Rattle.carte_book.specs.Needs.{needs}
+use Rattle.carte_book.specs.Digest.{rules_digest_of}
+use Rattle.carte_book.specs.Task.{task_digest_of, task_now}
 use Rattle.carte_record.specs.declared.entry.Entry.{Entry}
 use Rattle.carte_record.specs.declared.trace.Trace.{Trace}
 use Rattle.carte_record.specs.declared.way.Way.{Way}
@@ -29,17 +31,27 @@ linked Verifying b k = needs b k
 linked Constructive b k = needs b k
 linked Deep b k = beneath b k
 
+abbrev pub or_none : Option Digest → Digest
+or_none None = record { 0 = [] }
+or_none (Some d) = d
+
+-- the digest of the task that a trace of a rule must have: of the rule's own, and of a deep one of all rules
+abbrev pub wanted_task : Way → Book → List ℕ → Option Digest
+wanted_task Verifying b k = task_now b k
+wanted_task Constructive b k = task_now b k
+wanted_task Deep b k = Some (rules_digest_of b)
+
 -- the trace of a rule with a clean value
 abbrev pub trace_of : Way → Book → List ℕ → Trace
-trace_of w b k = record { key = k; links = links_to (clean b) (linked w b k); result = digest_or (clean b k) }
+trace_of w b k = record { key = k; task = or_none (wanted_task w b k); links = links_to (clean b) (linked w b k); result = digest_or (clean b k) }
 
--- what it needs, with the digest of its clean value
+-- its task and what it needs, with the digest of its clean value
 abbrev pub full_entry : Book → List ℕ → Entry
-full_entry b k = record { key = k; result = digest_or (clean b k); needs = needs b k; stale = false; shallow = false }
+full_entry b k = record { key = k; task = or_none (task_now b k); result = digest_or (clean b k); needs = needs b k; stale = false; shallow = false }
 
 -- the same with the inputs beneath it in place of its needs
 abbrev pub shallow_entry : Book → List ℕ → Entry
-shallow_entry b k = record { key = k; result = digest_or (clean b k); needs = beneath b k; stale = false; shallow = true }
+shallow_entry b k = record { key = k; task = or_none (task_now b k); result = digest_or (clean b k); needs = beneath b k; stale = false; shallow = true }
 
 -- the key is a rule of the book with a clean value, of which the trace tells
 pub record IsTraceOf (w : Way) (b : Book) (k : List ℕ) (t : Trace) : Type 0 where
@@ -56,5 +68,6 @@ pub record IsEntryOf (b : Book) (k : List ℕ) (e : Entry) : Type 0 where
   pub value : Value
   pub clean : clean b k ≡ Some value
   pub key : e.key ≡ k
+  pub task : e.task ≡ task_digest_of b.kind formula
   pub result : e.result ≡ digest_of value
   pub needs : e.needs ≡ (if e.shallow then beneath b k else needs b k)

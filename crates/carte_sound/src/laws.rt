@@ -1,22 +1,24 @@
 // Laws of what is kept, each as the contract of a function that does nothing.
-ghost use Rattle.std.specs.Prelude.{◌≡◌, ◌++◌, ◌∷◌, [], ℕ, List, if◌then◌else◌};
+ghost use Rattle.std.specs.Prelude.{◌≡◌, ◌++◌, ◌∷◌, [], ℕ, List};
 ghost use Rattle.carte_value.specs.declared.digest.Digest.{Digest};
 ghost use Rattle.carte_value.specs.Truths.{Among, NoneTwice};
-ghost use Rattle.carte_book.specs.Book.{Book};
-ghost use Rattle.carte_book.specs.Digest.{rules_digest_of};
+ghost use Rattle.carte_book.specs.Book.{Book, content};
 ghost use Rattle.carte_book.specs.Needs.{IsRule, Reaches};
 ghost use Rattle.carte_book.specs.Reason.{AllClean};
+ghost use Rattle.carte_book.specs.Task.{task_now};
 ghost use Rattle.carte_record.specs.declared.batch.Batch.{Batch};
-ghost use Rattle.carte_record.specs.declared.start.Start.TheVariants.{Anew, GoOn};
+ghost use Rattle.carte_record.specs.declared.start.Start.TheVariants.{GoOn};
 ghost use Rattle.carte_record.specs.declared.way.Way.TheVariants.{Deep};
 ghost use Rattle.carte_record.specs.Folds.{apply};
 ghost use Rattle.carte_record.specs.Kept.{SomeKept, nothing_kept};
 ghost use Rattle.carte_sound.specs.Base.{HasDistinctDigests, IsBase};
-ghost use Rattle.carte_sound.specs.Begun.{AreMarks, begin, has_rules_of};
+ghost use Rattle.carte_sound.specs.Begun.{Beginning, IsBeginning, IsByRole, begin};
+ghost use Rattle.carte_sound.specs.Beneath.{beneath, rules_beneath};
 ghost use Rattle.carte_sound.specs.Carries.{Carries};
+ghost use Rattle.carte_sound.specs.DeepRules.{DeepTrace, IsDeepNow, IsDeepTraceOf, deep_trace_of};
 ghost use Rattle.carte_sound.specs.Finished.{AreFinished};
 ghost use Rattle.carte_sound.specs.Held.{How, IsHeld, tracing};
-ghost use Rattle.carte_sound.specs.LeadsTo.{BringsRestarting, BringsSuspending, LeadsInOrder, LeadsRefused, LeadsRestarting, LeadsSuspending, marks_left};
+ghost use Rattle.carte_sound.specs.LeadsTo.{LeadsInOrder, LeadsRefused, LeadsRestarting, LeadsSuspending, marks_left};
 ghost use Rattle.carte_sound.specs.Left.{Finishes, keys_of, left};
 ghost use Rattle.carte_value.specs.Lists.{Has};
 ghost use Rattle.carte_sound.specs.Marks.{IsFresh};
@@ -34,9 +36,15 @@ pub fn sound_as_history_grows()
     ensures { (K : SomeKept) (H J : List Book) → IsSound K H → IsSound K (H ++ J) }
 {}
 
-/// The marking keeps what is kept sound, and each entry that is fresh behind it says what the present book says.
+/// Marking and dropping keep what is kept sound, and each entry that is fresh behind it says what the present book says.
 pub fn marking_is_sound()
-    ensures { (K : SomeKept) (b : Book) (H : List Book) (marks : List (List ℕ)) → IsSound K H → Has H b → HasDistinctDigests H → AreMarks K b marks → IsBase (begin K b marks) b H }
+    ensures { (K : SomeKept) (b : Book) (H : List Book) (x : Beginning) → IsSound K H → Has H b → HasDistinctDigests H → IsBeginning K b x → IsBase (begin K x) b H }
+{}
+
+/// What a build begins with of what is sound is told by what each name is now: rules keep their entries, with the new marks,
+/// and their traces, inputs keep what they were seen with, and nothing else is kept.
+pub fn dropping_is_by_role()
+    ensures { (K : SomeKept) (b : Book) (H : List Book) (x : Beginning) → IsSound K H → IsBeginning K b x → IsByRole K b x (begin K x) }
 {}
 
 /// What a build leaves is sound and says what the present book says, under each rebuilder and at each station: the keys
@@ -57,12 +65,12 @@ pub fn reached_is_kept()
 
 /// A second build of the same book holds each key that the first one finished, under each rebuilder: it runs none of them.
 pub fn finished_is_held()
-    ensures { (h : How) (b : Book) (H : List Book) (M : SomeKept) (finished : Finishes) (chain marks : List (List ℕ)) → IsBase M b H → NoneTwice chain → AreFinished h b M [] finished → AreMarks (left h b M finished chain) b marks → (k : List ℕ) → Among (keys_of finished) k → IsHeld h (begin (left h b M finished chain) b marks) b k }
+    ensures { (h : How) (b : Book) (H : List Book) (M : SomeKept) (finished : Finishes) (chain : List (List ℕ)) (x : Beginning) → IsBase M b H → NoneTwice chain → AreFinished h b M [] finished → IsBeginning (left h b M finished chain) b x → (k : List ℕ) → Among (keys_of finished) k → IsHeld h (begin (left h b M finished chain) x) b k }
 {}
 
-/// A batch that carries the difference, with the start and the marks of its build, makes what the build leaves.
+/// A batch that carries the difference, with what its build drops and marks, makes what the build leaves.
 pub fn difference_is_left()
-    ensures { (h : How) (b : Book) (K : SomeKept) (marks : List (List ℕ)) (finished : Finishes) (chain : List (List ℕ)) (B : Batch) → B.start ≡ (if has_rules_of K b then GoOn else Anew (rules_digest_of b)) → B.stale ≡ marks_left finished marks → Carries b (begin K b marks) (left h b (begin K b marks) finished chain) B → apply B K ≡ left h b (begin K b marks) finished chain }
+    ensures { (h : How) (b : Book) (K : SomeKept) (x : Beginning) (finished : Finishes) (chain : List (List ℕ)) (B : Batch) → B.start ≡ GoOn → B.gone ≡ x.gone → B.stale ≡ marks_left finished x → Carries b (begin K x) (left h b (begin K x) finished chain) B → apply B K ≡ left h b (begin K x) finished chain }
 {}
 
 /// A batch that a build leads to leaves what is kept sound for the history with the present book.
@@ -80,6 +88,13 @@ pub fn batch_keeps_reached()
     ensures in_order { (h : How) (K : SomeKept) (H : List Book) (b : Book) (targets : List (List ℕ)) (B : Batch) → IsSound K H → HasDistinctDigests (H ++ b ∷ []) → LeadsInOrder h K b targets B → AllClean b targets → (k : List ℕ) → Reaches b targets k → IsRule b k → IsKeptNow (apply B K) b k }
     ensures suspending { (h : How) (K : SomeKept) (H : List Book) (b : Book) (targets : List (List ℕ)) (B : Batch) → ¬ (h ≡ tracing Deep) → IsSound K H → HasDistinctDigests (H ++ b ∷ []) → LeadsSuspending h K b targets B → AllClean b targets → (k : List ℕ) → Reaches b targets k → IsRule b k → IsKeptNow (apply B K) b k }
     ensures restarting { (h : How) (K : SomeKept) (H : List Book) (b : Book) (targets : List (List ℕ)) (B : Batch) → ¬ (h ≡ tracing Deep) → IsSound K H → HasDistinctDigests (H ++ b ∷ []) → LeadsRestarting h K b targets B → AllClean b targets → (k : List ℕ) → Reaches b targets k → IsRule b k → IsKeptNow (apply B K) b k }
-    ensures deep { (h : How) (K : SomeKept) (H : List Book) (b : Book) (targets : List (List ℕ)) (B : Batch) → IsSound K H → HasDistinctDigests (H ++ b ∷ []) → (brings : BringsSuspending h K b targets B) → (k : List ℕ) → IsDoneSuspending h (begin K b brings.marks) b targets k → IsKeptNow (apply B K) b k }
-    ensures deep_restarting { (h : How) (K : SomeKept) (H : List Book) (b : Book) (targets : List (List ℕ)) (B : Batch) → IsSound K H → HasDistinctDigests (H ++ b ∷ []) → (brings : BringsRestarting h K b targets B) → (k : List ℕ) → IsDoneRestarting h (begin K b brings.marks) b targets k → IsKeptNow (apply B K) b k }
+    ensures deep { (h : How) (K : SomeKept) (H : List Book) (b : Book) (targets : List (List ℕ)) (B : Batch) → IsSound K H → HasDistinctDigests (H ++ b ∷ []) → (brings : LeadsSuspending h K b targets B) → (k : List ℕ) → IsDoneSuspending h (begin K brings.begun) b targets k → IsKeptNow (apply B K) b k }
+    ensures deep_restarting { (h : How) (K : SomeKept) (H : List Book) (b : Book) (targets : List (List ℕ)) (B : Batch) → IsSound K H → HasDistinctDigests (H ++ b ∷ []) → (brings : LeadsRestarting h K b targets B) → (k : List ℕ) → IsDoneRestarting h (begin K brings.begun) b targets k → IsKeptNow (apply B K) b k }
+{}
+
+/// A deep trace that names the rules beneath its key is the key's trace of the present book where these rules and the inputs
+/// beneath are the present ones, and it holds wherever they are.
+pub fn deep_rules_hold()
+    ensures held { (H : List Book) (c b : Book) (k : List ℕ) (t : DeepTrace) → HasDistinctDigests H → Has H c → Has H b → IsDeepTraceOf c k t → IsDeepNow b t → t ≡ deep_trace_of b k }
+    ensures unchanged { (b c : Book) (k : List ℕ) (t : DeepTrace) → IsDeepTraceOf c k t → ((i : List ℕ) → Among (rules_beneath c k) i → task_now b i ≡ task_now c i) → ((i : List ℕ) → Among (beneath c k) i → content b i ≡ content c i) → IsDeepNow b t }
 {}

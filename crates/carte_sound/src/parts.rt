@@ -1,17 +1,16 @@
 // Laws of builds whose keys are committed part by part, each as the contract of a function that does nothing.
-ghost use Rattle.std.specs.Prelude.{◌≡◌, ◌≤◌, ◌++◌, ◌∷◌, [], ℕ, List, true, length, if◌then◌else◌};
+ghost use Rattle.std.specs.Prelude.{◌≡◌, ◌≤◌, ◌++◌, ◌∷◌, [], ℕ, List, length};
 ghost use Rattle.carte_value.specs.Truths.{NoneTwice};
 ghost use Rattle.carte_book.specs.Book.{Book};
-ghost use Rattle.carte_book.specs.Digest.{rules_digest_of};
 ghost use Rattle.carte_book.specs.Needs.{IsRule, Reaches};
 ghost use Rattle.carte_book.specs.Reason.{AllClean};
 ghost use Rattle.carte_record.specs.declared.batch.Batch.{Batch};
-ghost use Rattle.carte_record.specs.declared.start.Start.TheVariants.{Anew, GoOn};
+ghost use Rattle.carte_record.specs.declared.start.Start.TheVariants.{GoOn};
 ghost use Rattle.carte_record.specs.declared.way.Way.TheVariants.{Deep};
 ghost use Rattle.carte_record.specs.Folds.{apply};
 ghost use Rattle.carte_record.specs.Kept.{SomeKept};
 ghost use Rattle.carte_sound.specs.Base.{HasDistinctDigests, IsBase};
-ghost use Rattle.carte_sound.specs.Begun.{begin, has_rules_of};
+ghost use Rattle.carte_sound.specs.Begun.{Beginning, begin};
 ghost use Rattle.carte_sound.specs.Carries.{Carries};
 ghost use Rattle.carte_sound.specs.Cut.{IsCut};
 ghost use Rattle.carte_sound.specs.Finished.{AreFinished};
@@ -33,9 +32,9 @@ pub fn left_goes_on()
     ensures { (h : How) (b : Book) (M : SomeKept) (before after : Finishes) (chain between : List (List ℕ)) → left h b M (before ++ after) chain ≡ left h b (left h b M before between) after chain }
 {}
 
-/// A batch that goes on and has no marks makes of a station what its keys leave, where it carries just that.
+/// A batch that goes on, and marks and drops nothing, makes of a station what its keys leave, where it carries just that.
 pub fn later_difference_is_left()
-    ensures { (h : How) (b : Book) (L : SomeKept) (part : Finishes) (chain : List (List ℕ)) (B : Batch) → has_rules_of L b ≡ true → B.start ≡ GoOn → B.stale ≡ [] → Carries b L (left h b L part chain) B → apply B L ≡ left h b L part chain }
+    ensures { (h : How) (b : Book) (L : SomeKept) (part : Finishes) (chain : List (List ℕ)) (B : Batch) → B.start ≡ GoOn → B.gone ≡ [] → B.stale ≡ [] → Carries b L (left h b L part chain) B → apply B L ≡ left h b L part chain }
 {}
 
 /// Where the front of a batch carries some of what the whole does, the rest carries what is besides.
@@ -46,8 +45,8 @@ pub fn rest_carries()
 /// Behind some batches of a build, and at least one, what is kept is what the keys leave that were finished first; and
 /// behind all of them it is what all keys leave, with the build's chain.
 pub fn parts_lead_to_stations()
-    ensures some { (h : How) (b : Book) (K : SomeKept) (marks : List (List ℕ)) (finished : Finishes) (chain : List (List ℕ)) (parts : List Finishes) (B : Batch) (some rest : List Batch) → AreParts finished parts → AreOfParts h b (begin K b marks) chain [] (if has_rules_of K b then GoOn else Anew (rules_digest_of b)) marks parts (B ∷ some ++ rest) → IsStationOf h b (begin K b marks) finished chain (applied K (B ∷ some)) }
-    ensures all { (h : How) (b : Book) (K : SomeKept) (marks : List (List ℕ)) (finished : Finishes) (chain : List (List ℕ)) (parts : List Finishes) (Bs : List Batch) → AreParts finished parts → AreOfParts h b (begin K b marks) chain [] (if has_rules_of K b then GoOn else Anew (rules_digest_of b)) marks parts Bs → applied K Bs ≡ left h b (begin K b marks) finished chain }
+    ensures some { (h : How) (b : Book) (K : SomeKept) (x : Beginning) (finished : Finishes) (chain : List (List ℕ)) (parts : List Finishes) (B : Batch) (some rest : List Batch) → AreParts finished parts → AreOfParts h b (begin K x) chain [] x parts (B ∷ some ++ rest) → IsStationOf h b (begin K x) finished chain (applied K (B ∷ some)) }
+    ensures all { (h : How) (b : Book) (K : SomeKept) (x : Beginning) (finished : Finishes) (chain : List (List ℕ)) (parts : List Finishes) (Bs : List Batch) → AreParts finished parts → AreOfParts h b (begin K x) chain [] x parts Bs → applied K Bs ≡ left h b (begin K x) finished chain }
 {}
 
 /// Whichever of the batches were applied, in their order, what is kept is sound for the history with the present book.
@@ -64,8 +63,8 @@ pub fn parts_keep_reached()
     ensures in_order { (h : How) (K : SomeKept) (H : List Book) (b : Book) (targets : List (List ℕ)) (Bs : List Batch) → IsSound K H → HasDistinctDigests (H ++ b ∷ []) → PartsInOrder h K b targets Bs → AllClean b targets → (k : List ℕ) → Reaches b targets k → IsRule b k → IsKeptNow (applied K Bs) b k }
     ensures suspending { (h : How) (K : SomeKept) (H : List Book) (b : Book) (targets : List (List ℕ)) (Bs : List Batch) → ¬ (h ≡ tracing Deep) → IsSound K H → HasDistinctDigests (H ++ b ∷ []) → PartsSuspending h K b targets Bs → AllClean b targets → (k : List ℕ) → Reaches b targets k → IsRule b k → IsKeptNow (applied K Bs) b k }
     ensures restarting { (h : How) (K : SomeKept) (H : List Book) (b : Book) (targets : List (List ℕ)) (Bs : List Batch) → ¬ (h ≡ tracing Deep) → IsSound K H → HasDistinctDigests (H ++ b ∷ []) → PartsRestarting h K b targets Bs → AllClean b targets → (k : List ℕ) → Reaches b targets k → IsRule b k → IsKeptNow (applied K Bs) b k }
-    ensures deep { (h : How) (K : SomeKept) (H : List Book) (b : Book) (targets : List (List ℕ)) (Bs : List Batch) → IsSound K H → HasDistinctDigests (H ++ b ∷ []) → (brings : BringsParts h (λ M k. IsDoneSuspending h M b targets k) chain_stays K b Bs) → (k : List ℕ) → IsDoneSuspending h (begin K b brings.marks) b targets k → IsKeptNow (applied K Bs) b k }
-    ensures deep_restarting { (h : How) (K : SomeKept) (H : List Book) (b : Book) (targets : List (List ℕ)) (Bs : List Batch) → IsSound K H → HasDistinctDigests (H ++ b ∷ []) → (brings : BringsParts h (λ M k. IsDoneRestarting h M b targets k) chain_behind K b Bs) → (k : List ℕ) → IsDoneRestarting h (begin K b brings.marks) b targets k → IsKeptNow (applied K Bs) b k }
+    ensures deep { (h : How) (K : SomeKept) (H : List Book) (b : Book) (targets : List (List ℕ)) (Bs : List Batch) → IsSound K H → HasDistinctDigests (H ++ b ∷ []) → (brings : BringsParts h (λ M k. IsDoneSuspending h M b targets k) chain_stays K b Bs) → (k : List ℕ) → IsDoneSuspending h (begin K brings.begun) b targets k → IsKeptNow (applied K Bs) b k }
+    ensures deep_restarting { (h : How) (K : SomeKept) (H : List Book) (b : Book) (targets : List (List ℕ)) (Bs : List Batch) → IsSound K H → HasDistinctDigests (H ++ b ∷ []) → (brings : BringsParts h (λ M k. IsDoneRestarting h M b targets k) chain_behind K b Bs) → (k : List ℕ) → IsDoneRestarting h (begin K brings.begun) b targets k → IsKeptNow (applied K Bs) b k }
 {}
 
 /// One batch alone is the batch of a build that commits all at once.

@@ -1,4 +1,6 @@
 pub mod Folds
+pub mod Olds
+pub mod Beginnings
 pub mod Applies
 pub mod Putting
 pub mod Runs

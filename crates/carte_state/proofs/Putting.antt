@@ -12,10 +12,12 @@ use Rattle.carte_record.specs.declared.batch.Batch.{Batch}
 use Rattle.carte_record.specs.Empty.{is_empty}
 use Rattle.carte_state.specs.Applying.{Applies, Comes, IsStill}
 use Rattle.carte_state.specs.Folding.{Keeps}
-use Rattle.carte_state.specs.States.{IsKeptOn, Stand, calls_for, kept_in, needs_for, step_for}
+use Rattle.carte_state.specs.States.{IsKeptOn, Stand, any_in, calls_for, kept_in, needs_for, step_for}
+use Rattle.carte_state.specs.Versions.{Begins}
 use Rattle.carte_state.specs.declared.fault.ApplyFault.{ApplyFault}
 use Rattle.carte_state.specs.declared.fault.ApplyFault.TheVariants.{DiskFault, Full, NoMemory}
 use Rattle.carte_state.proofs.Applies.{still_steps}
+use Rattle.carte_state.proofs.Beginnings.{none_old}
 
 module _ (d : OverDisk) (old new : Stand) (B : Batch) (ordered : d.tells → CountsUp (moments d.new)) (still : IsStill d old new) where
   -- nothing has changed
@@ -23,17 +25,19 @@ module _ (d : OverDisk) (old new : Stand) (B : Batch) (ordered : d.tells → Cou
   unmoved result comes = record {
     comes = comes;
     limit = ap (λ (s : Stand). s.journal.limit) still.stand;
-    steps = λ told on. subst (λ (u : Story). StepsThrough (Keeps old.journal.limit) (kept_in old) (step_for old.journal (kept_in old) B) d.old u)
+    steps = λ told on. subst (λ (u : Story). StepsThrough (Keeps old.journal.limit) (any_in old) (step_for old.journal (any_in old) B) d.old u)
         (sym still.disk.story) (still_steps old d.old on B);
     ordered = ordered;
   }
 
-  pub put_none : old.journal.broken ≡ false → is_empty B ≡ true → Applies d old new B (Ok tt)
-  put_none whole empty = unmoved (Ok tt) (record {
+  pub put_none : old.journal.broken ≡ false → Begins (any_in old) B → is_empty B ≡ true → Applies d old new B (Ok tt)
+  put_none whole begins empty = unmoved (Ok tt) (record {
     room = inl empty;
     after = record {
       journal = rw empty (ap (λ (s : Stand). s.journal) still.stand);
       kept = ap kept_in still.stand ∙ sym (empty_same B (kept_in old) empty);
+      any = rw empty (ap any_in still.stand);
+      one = ap (λ (s : Stand). s.one) still.stand ∙ none_old old.one (kept_in old) B begins empty;
     };
     whole = ap (λ (s : Stand). s.journal.broken) still.stand ∙ whole;
     faults = still.disk.faults;

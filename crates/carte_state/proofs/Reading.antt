@@ -1,122 +1,192 @@
--- Bodies that are read in parts, and then put together.
-use Rattle.std.proofs.Common.{◌≡◌, ℕ, suc, List, [], ◌∷◌, ◌++◌, Result, Ok, Err, Vec, length, arith, refl, sym, ◌∙◌, ap, subst, append_assoc, append-nil, inl, inr}
-use Rattle.std.specs.Prelude.{IfOk}
+-- Bodies that are read one by one, or in parts, and then put together.
+use Rattle.std.proofs.Common.{◌≡◌, ℕ, suc, List, [], ◌∷◌, ◌++◌, Option, Some, None, Result, Ok, Err, Vec, length, arith, refl, sym, ◌∙◌, ap, subst, append_assoc, append-nil, inl}
+use Rattle.carte_name.specs.declared.NoMemory.{NoMemory}
 use Rattle.carte_journal.specs.Frames.{BodyAt}
 use Rattle.carte_journal.specs.declared.faults.LoadFault.{LoadFault}
-use Rattle.carte_journal.specs.declared.faults.LoadFault.TheVariants.{BadState, DiskFault}
-use Rattle.carte_record.specs.Bodies.{IsBody}
-use Rattle.carte_record.specs.Folds.{apply}
-use Rattle.carte_record.specs.Kept.{SomeKept, kept_view, nothing_kept}
-use Rattle.carte_record.specs.declared.kept.Kept.{Kept}
+use Rattle.carte_journal.specs.declared.faults.LoadFault.TheVariants as fault
 use Rattle.carte_record.specs.declared.batch.Batch.{Batch}
+use Rattle.carte_record_one.specs.declared.batch.BatchOne.{BatchOne}
+use Rattle.carte_record.specs.Bodies.{IsDecoded}
+use Rattle.carte_record_one.specs.Bodies.{IsDecodedOne}
 use Rattle.carte_state.specs.Folding.{IsBadBody, IsFolded}
-use Rattle.carte_state.specs.Parts.{AllRead, AreBatches, FailsBy, ReadsEach, ReadsPart, batches_in, bodies_in}
-use Rattle.carte_state.specs.Runs.{applied}
+use Rattle.carte_state.specs.Parts.{AllPairs, AreFound, IsFoundIn, IsNext, made_at, made_view, ReadsEach, ReadsPart, ReadsTo, bodies_in}
+use Rattle.carte_record.specs.Kept.{nothing_kept}
+use Rattle.carte_record.specs.declared.start.Start.TheVariants.{Cleared}
+use Rattle.carte_record_one.specs.Kept.{SomeKeptOne, nothing_kept_one}
+use Rattle.carte_state.specs.Versions.{InOne, InTwo, IsBodyOf, IsDecodedAny, Phase, Takes, as_any, first_byte}
+use Rattle.carte_state.specs.declared.any.AnyBatch.{AnyBatch}
+use Rattle.carte_state.specs.declared.any.AnyBatch.TheVariants.{One, Two}
+use Rattle.carte_state.specs.declared.parts.Found.{Found}
 use Rattle.carte_state.specs.declared.parts.Part.{Part}
+use Rattle.carte_state.specs.declared.made.Made.{Made}
+use Rattle.std.specs.Prelude.{IfOk}
+use Rattle.carte_state.proofs.Folds.{any_body_one, bad_behind, bad_in_front, folded_both}
 
--- one more, or a list behind another
-pub batches_push : (bodies : List BodyAt) (body : BodyAt) (Bs : List Batch) (B : Batch) → AreBatches bodies Bs → IsBody B body.1
-    → AreBatches (bodies ++ body ∷ []) (Bs ++ B ∷ [])
-batches_push [] body [] B are is = (is, tt)
-batches_push [] body (C ∷ Bs) B never is = absurd never
-batches_push (x ∷ bodies) body [] B never is = absurd never
-batches_push (x ∷ bodies) body (C ∷ Bs) B are is = (are.0, batches_push bodies body Bs B are.1 is)
+-- ---- bytes
 
-batches_both : (xs ys : List BodyAt) (Bs Cs : List Batch) → AreBatches xs Bs → AreBatches ys Cs → AreBatches (xs ++ ys) (Bs ++ Cs)
-batches_both [] ys [] Cs are more = more
-batches_both [] ys (B ∷ Bs) Cs never more = absurd never
-batches_both (x ∷ xs) ys [] Cs never more = absurd never
-batches_both (x ∷ xs) ys (B ∷ Bs) Cs are more = (are.0, batches_both xs ys Bs Cs are.1 more)
+-- bytes of the first version are none of the second, and so the other way round
+pub one_decoded : (body : List ℕ) (r : Result (Option BatchOne) NoMemory) → first_byte body ≡ 1 → IsDecodedOne body r → IsDecodedAny body (as_any One r)
+one_decoded body (Ok (Some B)) kind is = is
+one_decoded body (Ok None) kind none = only
+  where
+    only : (A : AnyBatch) → ¬ (IsBodyOf A body)
+    only (One B) is = none B is
+    only (Two B) is = let clash : 1 ≡ 3 = sym kind ∙ ap first_byte is.bytes in omega (arith, clash)
+one_decoded body (Err e) kind is = tt
 
--- what bodies make is what their batches make
-pub batches_folded : (K : SomeKept) (bodies : List BodyAt) (Bs : List Batch) → AreBatches bodies Bs → IsFolded K bodies (applied K Bs)
-batches_folded K [] [] are = refl
-batches_folded K [] (B ∷ Bs) never = absurd never
-batches_folded K (x ∷ bodies) [] never = absurd never
-batches_folded K (x ∷ bodies) (B ∷ Bs) are = (B, are.0, batches_folded (apply B K) bodies Bs are.1)
+pub two_decoded : (body : List ℕ) (r : Result (Option Batch) NoMemory) → ¬ (first_byte body ≡ 1) → IsDecoded body r → IsDecodedAny body (as_any Two r)
+two_decoded body (Ok (Some B)) kind is = is
+two_decoded body (Ok None) kind none = only
+  where
+    only : (A : AnyBatch) → ¬ (IsBodyOf A body)
+    only (One B) is = kind (ap first_byte is.bytes)
+    only (Two B) is = none B is
+two_decoded body (Err e) kind is = tt
 
--- a bad body in front of others, and behind batches
-bad_in_front : (xs ys : List BodyAt) (at : ℕ) → IsBadBody xs at → IsBadBody (xs ++ ys) at
-bad_in_front [] ys at never = absurd never
-bad_in_front (x ∷ xs) ys at (inl bad) = inl bad
-bad_in_front (x ∷ xs) ys at (inr (B, is, bad)) = inr (B, is, bad_in_front xs ys at bad)
+-- ---- items in pairs
 
-bad_further : (xs ys : List BodyAt) (Bs : List Batch) (at : ℕ) → AreBatches xs Bs → IsBadBody ys at → IsBadBody (xs ++ ys) at
-bad_further [] ys [] at are bad = bad
-bad_further [] ys (B ∷ Bs) at never bad = absurd never
-bad_further (x ∷ xs) ys [] at never bad = absurd never
-bad_further (x ∷ xs) ys (B ∷ Bs) at are bad = inr (B, are.0, bad_further xs ys Bs at are.1 bad)
+-- where the second list is cut, the first one can be
+pub record Cut {A B : Type 0} (R : A → B → Type 0) (xs : List A) (done : List B) (y : B) (rest : List B) : Type 0 where
+  pub front : List A
+  pub item : A
+  pub back : List A
+  pub all : xs ≡ front ++ item ∷ back
+  pub before : AllPairs R front done
+  pub here : R item y
+  pub behind : AllPairs R back rest
 
--- parts, one behind the other
+module _ {A B : Type 0} (R : A → B → Type 0) where
+  pub pairs_end : (xs : List A) (ys : List B) (x : A) (y : B) → AllPairs R xs ys → R x y → AllPairs R (xs ++ x ∷ []) (ys ++ y ∷ [])
+  pairs_end [] [] x y all is = (is, tt)
+  pairs_end [] (b ∷ ys) x y never is = absurd never
+  pairs_end (a ∷ xs) [] x y never is = absurd never
+  pairs_end (a ∷ xs) (b ∷ ys) x y all is = (all.0, pairs_end xs ys x y all.1 is)
+
+  pub pairs_cut : (xs : List A) (done rest : List B) (y : B) → AllPairs R xs (done ++ y ∷ rest) → Cut R xs done y rest
+  pairs_cut [] [] rest y never = absurd never
+  pairs_cut [] (b ∷ done) rest y never = absurd never
+  pairs_cut (x ∷ xs) [] rest y all = record { front = []; item = x; back = xs; all = refl; before = tt; here = all.0; behind = all.1 }
+  pairs_cut (x ∷ xs) (b ∷ done) rest y all =
+      let cut = pairs_cut xs done rest y all.1 in
+      record { front = x ∷ cut.front; item = cut.item; back = cut.back; all = ap (λ l. x ∷ l) cut.all; before = (all.0, cut.before); here = cut.here; behind = cut.behind }
+
+  pub pairs_none : (xs : List A) → AllPairs R xs [] → xs ≡ []
+  pairs_none [] all = refl
+  pairs_none (x ∷ xs) never = absurd never
+
+-- ---- what bodies make
+
+module _ {A C : Type 0} (view : A → Phase) (seen : C → Phase) where
+  -- a fault behind what was read, and before what wasn't
+  pub fails_then : (p q : Phase) (xs ys zs : List BodyAt) (f : LoadFault) → IsFolded p xs q → ReadsTo view q ys (Err f) → ReadsTo seen p (xs ++ (ys ++ zs)) (Err f)
+  fails_then p q xs ys zs (fault.BadState at) folded bad = bad_behind p q xs (ys ++ zs) at folded (bad_in_front q ys zs at bad)
+  fails_then p q xs ys zs fault.DiskFault folded never = never
+  fails_then p q xs ys zs fault.NoMemory folded none = tt
+
+-- with one body more that was put in
+module _ (p q r : Phase) (founds : List Found) (f : Found)
+    (before : (bodies : List BodyAt) → AreFound bodies founds → IsFolded p bodies q) (here : (body : BodyAt) → IsFoundIn body f → IsFolded q (body ∷ []) r) where
+  pub found_more : (bodies : List BodyAt) → AreFound bodies (founds ++ f ∷ []) → IsFolded p bodies r
+  found_more bodies are =
+      let cut = pairs_cut IsFoundIn bodies founds [] f are in
+      let none : cut.back ≡ [] = pairs_none IsFoundIn cut.back cut.behind in
+      subst (λ bs. IsFolded p bs r) (sym (cut.all ∙ ap (λ l. cut.front ++ cut.item ∷ l) none))
+      (folded_both p q r cut.front (cut.item ∷ []) (before cut.front cut.before) (here cut.item cut.here))
+
+-- or wasn't
+module _ {A C : Type 0} (view : A → Phase) (seen : C → Phase) (p q : Phase) (all founds rest : List Found) (f : Found) (is : all ≡ founds ++ f ∷ rest)
+    (before : (bodies : List BodyAt) → AreFound bodies founds → IsFolded p bodies q) (cause : LoadFault) (here : (body : BodyAt) → IsFoundIn body f → ReadsTo view q (body ∷ []) (Err cause)) where
+  pub found_fails : (bodies : List BodyAt) → AreFound bodies all → ReadsTo seen p bodies (Err cause)
+  found_fails bodies are =
+      let cut = pairs_cut IsFoundIn bodies founds rest f (subst (AreFound bodies) is are) in
+      subst (λ bs. ReadsTo seen p bs (let r : Result C LoadFault = Err cause in r)) (sym cut.all)
+      (fails_then view seen p q cut.front (cut.item ∷ []) cut.back cause (before cut.front cut.before) (here cut.item cut.here))
+
+-- ---- parts
+
 pub bodies_end : (ps : List Part) (p : Part) → bodies_in (ps ++ p ∷ []) ≡ bodies_in ps ++ p.bodies.items
 bodies_end [] p = append-nil p.bodies.items
 bodies_end (q ∷ ps) p = ap (λ l. q.bodies.items ++ l) (bodies_end ps p) ∙ sym (append_assoc q.bodies.items (bodies_in ps) p.bodies.items)
 
+bodies_cut : (ps : List Part) (p : Part) (qs : List Part) → bodies_in (ps ++ p ∷ qs) ≡ bodies_in ps ++ (p.bodies.items ++ bodies_in qs)
+bodies_cut [] p qs = refl
+bodies_cut (q ∷ ps) p qs = ap (λ l. q.bodies.items ++ l) (bodies_cut ps p qs) ∙ sym (append_assoc q.bodies.items (bodies_in ps) (p.bodies.items ++ bodies_in qs))
+
 module _ {Z : Type 0} where
-  -- one part more, and one that wasn't read
-  pub read_end : (rs : List (Result (Vec Batch Z) LoadFault)) (Bs : Vec Batch Z) → AllRead rs → AllRead (rs ++ Ok Bs ∷ [])
-  read_end [] Bs read = tt
-  read_end (Ok Cs ∷ rs) Bs read = read_end rs Bs read
-  read_end (Err fault ∷ rs) Bs read = read
+  abbrev pub AreParts : List Part → List (Result (Vec Found Z) NoMemory) → Type 0
+  AreParts = AllPairs (ReadsPart {Z = Z})
 
-  pub batches_end : (rs : List (Result (Vec Batch Z) LoadFault)) (Bs : Vec Batch Z) → batches_in (rs ++ Ok Bs ∷ []) ≡ batches_in rs ++ Bs.items
-  batches_end [] Bs = append-nil Bs.items
-  batches_end (Ok Cs ∷ rs) Bs = ap (λ l. Cs.items ++ l) (batches_end rs Bs) ∙ sym (append_assoc Cs.items (batches_in rs) Bs.items)
-  batches_end (Err fault ∷ rs) Bs = batches_end rs Bs
+  pub parts_are : (ps : List Part) (rs : List (Result (Vec Found Z) NoMemory)) → length rs ≡ length ps → ReadsEach ps rs → AreParts ps rs
+  parts_are [] [] same each = tt
+  parts_are [] (r ∷ rs) same each = absurd (omega (arith, same))
+  parts_are (p ∷ ps) [] same each = absurd (omega (arith, same))
+  parts_are (p ∷ ps) (r ∷ rs) same each =
+      (each 0 p r (omega arith), parts_are ps rs (omega (arith, same)) (λ i q s below. each (suc i) q s (omega (arith, below))))
 
-  fails_behind : (done rest : List (Result (Vec Batch Z) LoadFault)) (fault : LoadFault) → AllRead done → FailsBy (done ++ Err fault ∷ rest) fault
-  fails_behind [] rest fault read = refl
-  fails_behind (Ok Bs ∷ done) rest fault read = fails_behind done rest fault read
-  fails_behind (Err first ∷ done) rest fault read = absurd read
+  -- a part more, of which all was put in
+  module _ (p q r : Phase) (done : List (Result (Vec Found Z) NoMemory)) (part : Result (Vec Found Z) NoMemory)
+      (before : (ps : List Part) → AreParts ps done → IsFolded p (bodies_in ps) q)
+      (here : (x : Part) → ReadsPart {Z = Z} x part → IsFolded q x.bodies.items r) where
+    pub part_more : (ps : List Part) → AreParts ps (done ++ part ∷ []) → IsFolded p (bodies_in ps) r
+    part_more ps are =
+        let cut = pairs_cut (ReadsPart {Z = Z}) ps done [] part are in
+        let none : cut.back ≡ [] = pairs_none (ReadsPart {Z = Z}) cut.back cut.behind in
+        subst (λ bs. IsFolded p bs r) (sym (ap bodies_in (cut.all ∙ ap (λ l. cut.front ++ cut.item ∷ l) none) ∙ bodies_end cut.front cut.item))
+        (folded_both p q r (bodies_in cut.front) cut.item.bodies.items (before cut.front cut.before) (here cut.item cut.here))
 
-  pub fails_at : (rs done rest : List (Result (Vec Batch Z) LoadFault)) (r : Result (Vec Batch Z) LoadFault) (fault : LoadFault) → rs ≡ done ++ r ∷ rest
-      → r ≡ Err fault → AllRead done → FailsBy rs fault
-  fails_at rs done rest r fault all is read = rw (all, is) (fails_behind done rest fault read)
+  -- or not all
+  module _ {A C : Type 0} (view : A → Phase) (seen : C → Phase) (p q : Phase) (all done rest : List (Result (Vec Found Z) NoMemory)) (part : Result (Vec Found Z) NoMemory) (is : all ≡ done ++ part ∷ rest)
+      (before : (ps : List Part) → AreParts ps done → IsFolded p (bodies_in ps) q) (cause : LoadFault)
+      (here : (x : Part) → ReadsPart {Z = Z} x part → ReadsTo view q x.bodies.items (Err cause)) where
+    pub part_fails : (ps : List Part) → AreParts ps all → ReadsTo seen p (bodies_in ps) (Err cause)
+    part_fails ps are =
+        let cut = pairs_cut (ReadsPart {Z = Z}) ps done rest part (subst (AreParts ps) is are) in
+        subst (λ bs. ReadsTo seen p bs (let r : Result C LoadFault = Err cause in r)) (sym (ap bodies_in cut.all ∙ bodies_cut cut.front cut.item cut.back))
+        (fails_then view seen p q (bodies_in cut.front) cut.item.bodies.items (bodies_in cut.back) cause (before cut.front cut.before) (here cut.item cut.here))
 
-  -- where each part was read, the batches are those of all bodies
-  parts_read : (ps : List Part) (rs : List (Result (Vec Batch Z) LoadFault)) → length rs ≡ length ps → ReadsEach ps rs → AllRead rs
-      → AreBatches (bodies_in ps) (batches_in rs)
-  parts_read [] [] same each read = tt
-  parts_read [] (r ∷ rs) same each read = absurd (omega (arith, same))
-  parts_read (p ∷ ps) [] same each read = absurd (omega (arith, same))
-  parts_read (p ∷ ps) (Err fault ∷ rs) same each read = absurd read
-  parts_read (p ∷ ps) (Ok Bs ∷ rs) same each read =
-      let first : AreBatches p.bodies.items Bs.items = each 0 p (Ok Bs) (omega arith) in
-      batches_both p.bodies.items (bodies_in ps) Bs.items (batches_in rs) first
-      (parts_read ps rs (omega (arith, same)) (λ i q r below. each (suc i) q r (omega (arith, below))) read)
+-- ---- what it comes to, by its result
 
-  -- the first bad body of the first part that has one is the first of all
-  parts_bad : (ps : List Part) (rs : List (Result (Vec Batch Z) LoadFault)) (at : ℕ) → length rs ≡ length ps → ReadsEach ps rs → FailsBy rs (BadState at)
-      → IsBadBody (bodies_in ps) at
-  parts_bad [] [] at same each never = absurd never
-  parts_bad [] (r ∷ rs) at same each fails = absurd (omega (arith, same))
-  parts_bad (p ∷ ps) [] at same each never = absurd never
-  parts_bad (p ∷ ps) (Err fault ∷ rs) at same each is =
-      let first : ReadsPart {Z = Z} p (Err fault) = each 0 p (Err fault) (omega arith) in
-      bad_in_front p.bodies.items (bodies_in ps) at (subst (λ f. ReadsPart {Z = Z} p (let r : Result (Vec Batch Z) LoadFault = Err f in r)) (sym is) first)
-  parts_bad (p ∷ ps) (Ok Bs ∷ rs) at same each fails =
-      let first : AreBatches p.bodies.items Bs.items = each 0 p (Ok Bs) (omega arith) in
-      bad_further p.bodies.items (bodies_in ps) Bs.items at first
-      (parts_bad ps rs at (omega (arith, same)) (λ i q r below. each (suc i) q r (omega (arith, below))) fails)
+module _ {A : Type 0} (view : A → Phase) (p : Phase) (bodies : List BodyAt) where
+  pub reads_ok : (r : Result A LoadFault) → ReadsTo view p bodies r → IfOk r (λ made. IsFolded p bodies (view made))
+  reads_ok (Ok made) reads = reads
+  reads_ok (Err f) reads = tt
 
-  pub parts_no_disk : (ps : List Part) (rs : List (Result (Vec Batch Z) LoadFault)) → length rs ≡ length ps → ReadsEach ps rs → FailsBy rs DiskFault → ⊥
-  parts_no_disk [] [] same each never = never
-  parts_no_disk [] (r ∷ rs) same each fails = absurd (omega (arith, same))
-  parts_no_disk (p ∷ ps) [] same each never = never
-  parts_no_disk (p ∷ ps) (Err fault ∷ rs) same each is =
-      let first : ReadsPart {Z = Z} p (Err fault) = each 0 p (Err fault) (omega arith) in
-      subst (λ f. ReadsPart {Z = Z} p (let r : Result (Vec Batch Z) LoadFault = Err f in r)) (sym is) first
-  parts_no_disk (p ∷ ps) (Ok Bs ∷ rs) same each fails =
-      parts_no_disk ps rs (omega (arith, same)) (λ i q r below. each (suc i) q r (omega (arith, below))) fails
+  pub reads_bad : (r : Result A LoadFault) → ReadsTo view p bodies r → (offset : ℕ) → r ≡ Err (fault.BadState offset) → IsBadBody p bodies offset
+  reads_bad r reads offset is = subst (ReadsTo view p bodies) is reads
 
--- so what all parts came to is what all bodies make
-module _ {Z : Type 0} (bodies : List BodyAt) (ps : List Part) (rs : List (Result (Vec Batch Z) LoadFault))
-    (all : bodies_in ps ≡ bodies) (same : length rs ≡ length ps) (each : ReadsEach ps rs) where
-  pub together_folded : (result : Result Kept LoadFault) → IfOk result (λ kept. AllRead rs)
-      → IfOk result (λ kept. kept_view kept ≡ applied nothing_kept (batches_in rs)) → IfOk result (λ kept. IsFolded nothing_kept bodies (kept_view kept))
-  together_folded (Ok kept) read is =
-      rw (← all, is) (batches_folded nothing_kept (bodies_in ps) (batches_in rs) (parts_read ps rs same each read))
-  together_folded (Err fault) read is = tt
+  pub reads_disk : (r : Result A LoadFault) → ReadsTo view p bodies r → ¬ (r ≡ Err fault.DiskFault)
+  reads_disk r reads is = subst (ReadsTo view p bodies) is reads
 
-  pub together_bad : (at : ℕ) → FailsBy rs (BadState at) → IsBadBody bodies at
-  together_bad at fails = subst (λ bs. IsBadBody bs at) all (parts_bad ps rs at same each fails)
+-- a fault is the same however what is made is seen
+pub same_fault : {A C : Type 0} (view : A → Phase) (seen : C → Phase) (p : Phase) (bodies : List BodyAt) (f : LoadFault) → ReadsTo view p bodies (Err f) → ReadsTo seen p bodies (Err f)
+same_fault view seen p bodies (fault.BadState at) reads = reads
+same_fault view seen p bodies fault.DiskFault reads = reads
+same_fault view seen p bodies fault.NoMemory reads = reads
+
+-- the first batch finds nothing kept, of its version
+pub first_one : (B : BatchOne) (r : Result (Option Made) NoMemory) → IsNext (Some (InOne nothing_kept_one)) (One B) r → IsNext None (One B) r
+first_one B (Ok None) next = next
+first_one B (Ok (Some m)) next = next
+first_one B (Err e) next = next
+
+pub first_two : (B : Batch) (r : Result (Option Made) NoMemory) → IsNext (Some (InTwo nothing_kept)) (Two B) r → IsNext None (Two B) r
+first_two B (Ok None) next = next
+first_two B (Ok (Some m)) next = next
+first_two B (Err e) next = next
+
+-- and so does one of version 2 behind those of version 1
+pub behind_one : (K : SomeKeptOne) (B : Batch) (r : Result (Option Made) NoMemory) → B.start ≡ Cleared → IsNext (Some (InTwo nothing_kept)) (Two B) r → IsNext (Some (InOne K)) (Two B) r
+behind_one K B (Ok None) cleared never = absurd (never tt)
+behind_one K B (Ok (Some m)) cleared next = (cleared, next.1)
+behind_one K B (Err e) cleared next = tt
+
+-- one body more, by what its batch makes
+pub body_reads : (p : Phase) (body : BodyAt) (A : AnyBatch) (at : ℕ) → at ≡ body.0 → IsBodyOf A body.1 → (r : Result (Option Made) NoMemory) → IsNext p A r
+    → ReadsTo made_view p (body ∷ []) (made_at at r)
+body_reads p body A at here is (Ok None) never = inl ((λ C so may. never (subst (Takes p) (any_body_one C A body.1 so is) may)), here)
+body_reads p body A at here is (Ok (Some m)) next = (A, is, next.0, next.1)
+body_reads p body A at here is (Err e) next = tt
+
+-- a body that is no batch
+pub body_fails : (p : Phase) (body : BodyAt) (at : ℕ) → at ≡ body.0 → ((A : AnyBatch) → ¬ (IsBodyOf A body.1)) → IsBadBody p (body ∷ []) at
+body_fails p body at here none = inl ((λ A is may. none A is), here)

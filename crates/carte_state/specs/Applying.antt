@@ -7,7 +7,7 @@ use Rattle.carte_io.specs.Stations.{StepsThrough}
 use Rattle.carte_record.specs.declared.batch.Batch.{Batch}
 use Rattle.carte_record.specs.Empty.{is_empty}
 use Rattle.carte_state.specs.Folding.{Keeps}
-use Rattle.carte_state.specs.States.{HasRoom, IsAfter, IsKeptOn, Stand, calls_for, kept_in, needs_for, step_for}
+use Rattle.carte_state.specs.States.{HasRoom, IsAfter, IsKeptOn, Stand, any_in, calls_for, needs_for, step_for}
 use Rattle.carte_state.specs.declared.fault.ApplyFault.{ApplyFault}
 use Rattle.carte_state.specs.declared.fault.ApplyFault.TheVariants.{DiskFault, Full, NoMemory}
 
@@ -53,5 +53,5 @@ Comes d old new B (Err NoMemory) = (is_empty B ≡ false) × IsStill d old new
 pub record Applies (d : OverDisk) (old new : Stand) (B : Batch) (result : Result (Unit {0}) ApplyFault) : Type 0 where
   pub comes : Comes d old new B result
   pub limit : new.journal.limit ≡ old.journal.limit
-  pub steps : d.tells → IsKeptOn old d.old → StepsThrough (Keeps old.journal.limit) (kept_in old) (step_for old.journal (kept_in old) B) d.old d.new
+  pub steps : d.tells → IsKeptOn old d.old → StepsThrough (Keeps old.journal.limit) (any_in old) (step_for old.journal (any_in old) B) d.old d.new
   pub ordered : d.tells → CountsUp (moments d.new)

@@ -1,4 +1,5 @@
 pub mod Around
+pub mod Versions
 pub mod Folding
 pub mod Parts
 pub mod States

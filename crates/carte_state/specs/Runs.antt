@@ -7,6 +7,7 @@ use Rattle.carte_record.specs.Bodies.{IsUnmarked}
 use Rattle.carte_record.specs.Folds.{apply}
 use Rattle.carte_record.specs.Kept.{SomeKept}
 use Rattle.carte_record.specs.declared.batch.Batch.{Batch}
+use Rattle.carte_state.specs.Versions.{AnyKept, Begins, apply_to}
 use Rattle.carte_state.specs.States.{calls_for, journal_after, step_for}
 
 -- none has an entry that is marked stale
@@ -14,10 +15,19 @@ abbrev pub AreUnmarked : List Batch → Type 0
 AreUnmarked [] = Unit {0}
 AreUnmarked (B ∷ Bs) = EachFits IsUnmarked B.entries × AreUnmarked Bs
 
--- what is kept, the journal and the calls after them
+-- where what is kept is of version 1, the first one begins with nothing kept
+abbrev pub BeginAll : AnyKept → List Batch → Type 0
+BeginAll K [] = Unit {0}
+BeginAll K (B ∷ Bs) = Begins K B
+
+-- what is kept after them, of version 2 and of either, the journal and the calls
 abbrev pub applied : SomeKept → List Batch → SomeKept
 applied K [] = K
 applied K (B ∷ Bs) = applied (apply B K) Bs
+
+abbrev pub applied_to : AnyKept → List Batch → AnyKept
+applied_to K [] = K
+applied_to K (B ∷ Bs) = applied_to (apply_to B K) Bs
 
 abbrev pub journal_behind : Standing → List Batch → Standing
 journal_behind j [] = j
@@ -28,9 +38,9 @@ calls_of_all j [] = 0
 calls_of_all j (B ∷ Bs) = calls_for j B + calls_of_all (journal_after j B) Bs
 
 -- the batches as steps
-abbrev pub steps_of : Standing → SomeKept → List Batch → List (Step SomeKept)
+abbrev pub steps_of : Standing → AnyKept → List Batch → List (Step AnyKept)
 steps_of j K [] = []
-steps_of j K (B ∷ Bs) = step_for j K B ++ steps_of (journal_after j B) (apply B K) Bs
+steps_of j K (B ∷ Bs) = step_for j K B ++ steps_of (journal_after j B) (apply_to B K) Bs
 
 -- some of the batches were applied, and of the calls of the next one not all passed: so many had passed before, and so many have now
 pub record EndsIn (j : Standing) (batches : List Batch) (before now : ℕ) : Type 0 where

@@ -4,37 +4,40 @@
 //! kept. `load` reads a file; `apply` puts one batch in, on the disk and in memory. So what a file keeps is a relation on
 //! its bytes, `Keeps` in `specs/Folding.antt`, of which a law says that there is one such thing at most (`keeps_one`).
 //!
+//! Bodies are of version 1 or of version 2, which their first byte tells. Those of version 1 are only read: `old` gives
+//! what they make, and the first batch that is applied begins cleared and is of version 2, as are all behind it. Turned
+//! down: to read them as batches of version 2, whose entries and traces have a task that version 1 doesn't know.
+//!
 //! `load_by` reads the bodies in neighbouring parts, each on a thread of its own, and puts them together in their order.
-//! Bodies are moved into the parts and batches back, and nothing else is shared. Parts have as many bytes, since the first
-//! body of a file often has most of them. A pool of threads that take one body after another was turned down: it would
-//! need a lock. So was one table of what is kept for each part: the tables would have to be put together, name by name.
+//! Parts have as many bytes, since the first body of a file often has most of them. A pool of threads that take one body
+//! after another was turned down: it would need a lock. So was one table of what is kept for each part: the tables would
+//! have to be put together, name by name.
 //!
 //! A step of `apply` is what its batch makes: at each moment an image of the file keeps what was kept before it or after
-//! it, and once its calls have passed, what was kept after it. A run of batches is such steps one after another, so what
-//! was acknowledged stands in every later image, whatever the run did behind it; a history of runs, each over an image
-//! that the one before left, is `history_keeps`.
+//! it, and once its calls have passed, what was kept after it. A run of batches is such steps one after another, and a
+//! history of runs, each over an image that the one before left, is `history_keeps`. A rewriting puts a region in the
+//! place of all bodies, which makes of nothing what is kept: so it is a step from that to the same.
 //!
 //! `apply` takes all its memory before its first call of the disk: the bytes are made, the file's limit is looked at, the
 //! batch is put into what is kept, and then the frame is committed. Behind that only the disk can fail, and then the
-//! state is broken and is to be loaded again. So nothing is copied, and nothing has to be undone. A batch that changes
-//! nothing makes no call.
-//!
-//! A rewriting puts a region in the place of all bodies, which makes of nothing what is kept: so it is a step from that to
-//! the same. What the region has is the caller's, since it is worked out from what is kept and not from the file.
+//! state is broken and is to be loaded again. So nothing is copied, and nothing has to be undone.
 //!
 //! The value of a state has the lists of what is kept, since a type's value can't hold functions; clauses go by
-//! `kept_in`, which sees them as functions, so that two that are alike are equal.
+//! `kept_in` and `any_in`, which see them as functions, so that two that are alike are equal.
 #![tactic(auto)]
 
+mod any;
 mod fault;
 mod laws;
 mod load;
+mod made;
 mod many;
 mod parts;
 mod state;
 
+pub use any::{AnyBatch, decode_any};
 pub use carte_journal::{Bank, CommitFault, LoadFault, Region};
 pub use fault::ApplyFault;
-pub use laws::{bad_at_one, history_keeps, keeps_one, keeps_or_bad};
+pub use laws::{bad_at_one, history_keeps, keeps_one, keeps_or_bad, old_is_one, one_is_old};
 pub use many::apply_all;
 pub use state::State;

@@ -1,18 +1,16 @@
 // Reading what a file keeps.
-ghost use Rattle.std.specs.Prelude.{◌≡◌, ◌≢◌, ◌<◌, ◌^◌, ◌∷◌, [], ℕ, false, IfOk, OnOk, Err};
+ghost use Rattle.std.specs.Prelude.{◌≡◌, ◌≢◌, ◌<◌, ◌^◌, ◌∷◌, [], ℕ, false, length, List, None, IfOk, Err};
 ghost use Rattle.carte_io.specs.Causes.{HasCauseOf};
-ghost use Rattle.carte_record.specs.Bodies.{IsBody};
-ghost use Rattle.carte_record.specs.Kept.{kept_view, nothing_kept};
 ghost use Rattle.carte_state.specs.Folding.{IsBadBody, IsBadState, IsFolded};
-ghost use Rattle.carte_state.specs.Parts.{AllRead, FailsBy, batches_in};
-ghost use Rattle.carte_state.specs.Runs.{applied};
+ghost use Rattle.carte_state.specs.Parts.{ReadsEach, ReadsPart, ReadsTo, bodies_in, made_view};
+ghost use Rattle.carte_state.specs.declared.parts.Part.{Part as SomePart};
 ghost use Rattle.carte_state.specs.States.{IsLoaded};
 
-use crate::parts::{bytes_of, cut, part_count, read_parts};
+use crate::made::Made;
+use crate::parts::{Found, bytes_of, cut, found_in, part_count, read_parts};
 use crate::{LoadFault, State};
 use carte_io::{Disk, Gate};
 use carte_journal::{Bodies, Body, Journal};
-use carte_record::{Batch, Kept};
 use carte_value::{NoMemory, Seeded};
 use std::alloc::Global;
 use std::marker::Sync;
@@ -33,15 +31,15 @@ impl State {
         ensures starts { IfOk result (λ s. (s.journal.limit ≡ limit) × (s.journal.broken ≡ false)) }
 
         // A state is bad exactly where the definition says: the first frame that doesn't lie in the file, or else the
-        // first body that is no batch.
+        // first body that is no batch, or is one of a version that can't come there.
         ensures bad { D.tells → (offset : ℕ) → result ≡ Err (LoadFault.BadState offset)
             → IsBadState limit (D.story disk.old).now.reads offset }
         ensures cause { HasCauseOf LoadFault.DiskFault (D.faults disk.old) (D.faults disk.new) result }
         ensures same { D.tells → D.story disk.new ≡ D.story disk.old }
     {
         let (journal, bodies) = Journal::load(alloc, disk, limit)?;
-        let kept = folded(alloc, bodies, hasher)?;
-        Ok(State::of(journal, kept))
+        let made = folded(alloc, bodies, hasher)?;
+        Ok(State::of(alloc, journal, made, hasher))
     }
 
     /// The same by at most so many threads, and one at least: the bodies are read in neighbouring parts, side by side, and
@@ -65,8 +63,8 @@ impl State {
         ensures same { D.tells → D.story disk.new ≡ D.story disk.old }
     {
         let (journal, bodies) = Journal::load(alloc, disk, limit)?;
-        let kept = folded_by(rt, alloc, bodies, hasher, workers, gate)?;
-        Ok(State::of(journal, kept))
+        let made = folded_by(rt, alloc, bodies, hasher, workers, gate)?;
+        Ok(State::of(alloc, journal, made, hasher))
     }
 }
 
@@ -78,9 +76,9 @@ fn folded_by<G: Gate, T: Threads + Sync>(
     hasher: Seeded,
     workers: usize,
     gate: &G,
-) -> Result<Kept, LoadFault>
-    ensures folded { IfOk result (λ kept. IsFolded nothing_kept bodies (kept_view kept)) }
-    ensures bad { (offset : ℕ) → result ≡ Err (LoadFault.BadState offset) → IsBadBody bodies offset }
+) -> Result<Made, LoadFault>
+    ensures folded { IfOk result (λ made. IsFolded None bodies (made_view made)) }
+    ensures bad { (offset : ℕ) → result ≡ Err (LoadFault.BadState offset) → IsBadBody None bodies offset }
     ensures disk { result ≢ Err LoadFault.DiskFault }
 {
     let bytes = bytes_of(bodies.as_slice());
@@ -96,54 +94,61 @@ fn folded_by<G: Gate, T: Threads + Sync>(
     put_together(alloc, read, hasher)
 }
 
-// What the batches of all parts make of nothing, or the fault of the first part that has one.
+// What the bodies of all parts make of nothing.
 fn put_together(
     alloc: Global,
-    parts: Vec<Result<Vec<Batch>, LoadFault>>,
+    parts: Vec<Result<Vec<Found>, NoMemory>>,
     hasher: Seeded,
-) -> Result<Kept, LoadFault>
-    ensures read { IfOk result (λ _. AllRead parts.items) }
-    ensures kept { IfOk result (λ kept. kept_view kept ≡ applied nothing_kept (batches_in parts.items)) }
-    ensures bad { (offset : ℕ) → result ≡ Err (LoadFault.BadState offset) → FailsBy parts.items (LoadFault.BadState offset) }
-    ensures disk { result ≡ Err LoadFault.DiskFault → FailsBy parts.items LoadFault.DiskFault }
+) -> Result<Made, LoadFault>
+    ensures { (ps : List SomePart) → length parts.items ≡ length ps → ReadsEach ps parts.items → ReadsTo made_view None (bodies_in ps) result }
 {
-    let mut kept = Kept::empty(alloc, hasher);
+    let mut made = Made::Nothing;
     for part in parts {
-        absorb_all(&mut kept, part?)?;
+        take_part(&mut made, alloc, part, hasher)?;
     }
-    Ok(kept)
+    Ok(made)
 }
 
-fn absorb_all(kept: &mut Kept, batches: Vec<Batch>) -> Result<(), NoMemory>
-    ensures { OnOk result (kept_view kept.new ≡ applied (kept_view kept.old) batches.items) }
+fn take_part(
+    made: &mut Made,
+    alloc: Global,
+    part: Result<Vec<Found>, NoMemory>,
+    hasher: Seeded,
+) -> Result<(), LoadFault>
+    ensures { (p : SomePart) → ReadsPart p part → ReadsTo (λ _. made_view made.new) (made_view made.old) p.bodies.items result }
 {
-    for batch in batches {
-        kept.absorb(batch)?;
+    match part {
+        Ok(founds) => made.take_all(alloc, founds, hasher),
+        Err(_) => Err(LoadFault::NoMemory),
     }
-    Ok(())
 }
 
-// What the bodies make of nothing. Each is let go before what it makes grows.
-fn folded(alloc: Global, bodies: Bodies, hasher: Seeded) -> Result<Kept, LoadFault>
-    ensures folded { IfOk result (λ kept. IsFolded nothing_kept bodies (kept_view kept)) }
-    ensures bad { (offset : ℕ) → result ≡ Err (LoadFault.BadState offset) → IsBadBody bodies offset }
+// What the bodies make of nothing.
+fn folded(alloc: Global, bodies: Bodies, hasher: Seeded) -> Result<Made, LoadFault>
+    ensures folded { IfOk result (λ made. IsFolded None bodies (made_view made)) }
+    ensures bad { (offset : ℕ) → result ≡ Err (LoadFault.BadState offset) → IsBadBody None bodies offset }
     ensures disk { result ≢ Err LoadFault.DiskFault }
 {
-    let mut kept = Kept::empty(alloc, hasher);
+    take_each(alloc, bodies, hasher)
+}
+
+// Each is let go before what it makes grows.
+fn take_each(alloc: Global, bodies: Bodies, hasher: Seeded) -> Result<Made, LoadFault>
+    ensures { ReadsTo made_view None bodies result }
+{
+    let mut made = Made::Nothing;
     let items = bodies.into_vec();
     for body in items {
-        let batch = batch_of(alloc, body, hasher)?;
-        kept.absorb(batch)?;
+        take_body(&mut made, alloc, body, hasher)?;
     }
-    Ok(kept)
+    Ok(made)
 }
 
-/// The batch whose bytes a body is.
-pub(crate) fn batch_of(alloc: Global, body: Body, hasher: Seeded) -> Result<Batch, LoadFault>
-    ensures batch { IfOk result (λ batch. IsBody batch body.1) }
-    ensures bad { (offset : ℕ) → result ≡ Err (LoadFault.BadState offset) → IsBadBody (body ∷ []) offset }
-    ensures disk { result ≢ Err LoadFault.DiskFault }
+fn take_body(made: &mut Made, alloc: Global, body: Body, hasher: Seeded) -> Result<(), LoadFault>
+    ensures { ReadsTo (λ _. made_view made.new) (made_view made.old) (body ∷ []) result }
 {
-    let decoded = Batch::decode(alloc, body.bytes(), hasher)?;
-    decoded.ok_or(LoadFault::BadState(body.offset()))
+    match found_in(alloc, body, hasher) {
+        Ok(found) => made.take(alloc, found, hasher),
+        Err(_) => Err(LoadFault::NoMemory),
+    }
 }

@@ -1,11 +1,10 @@
 // Many batches.
 ghost use Rattle.std.specs.Prelude.{◌≡◌, ◌+◌, ◌↔◌, false, IsTrue, OnOk, OnErr, Err};
-ghost use Rattle.carte_codec.specs.Each.{EachFits};
 ghost use Rattle.carte_io.specs.Causes.{HasCauseOf};
 ghost use Rattle.carte_io.specs.Stations.{StepsThrough};
 ghost use Rattle.carte_state.specs.Folding.{Keeps};
-ghost use Rattle.carte_state.specs.Runs.{AreUnmarked, EndsIn, applied, calls_of_all, journal_behind, steps_of};
-ghost use Rattle.carte_state.specs.States.{IsKeptOn, kept_in};
+ghost use Rattle.carte_state.specs.Runs.{AreUnmarked, BeginAll, EndsIn, applied, applied_to, calls_of_all, journal_behind, steps_of};
+ghost use Rattle.carte_state.specs.States.{IsKeptOn, any_in, kept_in};
 
 use crate::{ApplyFault, State};
 use carte_io::Disk;
@@ -22,8 +21,10 @@ pub fn apply_all<D: Disk>(
 ) -> Result<(), ApplyFault>
     requires whole { state.old.journal.broken ≡ false }
     requires unmarked { AreUnmarked batches.items }
+    requires begins { BeginAll (any_in state.old) batches.items }
 
     ensures kept { OnOk result (kept_in state.new ≡ applied (kept_in state.old) batches.items) }
+    ensures any { OnOk result (any_in state.new ≡ applied_to (any_in state.old) batches.items) }
     ensures place { OnOk result (state.new.journal ≡ journal_behind state.old.journal batches.items) }
     ensures broken { IsTrue state.new.journal.broken ↔ (result ≡ Err ApplyFault.DiskFault) }
     ensures cause { HasCauseOf ApplyFault.DiskFault (D.faults disk.old) (D.faults disk.new) result }
@@ -34,7 +35,7 @@ pub fn apply_all<D: Disk>(
 
     // Whether it ends early or not: at each moment an image keeps all the batches of which the calls had passed.
     ensures steps { D.tells → IsKeptOn state.old (D.story disk.old)
-        → StepsThrough (Keeps state.old.journal.limit) (kept_in state.old) (steps_of state.old.journal (kept_in state.old) batches.items)
+        → StepsThrough (Keeps state.old.journal.limit) (any_in state.old) (steps_of state.old.journal (any_in state.old) batches.items)
         (D.story disk.old) (D.story disk.new) }
 {
     for batch in batches {

@@ -1,13 +1,10 @@
 // Reading bodies in neighbouring parts, each by a thread of its own.
-ghost use Rattle.std.specs.Prelude.{◌≡◌, ◌≢◌, ◌+◌, ◌<◌, ◌≤◌, ◌^◌, ◌++◌, ◌∷◌, [], ℕ, false, length, IfOk, OnOk, Err};
-ghost use Rattle.carte_state.specs.Folding.{IsBadBody};
-ghost use Rattle.carte_state.specs.Parts.{AreBatches, ReadsEach, bodies_in, held_in};
+ghost use Rattle.std.specs.Prelude.{◌≡◌, ◌+◌, ◌<◌, ◌≤◌, ◌^◌, ◌++◌, ◌∷◌, [], false, length, IfOk, OnOk};
+ghost use Rattle.carte_state.specs.Parts.{AreFound, IsFoundIn, ReadsEach, bodies_in, held_in};
 
-use crate::LoadFault;
-use crate::load::batch_of;
+use crate::any::{AnyBatch, decode_any};
 use carte_io::Gate;
 use carte_journal::Body;
-use carte_record::Batch;
 use carte_value::{NoMemory, Seeded};
 use std::alloc::Global;
 use std::marker::Sync;
@@ -23,6 +20,13 @@ const WORTH: usize = 1 << 15;
 pub(crate) struct Part {
     number: usize,
     bodies: Vec<Body>,
+}
+
+/// What a body was read as: a batch, or none, and the offset of its gate byte.
+#[derive(Drop)]
+pub(crate) struct Found {
+    pub(crate) offset: u64,
+    pub(crate) batch: Option<AnyBatch>,
 }
 
 /// How many bytes bodies have.
@@ -135,7 +139,7 @@ pub(crate) fn read_parts<G: Gate, T: Threads + Sync>(
     parts: Vec<Part>,
     hasher: Seeded,
     gate: &G,
-) -> Result<Vec<Result<Vec<Batch>, LoadFault>>, NoMemory>
+) -> Result<Vec<Result<Vec<Found>, NoMemory>>, NoMemory>
     ensures len { IfOk result (λ read. length read.items ≡ length parts.items) }
     ensures each { IfOk result (λ read. ReadsEach parts.items read.items) }
 {
@@ -143,30 +147,40 @@ pub(crate) fn read_parts<G: Gate, T: Threads + Sync>(
     Ok(read)
 }
 
-// The batches that the bodies of a part are, up to the first that is none. Each body is let go once it is read.
+// What the bodies of a part are. Each is let go once it is read. One that is no batch doesn't end it, since one before it
+// may be of a version that can't come there, which shows when the parts are put together.
 fn read_part<G: Gate>(
     alloc: Global,
     part: Part,
     hasher: Seeded,
     gate: &G,
-) -> Result<Vec<Batch>, LoadFault>
-    ensures batches { IfOk result (λ batches. AreBatches part.bodies.items batches.items) }
-    ensures bad { (offset : ℕ) → result ≡ Err (LoadFault.BadState offset) → IsBadBody part.bodies.items offset }
-    ensures disk { result ≢ Err LoadFault.DiskFault }
+) -> Result<Vec<Found>, NoMemory>
+    ensures { IfOk result (λ founds. AreFound part.bodies.items founds.items) }
 {
     let Part { number, bodies } = part;
     gate.enter(number);
-    let mut batches = Vec::with_capacity(alloc, bodies.len())?;
+    let mut founds = Vec::with_capacity(alloc, bodies.len())?;
     for body in bodies {
-        let batch = batch_of(alloc, body, hasher)?;
-        put(&mut batches, batch)?;
+        let found = found_in(alloc, body, hasher)?;
+        put(&mut founds, found)?;
     }
-    Ok(batches)
+    Ok(founds)
 }
 
-fn put(batches: &mut Vec<Batch>, batch: Batch) -> Result<(), NoMemory>
-    ensures { OnOk result (batches.new.items ≡ batches.old.items ++ batch ∷ []) }
+/// What a body is.
+pub(crate) fn found_in(alloc: Global, body: Body, hasher: Seeded) -> Result<Found, NoMemory>
+    ensures { IfOk result (λ found. IsFoundIn body found) }
 {
-    batches.push(batch)?;
+    let batch = decode_any(alloc, body.bytes(), hasher)?;
+    Ok(Found {
+        offset: body.offset(),
+        batch,
+    })
+}
+
+fn put(founds: &mut Vec<Found>, found: Found) -> Result<(), NoMemory>
+    ensures { OnOk result (founds.new.items ≡ founds.old.items ++ found ∷ []) }
+{
+    founds.push(found)?;
     Ok(())
 }

@@ -1,14 +1,16 @@
-ghost use Rattle.std.specs.Prelude.{◌≡◌, ◌≢◌, ◌+◌, ◌<◌, ◌≤◌, ◌^◌, ℕ, false, length, option_copied, IfOk, IsOkUnless, OnOk, OnErr, Ok, Err};
+ghost use Rattle.std.specs.Prelude.{◌≡◌, ◌≢◌, ◌+◌, ◌<◌, ◌≤◌, ◌^◌, ℕ, false, true, is_some, length, None, option_copied, IfOk, IsOkUnless, OnOk, OnErr, Ok, Err};
 ghost use Rattle.carte_codec.specs.Each.{EachFits};
 ghost use Rattle.carte_state.specs.Around.{over_disk};
 ghost use Rattle.carte_record.specs.Bodies.{IsBody, IsUnmarked, spelled_batch};
 ghost use Rattle.carte_record.specs.Folds.{apply, with_marks};
-ghost use Rattle.carte_record.specs.Kept.{kept_view};
+ghost use Rattle.carte_record.specs.Kept.{kept_view, nothing_kept};
 ghost use Rattle.carte_record.specs.Marked.{CanBeMarked, lists_marked};
 ghost use Rattle.carte_state.specs.Applying.{Applies};
 ghost use Rattle.carte_state.specs.Folding.{Keeps};
 ghost use Rattle.carte_state.specs.Rewriting.{IsRegionFor, step_over, with_journal};
-ghost use Rattle.carte_state.specs.States.{IsKeptOn, Stand as SomeStand, kept_in, needs_for};
+ghost use Rattle.carte_state.specs.Parts.{made_view};
+ghost use Rattle.carte_state.specs.Versions.{Begins, kept_of};
+ghost use Rattle.carte_state.specs.States.{IsKeptOn, Stand as SomeStand, any_in, kept_in, needs_for};
 ghost use Rattle.carte_io.specs.Causes.{HasCauseOf};
 ghost use Rattle.carte_io.specs.Stations.{StepsThrough};
 ghost use Rattle.carte_journal.specs.Journals.{broke};
@@ -16,10 +18,12 @@ ghost use Rattle.carte_journal.specs.Regions.{AreShort, IsPlannedOn, IsRegionOf,
 
 use crate::ApplyFault;
 use crate::fault::fault_of;
+use crate::made::Made;
 use carte_io::Disk;
 use carte_journal::{Bank, Bodies, CommitFault, Frame, Journal, Region};
 use carte_record::{Batch, Kept};
-use carte_value::{Digest, Names, NoMemory, Value};
+use carte_record_one::KeptOne;
+use carte_value::{Digest, Names, NoMemory, Seeded, Value};
 use std::alloc::Global;
 use std::marker::Model;
 use std::mem::replace;
@@ -30,6 +34,7 @@ use std::mem::replace;
 pub struct State {
     journal: Journal,
     kept: Kept,
+    one: Option<KeptOne>,
 }
 
 impl Model for State {
@@ -37,14 +42,48 @@ impl Model for State {
 
     ghost Value = { Stand };
 
-    ghost view = { λ s. record { journal = s.journal; kept = s.kept } };
+    ghost view = { λ s. record { journal = s.journal; kept = s.kept; one = s.one } };
 }
 
 impl State {
-    pub(crate) fn of(journal: Journal, kept: Kept) -> State
-        ensures { result ≡ record { journal = journal; kept = kept } }
+    /// The state that is read so.
+    pub(crate) fn of(alloc: Global, journal: Journal, made: Made, hasher: Seeded) -> State
+        ensures journal { result.journal ≡ journal }
+        ensures any { any_in result ≡ kept_of (made_view made) }
+        ensures bare { is_some result.one ≡ true → kept_in result ≡ nothing_kept }
     {
-        State { journal, kept }
+        match made {
+            Made::Nothing => State {
+                journal,
+                kept: Kept::empty(alloc, hasher),
+                one: None,
+            },
+            Made::Old(old) => State {
+                journal,
+                kept: Kept::empty(alloc, hasher),
+                one: Some(old),
+            },
+            Made::Now(kept) => State {
+                journal,
+                kept,
+                one: None,
+            },
+        }
+    }
+
+    /// Whether what is kept is of version 1.
+    pub fn is_old(&self) -> bool
+        ensures { result ≡ is_some self.now.one }
+    {
+        self.one.is_some()
+    }
+
+    /// What is kept in version 1, where the bodies of the file are of that version and there is one at least. Then nothing
+    /// is kept of version 2 until a batch is applied, which has to begin cleared.
+    pub fn old(&self) -> Option<&KeptOne>
+        ensures { option_copied result ≡ self.now.one }
+    {
+        self.one.as_ref()
     }
 
     /// What is kept.
@@ -126,6 +165,7 @@ impl State {
         requires planned { IsPlannedOn self.old.journal region.now }
         requires rewritable { IsRewritable self.old.journal }
         requires alike { IsRegionFor (kept_in self.old) region.now }
+        requires new { self.old.one ≡ None }
 
         // Where there is no room, no call of the disk is made.
         ensures full { self.old.journal.limit < region_end region.now
@@ -142,7 +182,7 @@ impl State {
 
         ensures rest { D.tells → IsKeptOn self.old (D.story disk.old) → OnOk result (IsKeptOn self.new (D.story disk.new)) }
         ensures steps { D.tells → IsKeptOn self.old (D.story disk.old)
-            → StepsThrough (Keeps self.old.journal.limit) (kept_in self.old) (step_over region.now (kept_in self.old)) (D.story disk.old) (D.story disk.new) }
+            → StepsThrough (Keeps self.old.journal.limit) (any_in self.old) (step_over region.now (any_in self.old)) (D.story disk.old) (D.story disk.new) }
     {
         self.journal.rewrite(disk, region)
     }
@@ -150,7 +190,7 @@ impl State {
     /// Puts a batch into what is kept, on the disk and here. After Ok every later image of the file keeps it; at each
     /// moment before, an image keeps what was kept before it or after it. An empty batch makes no call of the disk, and
     /// another 4 writing calls, or 6 as the first on a new file. The batch goes into what is kept as it is, and where it is
-    /// refused it is dropped.
+    /// refused it is dropped. A state of version 1 takes one that begins cleared, and is then of version 2.
     pub fn apply<D: Disk>(
         &mut self,
         alloc: Global,
@@ -159,6 +199,7 @@ impl State {
     ) -> Result<(), ApplyFault>
         requires whole { self.old.journal.broken ≡ false }
         requires unmarked { EachFits IsUnmarked batch.entries }
+        requires begins { Begins (any_in self.old) batch }
 
         ensures { Applies (over_disk D.tells D.story D.faults disk.old disk.new) self.old self.new batch result }
     {
@@ -174,6 +215,7 @@ impl State {
     ) -> Result<(), ApplyFault>
         requires whole { self.old.journal.broken ≡ false }
         requires unmarked { EachFits IsUnmarked batch.old.entries }
+        requires begins { Begins (any_in self.old) batch.old }
 
         ensures { Applies (over_disk D.tells D.story D.faults disk.old disk.new) self.old self.new batch.old result }
     {
@@ -182,6 +224,7 @@ impl State {
         }
         let frame = self.frame_of(alloc, batch)?;
         take_in(&mut self.kept, alloc, batch)?;
+        self.one = None;
         match self.journal.commit(disk, &frame) {
             Ok(()) => Ok(()),
             Err(fault) => Err(fault_of(fault)),

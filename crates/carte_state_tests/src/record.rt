@@ -63,8 +63,12 @@ fn traces(alloc: Global) -> Result<Traces, Fail> {
     for key in ["a", "b", "a", "a"] {
         let key = Name::rule(alloc, key)?;
         let links = SharedLinks::of(alloc, Links::new(alloc))?;
-        let result = number(1);
-        traces.push(Trace { key, links, result })?;
+        traces.push(Trace {
+            key,
+            task: number(0),
+            links,
+            result: number(1),
+        })?;
     }
     Ok(traces.copy(alloc)?)
 }

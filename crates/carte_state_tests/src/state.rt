@@ -1,9 +1,11 @@
 //! What a state keeps over loads, crashes and faults.
 
-ghost use Rattle.std.specs.Prelude.{IfOk};
+ghost use Rattle.std.specs.Prelude.{◌≡◌, true, List, IfOk};
 ghost use Rattle.carte_codec.specs.Each.{EachFits};
 ghost use Rattle.carte_record.specs.Bodies.{IsUnmarked};
-ghost use Rattle.carte_state.specs.Runs.{AreUnmarked};
+ghost use Rattle.carte_record.specs.declared.batch.Batch.{Batch as SomeBatch};
+ghost use Rattle.carte_state.specs.Runs.{AreUnmarked, BeginAll};
+ghost use Rattle.carte_state.specs.States.{any_in};
 
 use carte_io::{Disk, MemDisk};
 use carte_record::{Batch, Entries, Seen, Start, Store, Traces};
@@ -21,9 +23,10 @@ fn number_batch(alloc: Global, start: Start, number: i64) -> Result<Batch, NoMem
     Ok(Batch {
         start,
         values,
+        gone: Names::new(alloc),
         seen: Seen::new(alloc, Seeded::of(7)),
-        stale: Names::new(alloc),
         entries: Entries::new(alloc, Seeded::of(7)),
+        stale: Names::new(alloc),
         verifying: Traces::new(alloc, Seeded::of(7)),
         constructive: Traces::new(alloc, Seeded::of(7)),
         deep: Traces::new(alloc, Seeded::of(7)),
@@ -47,19 +50,32 @@ fn has_on(alloc: Global, disk: &mut MemDisk, number: i64) -> bool {
     }
 }
 
-// Applies 1 under rules, and then 2. Whether both were taken.
+// Applies 1 behind a clearing, and then 2. Whether both were taken.
 fn apply_two<D: Disk>(alloc: Global, disk: &mut D) -> Result<bool, NoMemory> {
     let Ok(mut state) = State::load(alloc, disk, 1 << 20, Seeded::of(7)) else {
         return Ok(false);
     };
+    if !is_new(&state) {
+        return Ok(false);
+    }
     let batches = two_batches(alloc)?;
     Ok(apply_all(&mut state, alloc, disk, batches).is_ok())
+}
+
+// Nothing is kept in version 1, so batches may begin as they like.
+fn is_new(state: &State) -> bool
+    ensures { result ≡ true → (batches : List SomeBatch) → BeginAll (any_in state.now) batches }
+{
+    match state.old() {
+        Some(_) => false,
+        None => true,
+    }
 }
 
 fn two_batches(alloc: Global) -> Result<Vec<Batch>, NoMemory>
     ensures { IfOk result (λ batches. AreUnmarked batches.items) }
 {
-    let first = number_batch(alloc, Start::Anew(Value::Number(7).digest()), 1)?;
+    let first = number_batch(alloc, Start::Cleared, 1)?;
     let second = number_batch(alloc, Start::GoOn, 2)?;
     Ok(vec![in alloc; first, second]?)
 }

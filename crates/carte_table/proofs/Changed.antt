@@ -1,6 +1,7 @@
 -- Lists with one item changed.
-use Rattle.std.proofs.Common.{◌≡◌, ℕ, suc, Bool, true, false, cond, List, [], ◌∷◌, ◌++◌, length, Option, Some, None, refl, ap, ◌∙◌, subst, set, slice_get}
-use Rattle.std.specs.Prelude.{option_map, find, if◌then◌else◌}
+use Rattle.std.proofs.Common.{◌≡◌, ℕ, suc, ◌+◌, ◌<◌, Bool, true, false, cond, List, [], ◌∷◌, ◌++◌, length, take, get_or, Option, Some, None, refl, ap, sym, ◌∙◌, subst, set, slice_get}
+use Rattle.std.proofs.lemmas.List.{take_more}
+use Rattle.std.specs.Prelude.{filter, option_map, find, if◌then◌else◌}
 use Rattle.carte_table.specs.Places.{first_place}
 use Rattle.std.specs.List.{flat_map}
 use Rattle.carte_table.specs.Changes.{all_changed, change_first}
@@ -87,3 +88,20 @@ changed_end is_of f xs (j ∷ js) k = changed_end is_of f (change_first (is_of j
 pub all_long : {K A : Type 0} (is_of : K → A → Bool) (f : A → A) (xs : List A) (ks : List K) → length (all_changed is_of f xs ks) ≡ length xs
 all_long is_of f xs [] = refl
 all_long is_of f xs (k ∷ ks) = all_long is_of f (change_first (is_of k) f xs) ks ∙ length_changed (is_of k) f xs
+
+-- ---- items that are left out
+
+filter_end : {A : Type 0} (p : A → Bool) (xs : List A) (x : A) → filter p (xs ++ x ∷ []) ≡ (if p x then filter p xs ++ x ∷ [] else filter p xs)
+filter_end p [] x = refl
+filter_end {A = A} p (y ∷ ys) x = on (p y) (p x) (filter_end p ys x)
+  where
+    on : (b c : Bool) → filter p (ys ++ x ∷ []) ≡ (if c then filter p ys ++ x ∷ [] else filter p ys)
+        → cond b (y ∷ filter p (ys ++ x ∷ [])) (filter p (ys ++ x ∷ [])) ≡ (if c then cond b (y ∷ filter p ys) (filter p ys) ++ x ∷ [] else cond b (y ∷ filter p ys) (filter p ys))
+    on true true is = ap (λ zs. y ∷ zs) is
+    on true false is = ap (λ zs. y ∷ zs) is
+    on false true is = is
+    on false false is = is
+
+-- of one item more in front
+pub filter_more : {A : Type 0} (p : A → Bool) (xs : List A) (i : ℕ) (x : A) → i < length xs → x ≡ get_or xs i x → filter p (take (i + 1) xs) ≡ (if p x then filter p (take i xs) ++ x ∷ [] else filter p (take i xs))
+filter_more p xs i x below is = ap (filter p) (take_more xs i x below ∙ ap (λ y. take i xs ++ y ∷ []) (sym is)) ∙ filter_end p (take i xs) x

@@ -1,17 +1,17 @@
-ghost use Rattle.std.specs.Prelude.{◌≡◌, ◌<◌, ◌≤◌, ◌^◌, ◌∷◌, ◌++◌, [], ℕ, List, false, length, slice_get, option_copied, ◌==◌, is_ok, take, IfOk, IsTrue, OnOk, OnErr, if◌then◌else◌};
+ghost use Rattle.std.specs.Prelude.{◌≡◌, ◌<◌, ◌≤◌, ◌^◌, ◌∷◌, ◌++◌, [], ℕ, List, false, length, slice_get, option_copied, ◌==◌, filter, is_ok, take, IfOk, IsTrue, OnOk, OnErr, if◌then◌else◌};
 ghost use Rattle.std.specs.List.{list_any};
 ghost use Rattle.std.specs.HashMap.{get};
 ghost use Rattle.carte_name.specs.Names.{name_eq};
 ghost use Rattle.carte_table.specs.Latest.{latest_length, stands_at};
 ghost use Rattle.carte_table.specs.Lookups.{has_key};
 ghost use Rattle.carte_table.specs.Places.{places, ArePlaces, AddsToPlaces, DropsPlace};
-ghost use Rattle.carte_table.specs.Changes.{front};
+ghost use Rattle.carte_table.specs.Changes.{front, is_of_none};
 ghost use Rattle.carte_table.specs.Steps.{Begins};
 ghost use Rattle.carte_table.specs.KeyPlaces.{places_in};
 
-use crate::Places;
 use crate::keyed::Compared;
 use crate::table::{MOST, Table, make_place, widen};
+use crate::{NameTable, Places};
 use carte_value::{Name, NoMemory, Seeded};
 use std::alloc::Global;
 use std::marker::Model;
@@ -86,13 +86,6 @@ impl<T: Compared + Drop> All<T> {
         })
     }
 
-    /// Room for so many items more at once, where it has few beside these.
-    pub fn widen(&mut self, more: usize)
-        ensures { self.new ≡ self.old }
-    {
-        widen(&mut self.items, more);
-    }
-
     /// How many items there are.
     pub fn len(&self) -> usize
         ensures number { result ≡ length self.now }
@@ -105,6 +98,13 @@ impl<T: Compared + Drop> All<T> {
         ensures { result ≡ (length self.now == 0) }
     {
         self.items.is_empty()
+    }
+
+    /// Room for so many items more at once, where it has few beside these.
+    pub fn widen(&mut self, more: usize)
+        ensures { self.new ≡ self.old }
+    {
+        widen(&mut self.items, more);
     }
 
     /// The item at a place counted from 0, where the list is longer than that.
@@ -182,6 +182,26 @@ impl<T: Compared + Drop> All<T> {
             list.push(item.same(alloc)?)?;
         }
         Ok(list)
+    }
+
+    /// A second list of equal items, but for those of these keys.
+    pub fn without(&self, alloc: Global, gone: &NameTable) -> Result<All<T>, NoMemory>
+        ensures { IfOk result (λ left. left ≡ filter (is_of_none T.key_of gone.now) self.now) }
+    {
+        let mut left = All::with_room(alloc, self.len(), *self.places.hasher())?;
+        for item in self.items.iter() {
+            left.push_unless(alloc, item, gone)?;
+        }
+        Ok(left)
+    }
+
+    fn push_unless(&mut self, alloc: Global, item: &T, gone: &NameTable) -> Result<(), NoMemory>
+        ensures { OnOk result (self.new ≡ (if is_of_none T.key_of gone.now item.now then self.old ++ item.now ∷ [] else self.old)) }
+    {
+        if gone.find(item.key()).is_some() {
+            return Ok(());
+        }
+        self.push(item.same(alloc)?)
     }
 
     /// Puts an item behind the others. Where there is no room for it, it is dropped and nothing has changed.

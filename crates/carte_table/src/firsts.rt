@@ -1,13 +1,14 @@
-ghost use Rattle.std.specs.Prelude.{◌≡◌, ◌<◌, ◌^◌, ◌∷◌, ◌++◌, [], Bool, List, length, slice_get, option_copied, ◌==◌, is_ok, find, map, take, IfOk, IfSome, OnOk, OnErr, IsTrue, if◌then◌else◌};
+ghost use Rattle.std.specs.Prelude.{◌≡◌, ◌<◌, ◌^◌, ◌∷◌, ◌++◌, [], Bool, List, length, slice_get, option_copied, ◌==◌, filter, is_ok, find, map, take, IfOk, IfSome, OnOk, OnErr, IsTrue, if◌then◌else◌};
 ghost use Rattle.std.specs.List.{IsDistinct};
 ghost use Rattle.std.specs.HashMap.{get};
 ghost use Rattle.carte_name.specs.Names.{name_eq};
 ghost use Rattle.carte_codec.specs.Lengths.{IsLengthOf};
 ghost use Rattle.carte_table.specs.Lookups.{has_key};
 ghost use Rattle.carte_table.specs.Places.{first_place, IsFirstPlaces};
-ghost use Rattle.carte_table.specs.Changes.{all_changed, change_first, front};
+ghost use Rattle.carte_table.specs.Changes.{all_changed, change_first, front, is_of_none};
 ghost use Rattle.carte_table.specs.Steps.{Begins, Replaces, HasRoomFor, HasRoom, CanBecome, IsReady, TakesIn};
 
+use crate::NameTable;
 use crate::keyed::{Keyed, Marked};
 use crate::table::{Table, add, each_once, first, forget, length_with, place, push, set, widen};
 use carte_codec::{items_length, with_item, without_item};
@@ -98,6 +99,13 @@ impl<T: Keyed + Drop> Firsts<T> {
         self.items.is_empty()
     }
 
+    /// The first item of a key, where there is one. It takes no memory.
+    pub fn find(&self, key: &Name) -> Option<&T>
+        ensures { option_copied result ≡ find (has_key T.key_of key.now) self.now }
+    {
+        first(self.items.as_slice(), &self.places, key)
+    }
+
     /// The item at a place counted from 0, where the list is longer than that.
     pub fn get(&self, at: usize) -> Option<&T>
         ensures { option_copied result ≡ slice_get self.now at }
@@ -110,13 +118,6 @@ impl<T: Keyed + Drop> Firsts<T> {
         ensures { result.now ≡ self.now }
     {
         self.items.as_slice()
-    }
-
-    /// The first item of a key, where there is one. It takes no memory.
-    pub fn find(&self, key: &Name) -> Option<&T>
-        ensures { option_copied result ≡ find (has_key T.key_of key.now) self.now }
-    {
-        first(self.items.as_slice(), &self.places, key)
     }
 
     /// How many bytes the items are spelled as, where that is known and no key comes twice. It takes no pass over them.
@@ -251,6 +252,26 @@ impl<T: Keyed + Drop> Firsts<T> {
             list.push(item.same(alloc)?)?;
         }
         Ok(list)
+    }
+
+    /// A second list of equal items, but for those of these keys.
+    pub fn without(&self, alloc: Global, gone: &NameTable) -> Result<Firsts<T>, NoMemory>
+        ensures { IfOk result (λ left. left ≡ filter (is_of_none T.key_of gone.now) self.now) }
+    {
+        let mut left = Firsts::with_room(alloc, self.len(), self.hasher())?;
+        for item in self.items.iter() {
+            left.push_unless(alloc, item, gone)?;
+        }
+        Ok(left)
+    }
+
+    fn push_unless(&mut self, alloc: Global, item: &T, gone: &NameTable) -> Result<(), NoMemory>
+        ensures { OnOk result (self.new ≡ (if is_of_none T.key_of gone.now item.now then self.old ++ item.now ∷ [] else self.old)) }
+    {
+        if gone.find(item.key()).is_some() {
+            return Ok(());
+        }
+        self.push(item.same(alloc)?)
     }
 
     /// Puts an item behind the others. Where there is no room for it, it is dropped and nothing has changed.

@@ -1,12 +1,13 @@
-ghost use Rattle.std.specs.Prelude.{◌≡◌, ◌<◌, ◌^◌, ◌∷◌, ◌++◌, [], length, slice_get, option_copied, ◌==◌, is_ok, map, take, IfOk, IfSome, OnOk, if◌then◌else◌};
+ghost use Rattle.std.specs.Prelude.{◌≡◌, ◌<◌, ◌^◌, ◌∷◌, ◌++◌, [], length, slice_get, option_copied, ◌==◌, filter, is_ok, map, take, IfOk, IfSome, OnOk, if◌then◌else◌};
 ghost use Rattle.std.specs.List.{IsDistinct};
 ghost use Rattle.carte_name.specs.Names.{name_eq};
 ghost use Rattle.carte_codec.specs.Lengths.{IsLengthOf};
 ghost use Rattle.carte_codec.specs.Parts.{spelled_link};
+ghost use Rattle.carte_table.specs.Changes.{is_of_none};
 ghost use Rattle.carte_table.specs.Lookups.{first_link, is_link_of};
 ghost use Rattle.carte_table.specs.Steps.{Begins, IsReady, TakesIn};
 
-use crate::{Firsts, Keyed};
+use crate::{Firsts, Keyed, NameTable};
 use carte_value::{Digest, Link, Name, NoMemory, Seeded};
 use std::alloc::Global;
 use std::marker::Model;
@@ -138,6 +139,14 @@ impl Seen {
         ensures { IfOk result (λ copy. copy ≡ self.now) }
     {
         let links = self.links.copy(alloc)?;
+        Ok(Seen { links })
+    }
+
+    /// A second list of equal links, but for those of these names.
+    pub fn without(&self, alloc: Global, gone: &NameTable) -> Result<Seen, NoMemory>
+        ensures { IfOk result (λ left. left ≡ filter (is_of_none (λ l. l.name) gone.now) self.now) }
+    {
+        let links = self.links.without(alloc, gone)?;
         Ok(Seen { links })
     }
 

@@ -4,10 +4,8 @@ use Rattle.carte_io.specs.Disk.{LeavesOnly, Story}
 use Rattle.carte_io.proofs.Images.{leaves_more}
 use Rattle.carte_book.specs.Book.{Book}
 use Rattle.carte_record.specs.declared.batch.Batch.{Batch}
-use Rattle.carte_record.specs.Kept.{SomeKept}
-use Rattle.carte_sound.specs.Parts.{applied}
 use Rattle.carte_state.specs.Folding.{Keeps}
-use Rattle.carte_state.specs.States.{kept_in}
+use Rattle.carte_state.specs.States.{any_in}
 use Rattle.carte_state.specs.declared.fault.ApplyFault.{ApplyFault}
 use Rattle.carte_state.specs.declared.fault.ApplyFault.TheVariants.{Full}
 use Rattle.carte_state.proofs.Folds.{keeps_one}
@@ -21,6 +19,8 @@ use Rattle.carte_top.specs.Found.{ArePut, IsFoundAs, IsStopped}
 use Rattle.carte_top.specs.Running.{Opens}
 use Rattle.carte_top.specs.Sound.{IsStation, StaysAt}
 use Rattle.carte_top.proofs.Putting.{found_on, keeps_loaded, put_all, stays_kept, stopped_at}
+use Rattle.carte_state.specs.Versions.{AnyKept}
+use Rattle.carte_state.specs.Runs.{applied_to}
 
 -- the shell was opened over the disk as it was before any other call, too
 pub opened_on : (limit : ℕ) (x : Choices) (b : Book) (d : OverDisk) (m : Scene) (u : Story) (failed : ℕ) (same : Type 0) → Opens limit x b d m
@@ -36,13 +36,13 @@ opened_on limit x b d m u failed same opens = record {
 }
 
 module _ (limit : ℕ) (x : Choices) (b : Book) (d : OverDisk) (m m' : Scene) (opens : Opens limit x b d m) (last : m'.story ≡ d.new) where
-  pub found : d.tells → Keeps limit (kept_in m.stand) d.old.now.reads
-  found told = subst (λ (n : ℕ). Keeps n (kept_in m.stand) d.old.now.reads) opens.limit_is (keeps_loaded m.stand d.old.now.reads (opens.loaded told))
+  pub found : d.tells → Keeps limit (any_in m.stand) d.old.now.reads
+  found told = subst (λ (n : ℕ). Keeps n (any_in m.stand) d.old.now.reads) opens.limit_is (keeps_loaded m.stand d.old.now.reads (opens.loaded told))
 
   pub spared : m'.story ≡ m.story → d.tells → d.new ≡ d.old
   spared same told = sym last ∙ same ∙ opens.story told
 
-  abbrev found_as : IsFoundAs limit d (kept_in m.stand)
+  abbrev found_as : IsFoundAs limit d (any_in m.stand)
   found_as = record { stand = m.stand; story = m.story; unwritten = opens.story; loaded = opens.loaded; limit_is = opens.limit_is; keeps = refl }
 
   module _ (faults : m'.faults ≡ d.failed) (Bs : List Batch) where
@@ -53,11 +53,11 @@ module _ (limit : ℕ) (x : Choices) (b : Book) (d : OverDisk) (m m' : Scene) (o
         (subst (λ (n : ℕ). CommitsAll (record { tells = d.tells; old = m.story; new = d.new; failed_before = n; failed = m'.faults; same = Unit {0} }) m.stand m'.stand Bs result) opens.faults
         (subst (λ (u : Story). CommitsAll (record { tells = d.tells; old = m.story; new = u; failed_before = m.faults; failed = m'.faults; same = Unit {0} }) m.stand m'.stand Bs result) last c.commits))
 
-    pub put : Puts d.tells m m' Bs → ArePut limit d (kept_in m.stand) Bs
-    put puts = put_all limit d (kept_in m.stand) found_as Bs m'.stand (commits_on (Ok tt) puts)
+    pub put : Puts d.tells m m' Bs → ArePut limit d (any_in m.stand) Bs
+    put puts = put_all limit d (any_in m.stand) found_as Bs m'.stand (commits_on (Ok tt) puts)
 
-    pub stopped : (fault : ApplyFault) → CommitsTo d.tells m m' Bs (Err fault) → IsStopped limit d (kept_in m.stand) Bs fault
-    stopped fault c = stopped_at limit d (kept_in m.stand) found_as Bs m'.stand fault (commits_on (Err fault) c)
+    pub stopped : (fault : ApplyFault) → CommitsTo d.tells m m' Bs (Err fault) → IsStopped limit d (any_in m.stand) Bs fault
+    stopped fault c = stopped_at limit d (any_in m.stand) found_as Bs m'.stand fault (commits_on (Err fault) c)
 
     pub too_much : (needed most : ℕ) → CommitsTo d.tells m m' Bs (Err (Full needed most)) → (most ≡ limit) × (limit < needed)
     too_much needed most c =
@@ -65,18 +65,18 @@ module _ (limit : ℕ) (x : Choices) (b : Book) (d : OverDisk) (m m' : Scene) (o
         let most_is : most ≡ limit = over.0 ∙ opens.limit_is in
         (most_is, subst (λ (n : ℕ). n < needed) most_is over.1)
 
-    pub stays : (May : SomeKept → List Batch → Type 0) (result : Result (Unit {0}) ApplyFault) → CommitsTo d.tells m m' Bs result → May (kept_in m.stand) Bs → StaysAt limit May d
+    pub stays : (May : AnyKept → List Batch → Type 0) (result : Result (Unit {0}) ApplyFault) → CommitsTo d.tells m m' Bs result → May (any_in m.stand) Bs → StaysAt limit May d
     stays May result c may told settled L keeps =
-        let K = kept_in m.stand in
+        let K = any_in m.stand in
         let same : L ≡ K = keeps_one limit d.old.now.reads L K keeps (found told) in
         let here : LeavesOnly m.story d.new (IsStation limit May K) =
-        leaves_more m.story d.new (λ file. (some rest : List Batch) × (Bs ≡ some ++ rest) × Keeps m.stand.journal.limit (applied K some) file) (IsStation limit May K) at
+        leaves_more m.story d.new (λ file. (some rest : List Batch) × (Bs ≡ some ++ rest) × Keeps m.stand.journal.limit (applied_to K some) file) (IsStation limit May K) at
         (all_leaves (onwards d m.story) m.stand m'.stand Bs result (commits_on result c) told (found_on limit d K found_as told settled)) in
         let there : LeavesOnly d.old d.new (IsStation limit May K) = subst (λ (u : Story). LeavesOnly u d.new (IsStation limit May K)) (opens.story told) here in
-        subst (λ (M : SomeKept). LeavesOnly d.old d.new (IsStation limit May M)) (sym same) there
+        subst (λ (M : AnyKept). LeavesOnly d.old d.new (IsStation limit May M)) (sym same) there
       where
-        at : (file : List ℕ) → (some rest : List Batch) × (Bs ≡ some ++ rest) × Keeps m.stand.journal.limit (applied (kept_in m.stand) some) file → IsStation limit May (kept_in m.stand) file
-        at file (some, rest, all, keeps) = inr (some, rest, subst (May (kept_in m.stand)) all may, subst (λ (n : ℕ). Keeps n (applied (kept_in m.stand) some) file) opens.limit_is keeps)
+        at : (file : List ℕ) → (some rest : List Batch) × (Bs ≡ some ++ rest) × Keeps m.stand.journal.limit (applied_to (any_in m.stand) some) file → IsStation limit May (any_in m.stand) file
+        at file (some, rest, all, keeps) = inr (some, rest, subst (May (any_in m.stand)) all may, subst (λ (n : ℕ). Keeps n (applied_to (any_in m.stand) some) file) opens.limit_is keeps)
 
-pub still_at : (limit : ℕ) (d : OverDisk) (May : SomeKept → List Batch → Type 0) → (d.tells → d.new ≡ d.old) → StaysAt limit May d
+pub still_at : (limit : ℕ) (d : OverDisk) (May : AnyKept → List Batch → Type 0) → (d.tells → d.new ≡ d.old) → StaysAt limit May d
 still_at limit d May story told settled K keeps = stays_kept limit K d.old d.new (IsStation limit May K) keeps settled (story told) (λ file at. inl at)

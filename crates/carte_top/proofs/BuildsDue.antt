@@ -2,10 +2,8 @@
 use Rattle.std.proofs.Common.{◌≡◌, ℕ, List, [], ◌∷◌, ◌++◌, Result, Ok, Err, refl, sym, ap, ◌∙◌, inl, inr, ◌⊎◌, subst}
 use Rattle.carte_book.specs.Book.{Book}
 use Rattle.carte_book.specs.declared.reason.Reason.{Reason}
-use Rattle.carte_record.specs.Kept.{SomeKept}
 use Rattle.carte_record.specs.declared.batch.Batch.{Batch}
 use Rattle.carte_sound.specs.Base.{HasDistinctDigests}
-use Rattle.carte_sound.specs.Sound.{IsSound}
 use Rattle.carte_state.specs.Folding.{Keeps}
 use Rattle.carte_state.specs.declared.fault.ApplyFault.{ApplyFault}
 use Rattle.carte_state.specs.declared.fault.ApplyFault.TheVariants as applying
@@ -24,19 +22,21 @@ use Rattle.carte_top.specs.Due.{AllFit, AllOver, IsBadNow, IsDueOver, IsFound, I
 use Rattle.carte_top.specs.Found.{ArePut, Commits, Found, IsStopped, Overfills, RefusesFor, Replies, behind}
 use Rattle.carte_top.specs.Outcome.{BuiltOver, IsBad}
 use Rattle.carte_top.proofs.Unique.{one_refusal, served_or_refused}
+use Rattle.carte_engine.specs.Versions.{IsSoundAny}
+use Rattle.carte_state.specs.Versions.{AnyKept}
 
 -- ---- the state and its room
 
 module _ (limit : ℕ) (d : OverDisk) where
-  pub found_one : (P Q : SomeKept → Type 0) → IsKept limit d P → Found limit d Q → (K : SomeKept) × Keeps limit K d.old.now.reads × P K × Q K
+  pub found_one : (P Q : AnyKept → Type 0) → IsKept limit d P → Found limit d Q → (K : AnyKept) × Keeps limit K d.old.now.reads × P K × Q K
   found_one P Q is found =
       let same : found.0 ≡ is.1 = keeps_one limit d.old.now.reads found.0 is.1 (found.1 is.0) is.2 in
       (is.1, is.2, is.3, subst Q same found.2)
 
-  pub kept_or_bad : (P : SomeKept → Type 0) (at : ℕ) → IsKept limit d P → IsBad limit d at → ⊥
+  pub kept_or_bad : (P : AnyKept → Type 0) (at : ℕ) → IsKept limit d P → IsBad limit d at → ⊥
   kept_or_bad P at is bad = keeps_or_bad limit d.old.now.reads is.1 at is.2 (bad is.0).0
 
-  pub found_or_bad : (Q : SomeKept → Type 0) (at : ℕ) → IsBadNow limit d at → Found limit d Q → ⊥
+  pub found_or_bad : (Q : AnyKept → Type 0) (at : ℕ) → IsBadNow limit d at → Found limit d Q → ⊥
   found_or_bad Q at bad found = keeps_or_bad limit d.old.now.reads found.0 at (found.1 bad.0) bad.1
 
 pub bad_one : (limit : ℕ) (d : OverDisk) (at offset : ℕ) → IsBadNow limit d at → IsBad limit d offset → BadState offset ≡ BadState at
@@ -63,7 +63,7 @@ pub none_fit : (limit : ℕ) (d : OverDisk) (May : List Batch → Type 0) (neede
 none_fit limit d May needed most all Bs may = (needed, all.2 Bs may)
 
 -- what such batches say of a limit, against what all of them say
-module _ (limit : ℕ) (d : OverDisk) (May : List Batch → Type 0) (K : SomeKept) (Bs : List Batch) (may : May Bs) (told : d.tells) where
+module _ (limit : ℕ) (d : OverDisk) (May : List Batch → Type 0) (K : AnyKept) (Bs : List Batch) (may : May Bs) (told : d.tells) where
   pub all_fit : AllFit limit d May → (needed most : ℕ) → IsStopped limit d K Bs (applying.Full needed most) → ⊥
   all_fit fit needed most stopped =
       let found = stopped.found in
@@ -87,25 +87,25 @@ module _ (limit : ℕ) (d : OverDisk) (May : List Batch → Type 0) (K : SomeKep
 -- ---- a build
 
 -- what is due and what was done are said of one book and of what one file keeps
-pub record Meets (limit : ℕ) (d : OverDisk) (X : Book → Type 0) (Y Q : Book → SomeKept → Type 0) : Type 0 where
+pub record Meets (limit : ℕ) (d : OverDisk) (X : Book → Type 0) (Y Q : Book → AnyKept → Type 0) : Type 0 where
   pub book : Book
   pub first : X book
   pub told : d.tells
-  pub kept : SomeKept
+  pub kept : AnyKept
   pub keeps : Keeps limit kept d.old.now.reads
   pub history : List Book
-  pub sound : IsSound kept history
+  pub sound : IsSoundAny kept history
   pub distinct : HasDistinctDigests (history ++ book ∷ [])
   pub room : Y book kept
   pub did : Q book kept
 
 -- Is is how the book is there where a status is due, and Has how a run had it
 module _ (limit : ℕ) (d : OverDisk) (Is Has : (Book → Type 0) → Type 0) (one : (P Q : Book → Type 0) → Is P → Has Q → (b : Book) × P b × Q b) where
-  pub meet : (P X : Book → Type 0) (Y Q : Book → SomeKept → Type 0) → ((b : Book) → P b → X b × IsFound limit d b (Y b)) → Is P → Has (λ b. Found limit d (Q b)) → Meets limit d X Y Q
+  pub meet : (P X : Book → Type 0) (Y Q : Book → AnyKept → Type 0) → ((b : Book) → P b → X b × IsFound limit d b (Y b)) → Is P → Has (λ b. Found limit d (Q b)) → Meets limit d X Y Q
   meet P X Y Q parts is did =
       let at = one P (λ b. Found limit d (Q b)) is did in
       let part = parts at.0 at.1 in
-      let there = found_one limit d (λ K. (H : List Book) × IsSound K H × HasDistinctDigests (H ++ at.0 ∷ []) × Y at.0 K) (Q at.0) part.1 at.2 in
+      let there = found_one limit d (λ K. (H : List Book) × IsSoundAny K H × HasDistinctDigests (H ++ at.0 ∷ []) × Y at.0 K) (Q at.0) part.1 at.2 in
       record {
         book = at.0;
         first = part.0;
@@ -119,24 +119,24 @@ module _ (limit : ℕ) (d : OverDisk) (Is Has : (Book → Type 0) → Type 0) (o
         did = there.3;
       }
 
-  never_bad : (P X : Book → Type 0) (Y : Book → SomeKept → Type 0) → ((b : Book) → P b → X b × IsFound limit d b (Y b)) → Is P → Has (λ b. Unit {0}) → (offset : ℕ) → IsBad limit d offset → ⊥
+  never_bad : (P X : Book → Type 0) (Y : Book → AnyKept → Type 0) → ((b : Book) → P b → X b × IsFound limit d b (Y b)) → Is P → Has (λ b. Unit {0}) → (offset : ℕ) → IsBad limit d offset → ⊥
   never_bad P X Y parts is has offset bad =
       let at = one P (λ b. Unit {0}) is has in
-      kept_or_bad limit d (λ K. (H : List Book) × IsSound K H × HasDistinctDigests (H ++ at.0 ∷ []) × Y at.0 K) offset (parts at.0 at.1).1 bad
+      kept_or_bad limit d (λ K. (H : List Book) × IsSoundAny K H × HasDistinctDigests (H ++ at.0 ∷ []) × Y at.0 K) offset (parts at.0 at.1).1 bad
 
-  not_found : (Q : Book → SomeKept → Type 0) (at : ℕ) → Is (λ b. IsBadNow limit d at) → Has (λ b. Found limit d (Q b)) → ⊥
+  not_found : (Q : Book → AnyKept → Type 0) (at : ℕ) → Is (λ b. IsBadNow limit d at) → Has (λ b. Found limit d (Q b)) → ⊥
   not_found Q at is did = let both = one (λ b. IsBadNow limit d at) (λ b. Found limit d (Q b)) is did in found_or_bad limit d (Q both.0) at both.1 both.2
 
   module _ (w : Asked) (front : List ℕ) (k : OverSink) where
-    abbrev Replied : Book → SomeKept → Type 0
+    abbrev Replied : Book → AnyKept → Type 0
     Replied = Replies limit w d k (behind front TakesAll)
 
     -- where there is room for all batches that it may commit
     module _ (X : Book → Type 0) (is : Is (λ b. X b × IsFound limit d b (λ K. AllFit limit d (IsPlanned w b K)))) where
-      abbrev Fits : Book → SomeKept → Type 0
+      abbrev Fits : Book → AnyKept → Type 0
       Fits b K = AllFit limit d (IsPlanned w b K)
 
-      meets : (Q : Book → SomeKept → Type 0) → Has (λ b. Found limit d (Q b)) → Meets limit d X Fits Q
+      meets : (Q : Book → AnyKept → Type 0) → Has (λ b. Found limit d (Q b)) → Meets limit d X Fits Q
       meets Q did = meet (λ b. X b × IsFound limit d b (Fits b)) X Fits Q (λ b part. part) is did
 
       not_full : (needed most : ℕ) → Has (λ b. Found limit d (Overfills limit w d needed most b)) → ⊥
@@ -158,11 +158,11 @@ module _ (limit : ℕ) (d : OverDisk) (Is Has : (Book → Type 0) → Type 0) (o
       not_bad has offset bad = never_bad (λ b. X b × IsFound limit d b (Fits b)) X Fits (λ b part. part) is has offset bad
 
     -- where there is room for none
-    module _ (Over : Book → SomeKept → Type 0) (none : (b : Book) (K : SomeKept) → Over b K → NoneFit limit d (IsPlanned w b K)) (is : Is (λ b. IsFound limit d b (Over b))) where
-      meets_over : (Q : Book → SomeKept → Type 0) → Has (λ b. Found limit d (Q b)) → Meets limit d (λ b. Unit {0}) Over Q
+    module _ (Over : Book → AnyKept → Type 0) (none : (b : Book) (K : AnyKept) → Over b K → NoneFit limit d (IsPlanned w b K)) (is : Is (λ b. IsFound limit d b (Over b))) where
+      meets_over : (Q : Book → AnyKept → Type 0) → Has (λ b. Found limit d (Q b)) → Meets limit d (λ b. Unit {0}) Over Q
       meets_over Q did = meet (λ b. IsFound limit d b (Over b)) (λ b. Unit {0}) Over Q (λ b part. (tt, part)) is did
 
-      not_committed : (b : Book) (K : SomeKept) (H : List Book) (a : Answer) → d.tells → IsSound K H → HasDistinctDigests (H ++ b ∷ []) → Over b K → Commits limit w d b K a → ⊥
+      not_committed : (b : Book) (K : AnyKept) (H : List Book) (a : Answer) → d.tells → IsSoundAny K H → HasDistinctDigests (H ++ b ∷ []) → Over b K → Commits limit w d b K a → ⊥
       not_committed b K H a told sound distinct over did = no_room limit d (IsPlanned w b K) K did.batches (a, did.answers H sound distinct) told (none b K over) did.put
 
       not_done : Has (λ b. Found limit d (Replied b)) → ⊥
@@ -193,10 +193,10 @@ module _ (limit : ℕ) (d : OverDisk) (Is Has : (Book → Type 0) → Type 0) (o
 
     -- and each needs as many bytes
     module _ (needed most : ℕ) where
-      abbrev Over : Book → SomeKept → Type 0
+      abbrev Over : Book → AnyKept → Type 0
       Over b K = AllOver limit d needed most (IsPlanned w b K)
 
-      over_none : (b : Book) (K : SomeKept) → Over b K → NoneFit limit d (IsPlanned w b K)
+      over_none : (b : Book) (K : AnyKept) → Over b K → NoneFit limit d (IsPlanned w b K)
       over_none b K all = none_fit limit d (IsPlanned w b K) needed most all
 
       as_full : Is (λ b. IsFound limit d b (Over b)) → (n most_told : ℕ) → Has (λ b. Found limit d (Overfills limit w d n most_told b)) → StateFull n most_told ≡ StateFull needed most

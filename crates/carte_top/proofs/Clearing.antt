@@ -19,9 +19,10 @@ use Rattle.carte_table.specs.Lookups.{first_link, first_value}
 use Rattle.carte_record.specs.Lookups.{first_entry}
 use Rattle.carte_record.proofs.Growing.{kept_same, no_traces}
 use Rattle.carte_sound.specs.LeadsTo.{empty_batch}
-use Rattle.carte_sound.proofs.Emptied.{empty_applied}
 use Rattle.carte_sound.proofs.Tests.{name_self, digest_self}
-use Rattle.carte_state.specs.States.{Stand, kept_in}
+use Rattle.carte_record_one.specs.declared.kept.KeptOne.{KeptOne}
+use Rattle.carte_state.specs.States.{Stand, any_in, any_of}
+use Rattle.carte_state.specs.Versions.{InTwo, two_of}
 use Rattle.carte_engine.specs.Clearing.{clearing, is_bare}
 use Rattle.carte_top.specs.Found.{IsClearing}
 
@@ -33,28 +34,23 @@ nil_from : {A : Type 0} (xs : List A) → length xs == 0 ≡ true → xs ≡ []
 nil_from [] is = refl
 nil_from (x ∷ xs) is = absurd (let long : length (x ∷ xs) ≡ 0 = eqb-true (length (x ∷ xs)) 0 is in omega arith)
 
-none_from : {A : Type 0} (o : Option A) → is_none o ≡ true → o ≡ None
-none_from None is = refl
-none_from (Some x) is = cc
-
 -- where nothing stands in any list
 bare_keeps : (K : Kept) → is_bare K ≡ true → kept_view K ≡ nothing_kept
 bare_keeps K is =
-    let halves = both ((is_none K.rules && length K.chain == 0) && (length K.seen == 0 && length K.entries == 0))
+    let halves = both (length K.chain == 0 && (length K.seen == 0 && length K.entries == 0))
     ((length K.verifying == 0 && length K.constructive == 0) && (length K.deep == 0 && length K.values == 0)) is in
-    let head = both (is_none K.rules && length K.chain == 0) (length K.seen == 0 && length K.entries == 0) halves.0 in
+    let head = both (length K.chain == 0) (length K.seen == 0 && length K.entries == 0) halves.0 in
     let tail = both (length K.verifying == 0 && length K.constructive == 0) (length K.deep == 0 && length K.values == 0) halves.1 in
-    let rules = both (is_none K.rules) (length K.chain == 0) head.0 in
     let links = both (length K.seen == 0) (length K.entries == 0) head.1 in
     let ways = both (length K.verifying == 0) (length K.constructive == 0) tail.0 in
     let more = both (length K.deep == 0) (length K.values == 0) tail.1 in
-    kept_same (kept_view K) nothing_kept (none_from K.rules rules.0)
+    kept_same (kept_view K) nothing_kept
     (λ k. ap (λ ls. first_link ls k) (nil_from K.seen links.0)) (λ k. ap (λ es. first_entry es k) (nil_from K.entries links.1))
     (no_traces K (nil_from K.verifying ways.0) (nil_from K.constructive ways.1) (nil_from K.deep more.0))
-    (nil_from K.chain rules.1) (λ d. ap (λ vs. first_value vs d) (nil_from K.values more.1))
+    (nil_from K.chain head.0) (λ d. ap (λ vs. first_value vs d) (nil_from K.values more.1))
 
 cleared_keeps : (K : SomeKept) → apply (record empty_batch { start = Cleared }) K ≡ nothing_kept
-cleared_keeps K = kept_same (apply (record empty_batch { start = Cleared }) K) nothing_kept refl (λ k. refl) (λ k. refl) none refl (λ d. refl)
+cleared_keeps K = kept_same (apply (record empty_batch { start = Cleared }) K) nothing_kept (λ k. refl) (λ k. refl) none refl (λ d. refl)
   where
     none : (w : Way) (k : List ℕ) → traces_in k (batch_traces w (record empty_batch { start = Cleared })) [] ≡ []
     none Verifying k = refl
@@ -70,7 +66,7 @@ no_entry : (es : List Entry) → ((k : List ℕ) → first_entry es k ≡ None) 
 no_entry [] none = refl
 no_entry (e ∷ es) none = let there : first_entry (e ∷ es) e.key ≡ Some e = rw (name_self e.key) refl in let here = none e.key in cc
 
-no_value : (vs : List Value) → ((d : Digest) → first_value vs d ≡ None) → vs ≡ []
+pub no_value : (vs : List Value) → ((d : Digest) → first_value vs d ≡ None) → vs ≡ []
 no_value [] none = refl
 no_value (v ∷ vs) none = let there : first_value (v ∷ vs) (digest_of v) ≡ Some v = rw (digest_self (digest_of v)) refl in let here = none (digest_of v) in cc
 
@@ -90,7 +86,6 @@ no_trace (t ∷ ts) none =
 
 nothing_bare : (K : Kept) → kept_view K ≡ nothing_kept → is_bare K ≡ true
 nothing_bare K is =
-    let rules : K.rules ≡ None = ap (λ (L : SomeKept). L.rules) is in
     let chain : K.chain ≡ [] = ap (λ (L : SomeKept). L.chain) is in
     let seen = no_link K.seen (λ k. ap (λ (L : SomeKept). L.seen k) is) in
     let entries = no_entry K.entries (λ k. ap (λ (L : SomeKept). L.entries k) is) in
@@ -98,11 +93,16 @@ nothing_bare K is =
     let constructive = no_trace K.constructive (λ k. ap (λ (L : SomeKept). L.traces Constructive k) is) in
     let deep = no_trace K.deep (λ k. ap (λ (L : SomeKept). L.traces Deep k) is) in
     let values = no_value K.values (λ d. ap (λ (L : SomeKept). L.stored d) is) in
-    rw (rules, chain, seen, entries, verifying, constructive, deep, values) refl
+    rw (chain, seen, entries, verifying, constructive, deep, values) refl
 
-by_bare : (s : Stand) (t : Bool) → is_bare s.kept ≡ t → IsClearing (kept_in s) (if t then empty_batch else record empty_batch { start = Cleared })
-by_bare s true bare = record { leaves = empty_applied (kept_in s) ∙ bare_keeps s.kept bare; least = inl (bare_keeps s.kept bare, refl) }
-by_bare s false bare = record { leaves = cleared_keeps (kept_in s); least = inr (λ nothing. let all = nothing_bare s.kept nothing in cc, refl) }
+-- what is kept of version 1 is something
+by_bare : (K : Kept) (t : Bool) → is_bare K ≡ t → IsClearing (InTwo (kept_view K)) (if t then empty_batch else record empty_batch { start = Cleared })
+by_bare K true bare = record { leaves = ap InTwo (bare_keeps K bare); least = inl (ap InTwo (bare_keeps K bare), refl) }
+by_bare K false bare = record { leaves = ap InTwo (cleared_keeps (kept_view K)); least = inr (λ nothing. let all = nothing_bare K (ap two_of nothing) in cc, refl) }
 
-pub is_clearing : (s : Stand) → IsClearing (kept_in s) (clearing s)
-is_clearing s = by_bare s (is_bare s.kept) refl
+by_version : (o : Option KeptOne) (K : Kept) → IsClearing (any_of o (kept_view K)) (if is_none o && is_bare K then empty_batch else record empty_batch { start = Cleared })
+by_version None K = by_bare K (is_bare K) refl
+by_version (Some J) K = record { leaves = ap InTwo (cleared_keeps nothing_kept); least = inr (λ nothing. cc, refl) }
+
+pub is_clearing : (s : Stand) → IsClearing (any_in s) (clearing s)
+is_clearing s = by_version s.one s.kept

@@ -12,13 +12,10 @@ use Rattle.carte_session.specs.declared.end.StepEnd.TheVariants as line
 use Rattle.carte_book.specs.declared.fault.BookFault.{BookFault}
 use Rattle.carte_book.specs.declared.fault.BookFault.TheVariants.{Limit, NoMemory as BookNoMemory}
 use Rattle.carte_book.specs.declared.fault.Which.TheVariants.{Bytes}
-use Rattle.carte_record.specs.Kept.{SomeKept}
 use Rattle.carte_sound.specs.Base.{HasDistinctDigests}
-use Rattle.carte_sound.specs.Sound.{IsSound}
 use Rattle.carte_words.specs.declared.words.Command.{Command}
 use Rattle.carte_words.specs.declared.words.Command.TheVariants as command
 use Rattle.carte_words.specs.declared.words.Words.{Words as Asked}
-use Rattle.carte_engine.specs.Answers.{Under}
 use Rattle.carte_engine.specs.Schedulers.{IsServed, IsRefusedFor}
 use Rattle.carte_report.specs.declared.status.Status.{Status}
 use Rattle.carte_report.specs.declared.status.Status.TheVariants.{Done, BookRefused, Usage, BuildRefused, ReadFault, WriteFault, DiskFault, BadState, StateFull, NoMemory, ScriptTooLong}
@@ -31,6 +28,8 @@ use Rattle.carte_top.specs.Found.{Clears, ClearsTooMuch, Found, Holds, AreCleari
 use Rattle.carte_top.specs.Outcome.{Asks, Built, Cleaned, ComesTo, Does, Explained, Generated, IsBad, Lacks, Ran, Sat, status_of}
 use Rattle.carte_top.proofs.BuildsDue.{all_fit, bad_one, found_one, found_or_bad, full_due, kept_or_bad, meet, no_room, none_fit, over_due, over_same}
 use Rattle.carte_top.proofs.Unique.{one_generated, one_meant, one_of_kind, one_outcome}
+use Rattle.carte_engine.specs.Versions.{IsSoundAny, Under}
+use Rattle.carte_state.specs.Versions.{AnyKept}
 
 -- ---- the book
 
@@ -121,7 +120,7 @@ made_due limit w d k status due did is = over_due limit d (Makes w) (Makes w) (o
 -- ---- a clearing
 
 module _ (limit : ℕ) (d : OverDisk) (k : OverSink) where
-  abbrev Fits : SomeKept → Type 0
+  abbrev Fits : AnyKept → Type 0
   Fits K = AllFit limit d (AreClearing K)
 
   cleaned_due : (status due : Status) → Cleaned limit d k status → IsCleanDue limit d due → (status ≡ due) ⊎ IsHindered status
@@ -170,9 +169,9 @@ module _ (limit : ℕ) (w : Asked) (s : OverSource) (d : OverDisk) (k : OverSink
     seen_none fault refuses = is_book w.kind s (λ b. X b × Seen b) fault is refuses
 
     seen_bad : (offset : ℕ) → IsBad limit d offset → ⊥
-    seen_bad offset bad = kept_or_bad limit d (λ K. (H : List Book) × IsSound K H × HasDistinctDigests (H ++ is.1 ∷ []) × Unit {0}) offset is.3.1 bad
+    seen_bad offset bad = kept_or_bad limit d (λ K. (H : List Book) × IsSoundAny K H × HasDistinctDigests (H ++ is.1 ∷ []) × Unit {0}) offset is.3.1 bad
 
-    seen_with : (Q : Book → SomeKept → Type 0) → Holds w.kind s (λ b. Found limit d (λ K. Under K b (Q b K))) → (b : Book) × X b × ((K : SomeKept) × Q b K)
+    seen_with : (Q : Book → AnyKept → Type 0) → Holds w.kind s (λ b. Found limit d (λ K. Under K b (Q b K))) → (b : Book) × X b × ((K : AnyKept) × Q b K)
     seen_with Q did =
         let m = meet limit d (IsBook w.kind s) (Holds w.kind s) (over_one w.kind s) (λ b. X b × Seen b) X (λ b K. Unit {0}) (λ b K. Under K b (Q b K)) (λ b part. part) is did in
         (m.book, m.first, (m.kept, m.did m.history m.sound m.distinct))

@@ -1,13 +1,12 @@
 -- The state stays sound over a history of runs.
-use Rattle.std.proofs.Common.{◌≡◌, ℕ, List, [], ◌∷◌, ◌++◌, Ok, Err, refl, sym, ◌∙◌, ap, subst, inl, inr, append_assoc, append-nil}
+use Rattle.std.proofs.Common.{◌≡◌, ℕ, List, [], ◌∷◌, ◌++◌, None, Ok, Err, refl, sym, ◌∙◌, ap, subst, inl, inr, append_assoc, append-nil}
 use Rattle.std.proofs.lemmas.List.{append_cancel_right}
 use Rattle.carte_io.specs.Disk.{EachMoment, Leaves, LeavesOnly, Moment, Story, moments}
 use Rattle.carte_value.specs.Lists.{Has}
 use Rattle.carte_book.specs.Book.{Book}
 use Rattle.carte_record.specs.Kept.{nothing_kept}
 use Rattle.carte_sound.specs.Base.{HasDistinctDigests}
-use Rattle.carte_sound.specs.Sound.{IsSound}
-use Rattle.carte_sound.proofs.Begins.{behind_sound, front_distinct}
+use Rattle.carte_sound.proofs.Begins.{front_distinct}
 use Rattle.carte_sound.proofs.Histories.{nothing_sound}
 use Rattle.carte_session.specs.Lines.{lines_of}
 use Rattle.carte_shell.specs.Books.{AreBooks as AreBooksAt, Edits, IsBookAt, LooksAt}
@@ -25,6 +24,9 @@ use Rattle.carte_top.specs.Found.{Holds}
 use Rattle.carte_top.specs.Sound.{AreFirst, AreRead, AreReadFor, KeepsSound, StaysSound}
 use Rattle.carte_top.specs.Histories.{AreBooks, AreBooksFor, AreRuns, HasBehind, IsLeft, IsRunFrom, Run, WholeHistories, around_of}
 use Rattle.carte_top.proofs.Unique.{one_generated, one_meant, one_of_kind}
+use Rattle.carte_engine.specs.Versions.{IsSoundAny}
+use Rattle.carte_engine.proofs.Raising.{sound_behind}
+use Rattle.carte_state.specs.Versions.{InTwo}
 
 at_moment : (Q : Moment → Type 0) (ms : List Moment) (m : Moment) → EachMoment Q ms → Has ms m → Q m
 at_moment Q [] m each here = absurd here
@@ -118,7 +120,7 @@ module _ (limit : ℕ) (file : List ℕ) (G J : List Book) (r : Run) (keeps : Ke
       let parted : G ++ J ≡ (G ++ A) ++ rest = ap (λ (X : List Book). G ++ X) is ∙ sym (append_assoc G A rest) in
       let apart : HasDistinctDigests (G ++ A) = front_distinct (G ++ A) rest (subst HasDistinctDigests parted distinct) in
       let there : KeepsSound limit (G ++ A) r.file = left_has r.old r.new (KeepsSound limit (G ++ A)) r.file (stays tt run.settled G keeps_old apart) run.left in
-      (there.0, there.1, subst (λ (X : List Book). IsSound there.0 X) (sym parted) (behind_sound there.0 (G ++ A) rest there.2))
+      (there.0, there.1, subst (λ (X : List Book). IsSoundAny there.0 X) (sym parted) (sound_behind there.0 (G ++ A) rest there.2))
 
   run_sound : KeepsSound limit (G ++ J) r.file
   run_sound =
@@ -139,4 +141,4 @@ histories limit (r ∷ runs) G H file last keeps (J, rest, is, books, run, more)
 
 pub whole_histories : WholeHistories
 whole_histories limit runs H last are distinct =
-    histories limit runs [] H [] last (nothing_kept, record { gate = 8; bodies = []; reads = refl; folded = refl }, nothing_sound []) are distinct
+    histories limit runs [] H [] last (InTwo nothing_kept, record { gate = 8; bodies = []; reads = refl; makes = record { phase = None; folded = refl; kept = refl } }, nothing_sound []) are distinct

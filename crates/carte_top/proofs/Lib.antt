@@ -14,3 +14,4 @@ pub mod Commands
 pub mod Outcomes
 pub mod HistoryRuns
 pub mod Plain
+mod Bare

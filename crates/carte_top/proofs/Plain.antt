@@ -25,9 +25,7 @@ use Rattle.carte_record.specs.Kept.{SomeKept, nothing_kept}
 use Rattle.carte_rules.specs.Reading.{BookOf}
 use Rattle.carte_sound.specs.Base.{HasDistinctDigests, SameRules}
 use Rattle.carte_sound.specs.Held.{How}
-use Rattle.carte_sound.specs.LeadsTo.{Chaining, chain_behind, chain_stays, empty_batch}
-use Rattle.carte_sound.specs.Left.{Finishes, keys_of}
-use Rattle.carte_sound.specs.Parts.{PartsTo}
+use Rattle.carte_sound.specs.LeadsTo.{chain_behind, chain_stays}
 use Rattle.carte_sound.specs.Treated as treated
 use Rattle.carte_sound.specs.Treated.{IsDoneInOrder, IsDoneRestarting, IsDoneSuspending, IsTreated, IsTreatedRestarting}
 use Rattle.carte_sound.proofs.Histories.{nothing_sound}
@@ -44,6 +42,8 @@ use Rattle.carte_report.specs.declared.status.Status.TheVariants.{Done}
 use Rattle.carte_top.specs.Chosen.{BookOfKind, how_of, scheduler_of}
 use Rattle.carte_top.specs.Due.{AllFit, IsDue, IsDueFor, IsFound, IsPlanned}
 use Rattle.carte_top.specs.Plain.{AsksPlainly, PlainIsDue, plain_book, told_disk, told_source}
+use Rattle.carte_state.specs.Versions.{InTwo}
+use Rattle.carte_top.proofs.Bare.{IsOneEmpty, brings_empty}
 
 module _ (b : Book) (none : (k : List ℕ) → ¬ (IsRule b k)) where
   none_treated : (h : How) (K : SomeKept) (targets : List (List ℕ)) (k : List ℕ) → IsTreated h K b targets k → ⊥
@@ -70,19 +70,11 @@ module _ (b : Book) (none : (k : List ℕ) → ¬ (IsRule b k)) where
   plain_served Suspending targets all = all
 
   -- nothing is finished, and so nothing is brought
-  nothing_finished : (fs : Finishes) → ((k : List ℕ) → Among (keys_of fs) k → ⊥) → fs ≡ []
-  nothing_finished [] only = refl
-  nothing_finished (f ∷ fs) only = absurd (only f.0 (inl refl))
-
-  brings_nothing : (h : How) (done : SomeKept → List ℕ → Type 0) (chained : Chaining) (Bs : List Batch) → ((M : SomeKept) (k : List ℕ) → ¬ (done M k)) → PartsTo h done chained nothing_kept b Bs → Bs ≡ empty_batch ∷ []
-  brings_nothing h done chained Bs never (inl brings) = absurd (brings.something refl (nothing_finished brings.finished (λ k among. never _ k (brings.order.only k among))))
-  brings_nothing h done chained Bs never (inr nothing) = nothing.one ∙ ap (λ (B : Batch). B ∷ []) nothing.nothing.empty
-
-  pub plain_leads : (s : Scheduler) (h : How) (targets : List (List ℕ)) (a : Answer) (Bs : List Batch) → Leads s h nothing_kept b targets a Bs → Bs ≡ empty_batch ∷ []
-  plain_leads Topological h targets (answer.Built built) Bs leads = brings_nothing h (λ M k. IsDoneInOrder b targets k) chain_stays Bs (λ M k done. none k done.0.0) leads
-  plain_leads Topological h targets (answer.Refused reason runs) Bs leads = brings_nothing h (λ M k. ⊥) chain_stays Bs (λ M k never. never) leads
-  plain_leads Restarting h targets a Bs leads = brings_nothing h (λ M k. IsDoneRestarting h M b targets k) chain_behind Bs (λ M k done. none_restarted h M targets k done.0) leads
-  plain_leads Suspending h targets a Bs leads = brings_nothing h (λ M k. IsDoneSuspending h M b targets k) chain_stays Bs (λ M k done. none_treated h M targets k done.0) leads
+  pub plain_leads : (s : Scheduler) (h : How) (targets : List (List ℕ)) (a : Answer) (Bs : List Batch) → Leads s h (InTwo nothing_kept) b targets a Bs → IsOneEmpty Bs
+  plain_leads Topological h targets (answer.Built built) Bs leads = brings_empty h (λ M k. IsDoneInOrder b targets k) chain_stays b Bs refl (λ M k done. none k done.0.0) leads
+  plain_leads Topological h targets (answer.Refused reason runs) Bs leads = brings_empty h (λ M k. ⊥) chain_stays b Bs refl (λ M k never. never) leads
+  plain_leads Restarting h targets a Bs leads = brings_empty h (λ M k. IsDoneRestarting h M b targets k) chain_behind b Bs refl (λ M k done. none_restarted h M targets k done.0) leads
+  plain_leads Suspending h targets a Bs leads = brings_empty h (λ M k. IsDoneSuspending h M b targets k) chain_stays b Bs refl (λ M k done. none_treated h M targets k done.0) leads
 
 -- ---- the book with one input
 
@@ -132,6 +124,7 @@ plain_distinct : HasDistinctDigests (plain_book ∷ [])
 plain_distinct = record {
   values = λ b c j k v w has_b has_c of_v of_w same. one_clean b j v has_b of_v ∙ sym (one_clean c k w has_c of_w);
   rules = λ b c has_b has_c same. same_rules b c (one_of b has_b ∙ sym (one_of c has_c));
+  tasks = λ b c j k f g has_b has_c of_f of_g same. absurd (no_rule j (f, subst (λ (x : Book). content x j ≡ Some (rule f)) (one_of b has_b) of_f));
 }
 
 val_there : (n : ℕ) → val plain_book n (codes "a") ≡ Some (Number (pos 1))
@@ -145,13 +138,13 @@ module _ (limit : ℕ) (words : List (List ℕ)) (state : Story) (asks : AsksPla
   served : IsServed (scheduler_of asks.asked.scheduler) plain_book asks.asked.targets
   served = plain_served plain_book no_rule (scheduler_of asks.asked.scheduler) asks.asked.targets (subst (AllClean plain_book) (sym asks.targets) all_clean)
 
-  fits : AllFit limit (told_disk state) (IsPlanned asks.asked plain_book nothing_kept)
+  fits : AllFit limit (told_disk state) (IsPlanned asks.asked plain_book (InTwo nothing_kept))
   fits Bs (a, plan) s loaded limit_is =
-      subst (FitAll true s) (sym (plain_leads plain_book no_rule (scheduler_of asks.asked.scheduler) (how_of asks.asked.rebuilder) asks.asked.targets a Bs plan.leads))
-      (λ base of_file. (inl refl, λ mid after. tt))
+      let one = plain_leads plain_book no_rule (scheduler_of asks.asked.scheduler) (how_of asks.asked.rebuilder) asks.asked.targets a Bs plan.leads in
+      subst (FitAll true s) (sym one.1) (λ base of_file. (inl one.2, λ mid after. tt))
 
   found : IsFound limit (told_disk state) plain_book (λ K. AllFit limit (told_disk state) (IsPlanned asks.asked plain_book K))
-  found = (tt, nothing_kept, subst (Keeps limit nothing_kept) (sym empty_file) (record { gate = 8; bodies = []; reads = refl; folded = refl }), ([], nothing_sound [], plain_distinct, fits))
+  found = (tt, InTwo nothing_kept, subst (Keeps limit (InTwo nothing_kept)) (sym empty_file) (record { gate = 8; bodies = []; reads = refl; makes = record { phase = None; folded = refl; kept = refl } }), ([], nothing_sound [], plain_distinct, fits))
 
   is_due : (book script : SourceState) → BookOf book.left (Ok plain_book) → IsDue limit words (told_source book) (told_source script) (told_disk state) Done
   is_due book script bytes =

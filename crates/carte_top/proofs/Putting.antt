@@ -7,11 +7,9 @@ use Rattle.carte_journal.specs.Frames.{BodyAt, Ends, Reading, end_of, reading}
 use Rattle.carte_journal.specs.Journals.{Standing, committed}
 use Rattle.carte_record.specs.Bodies.{spelled_batch}
 use Rattle.carte_record.specs.Empty.{is_empty}
-use Rattle.carte_record.specs.Kept.{SomeKept, nothing_kept}
 use Rattle.carte_record.specs.declared.batch.Batch.{Batch}
-use Rattle.carte_sound.specs.Parts.{applied}
-use Rattle.carte_state.specs.Folding.{IsFolded, Keeps}
-use Rattle.carte_state.specs.States.{IsAfter, IsKeptOn, IsLoaded, Stand, kept_in}
+use Rattle.carte_state.specs.Folding.{Keeps, Makes}
+use Rattle.carte_state.specs.States.{IsAfter, IsKeptOn, IsLoaded, Stand, any_in}
 use Rattle.carte_state.specs.declared.fault.ApplyFault.{ApplyFault}
 use Rattle.carte_state.specs.declared.fault.ApplyFault.TheVariants.{DiskFault, Full, NoMemory}
 use Rattle.carte_engine.specs.Committing.{HasPassed, PutsAll, StopsAt, behind as onwards, steps_put, steps_stopped, until}
@@ -19,12 +17,14 @@ use Rattle.carte_engine.proofs.Committing.{ready_limit, ready_rest}
 use Rattle.carte_engine.proofs.Several.{puts_calls, puts_kept, puts_limit, puts_rest, puts_through, stops_calls, stops_through}
 use Rattle.carte_top.specs.Around.{OverDisk}
 use Rattle.carte_top.specs.Found.{ArePut, EndsWith, GrowsAlong, GrowsBy, IsFoundAs, IsStopped}
+use Rattle.carte_state.specs.Versions.{AnyKept}
+use Rattle.carte_state.specs.Runs.{applied_to}
 
 pub kept_on : (e : Stand) (s : Story) → IsLoaded e s.now.reads → IsSettled s.now → IsKeptOn e s
-kept_on e s loaded settled = record { bodies = loaded.bodies; rest = record { read = loaded.read; settled = settled }; folded = loaded.folded }
+kept_on e s loaded settled = record { bodies = loaded.bodies; rest = record { read = loaded.read; settled = settled }; makes = loaded.makes }
 
-pub keeps_loaded : (e : Stand) (file : List ℕ) → IsLoaded e file → Keeps e.journal.limit (kept_in e) file
-keeps_loaded e file loaded = record { gate = e.journal.gate; bodies = loaded.bodies; reads = loaded.read.reads; folded = loaded.folded }
+pub keeps_loaded : (e : Stand) (file : List ℕ) → IsLoaded e file → Keeps e.journal.limit (any_in e) file
+keeps_loaded e file loaded = record { gate = e.journal.gate; bodies = loaded.bodies; reads = loaded.read.reads; makes = loaded.makes }
 
 -- ---- what the frames grow by
 
@@ -55,38 +55,38 @@ grows_along limit first d old (B ∷ Bs) new (mid, between, inr (fault, is, unre
 
 -- ---- what the file keeps behind them
 
-ends_with : (limit : ℕ) (L : SomeKept) (f : Stand) (u : Story) → f.journal.limit ≡ limit → kept_in f ≡ L → IsKeptOn f u → EndsWith limit L u.now
+ends_with : (limit : ℕ) (L : AnyKept) (f : Stand) (u : Story) → f.journal.limit ≡ limit → any_in f ≡ L → IsKeptOn f u → EndsWith limit L u.now
 ends_with limit L f u limit_is kept on = record {
   settled = on.rest.settled;
   keeps = record {
     gate = f.journal.gate;
     bodies = on.bodies;
     reads = ap (λ l. reading l u.now.reads) (sym limit_is) ∙ on.rest.read.reads;
-    folded = subst (IsFolded nothing_kept on.bodies) kept on.folded;
+    makes = subst (Makes on.bodies) kept on.makes;
   };
 }
 
-ends_behind : (limit : ℕ) (K : SomeKept) (d : OverDisk) (old : Stand) (Bs : List Batch) (new : Stand) → PutsAll true d old Bs new → old.journal.limit ≡ limit → kept_in old ≡ K → d.tells → IsKeptOn old d.old → EndsWith limit (applied K Bs) d.new.now
+ends_behind : (limit : ℕ) (K : AnyKept) (d : OverDisk) (old : Stand) (Bs : List Batch) (new : Stand) → PutsAll true d old Bs new → old.journal.limit ≡ limit → any_in old ≡ K → d.tells → IsKeptOn old d.old → EndsWith limit (applied_to K Bs) d.new.now
 ends_behind limit K d old Bs new puts limit_is keeps told on =
-    ends_with limit (applied K Bs) new d.new (puts_limit true d old Bs new puts ∙ limit_is)
-    (puts_kept true d old Bs new puts ∙ ap (λ (L : SomeKept). applied L Bs) keeps) (puts_rest true d old Bs new puts told on)
+    ends_with limit (applied_to K Bs) new d.new (puts_limit true d old Bs new puts ∙ limit_is)
+    (puts_kept true d old Bs new puts ∙ ap (λ (L : AnyKept). applied_to L Bs) keeps) (puts_rest true d old Bs new puts told on)
 
 -- ---- from the state that was found on
 
-module _ (limit : ℕ) (d : OverDisk) (K : SomeKept) (found : IsFoundAs limit d K) where
+module _ (limit : ℕ) (d : OverDisk) (K : AnyKept) (found : IsFoundAs limit d K) where
   pub found_on : d.tells → IsSettled d.old.now → IsKeptOn found.stand found.story
   found_on told settled = subst (λ (u : Story). IsKeptOn found.stand u) (sym (found.unwritten told)) (kept_on found.stand d.old (found.loaded told) settled)
 
-  stands_from : (steps : List (Step SomeKept)) → d.tells → StepsThrough (Keeps found.stand.journal.limit) (kept_in found.stand) steps found.story d.new
-      → StepsThrough (Keeps limit) (kept_in found.stand) steps d.old d.new
+  stands_from : (steps : List (Step AnyKept)) → d.tells → StepsThrough (Keeps found.stand.journal.limit) (any_in found.stand) steps found.story d.new
+      → StepsThrough (Keeps limit) (any_in found.stand) steps d.old d.new
   stands_from steps told stands =
-      subst (λ (n : ℕ). StepsThrough (Keeps n) (kept_in found.stand) steps d.old d.new) found.limit_is
-      (subst (λ (u : Story). StepsThrough (Keeps found.stand.journal.limit) (kept_in found.stand) steps u d.new) (found.unwritten told) stands)
+      subst (λ (n : ℕ). StepsThrough (Keeps n) (any_in found.stand) steps d.old d.new) found.limit_is
+      (subst (λ (u : Story). StepsThrough (Keeps found.stand.journal.limit) (any_in found.stand) steps u d.new) (found.unwritten told) stands)
 
-  calls_from : (steps : List (Step SomeKept)) → d.tells → d.new.now.passed ≡ found.story.now.passed + calls_in steps → d.new.now.passed ≡ d.old.now.passed + calls_in steps
+  calls_from : (steps : List (Step AnyKept)) → d.tells → d.new.now.passed ≡ found.story.now.passed + calls_in steps → d.new.now.passed ≡ d.old.now.passed + calls_in steps
   calls_from steps told calls = subst (λ (u : Story). d.new.now.passed ≡ u.now.passed + calls_in steps) (found.unwritten told) calls
 
-  passed_from : (between : Story) (steps : List (Step SomeKept)) (fault : ApplyFault) → d.tells → HasPassed (onwards d found.story) between steps fault → HasPassed d between steps fault
+  passed_from : (between : Story) (steps : List (Step AnyKept)) (fault : ApplyFault) → d.tells → HasPassed (onwards d found.story) between steps fault → HasPassed d between steps fault
   passed_from between steps DiskFault told passed = (passed.0, subst (λ (u : Story). d.new.now.passed < u.now.passed + calls_in steps) (found.unwritten told) passed.1)
   passed_from between steps (Full needed most) told passed = calls_from steps told passed
   passed_from between steps NoMemory told passed = calls_from steps told passed
@@ -124,5 +124,5 @@ module _ (limit : ℕ) (d : OverDisk) (K : SomeKept) (found : IsFoundAs limit d 
         }
 
 -- and where no call is made
-pub stays_kept : (limit : ℕ) (K : SomeKept) (s u : Story) (P : List ℕ → Type 0) → Keeps limit K s.now.reads → IsSettled s.now → u ≡ s → ((file : List ℕ) → Keeps limit K file → P file) → LeavesOnly s u P
+pub stays_kept : (limit : ℕ) (K : AnyKept) (s u : Story) (P : List ℕ → Type 0) → Keeps limit K s.now.reads → IsSettled s.now → u ≡ s → ((file : List ℕ) → Keeps limit K file → P file) → LeavesOnly s u P
 stays_kept limit K s u P keeps settled same f = leaves_none s u P same (λ file image. f file (subst (Keeps limit K) (sym (settled_image s.now file settled image)) keeps))

@@ -5,19 +5,18 @@ use Rattle.carte_book.specs.Book.{Book}
 use Rattle.carte_book.specs.Reason.{AllClean, IsReason}
 use Rattle.carte_book.specs.declared.reason.Reason.{Reason}
 use Rattle.carte_record.specs.declared.batch.Batch.{Batch}
-use Rattle.carte_record.specs.Kept.{SomeKept}
 use Rattle.carte_session.specs.declared.end.SessionEnd.TheVariants.{Machine}
 use Rattle.carte_session.specs.declared.end.StepEnd.{StepEnd}
 use Rattle.carte_session.specs.declared.end.StepEnd.TheVariants as line_end
 use Rattle.carte_state.specs.Folding.{IsBadState}
-use Rattle.carte_state.specs.States.{kept_in}
+use Rattle.carte_state.specs.States.{any_in}
 use Rattle.carte_state.specs.declared.fault.ApplyFault.{ApplyFault}
 use Rattle.carte_state.specs.declared.fault.ApplyFault.TheVariants as applying
 use Rattle.carte_words.specs.declared.line.Line.{Line}
 use Rattle.carte_words.specs.declared.line.Line.TheVariants as line
 use Rattle.carte_words.specs.declared.words.Words.{Words as Asked}
 use Rattle.carte_generate.specs.Generated.{IsGenerated}
-use Rattle.carte_engine.specs.Answers.{IsPlan, Under}
+use Rattle.carte_engine.specs.Answers.{IsPlan}
 use Rattle.carte_engine.specs.Clearing.{clearing}
 use Rattle.carte_engine.specs.declared.answer.Answer.{Answer}
 use Rattle.carte_engine.specs.declared.answer.Answer.TheVariants as answer
@@ -42,6 +41,8 @@ use Rattle.carte_top.proofs.Books.{holds_so}
 use Rattle.carte_top.proofs.Clearing.{is_clearing}
 use Rattle.carte_top.proofs.Between.{found, put, spared, stays, still_at, stopped, too_much}
 use Rattle.carte_top.proofs.Serving.{broken_faults, obeyed_faults}
+use Rattle.carte_engine.specs.Versions.{Under, kept_for}
+use Rattle.carte_state.specs.Versions.{AnyKept}
 
 -- ---- a reason
 
@@ -131,7 +132,7 @@ module _ (limit : ℕ) (x : Choices) (b : Book) (d : OverDisk) (k : OverSink) wh
   module _ (m m' : Scene) (opens : Opens limit x b d m) (last : m'.story ≡ d.new) (faults : m'.faults ≡ d.failed) where
     clears : (Takes : OverSink → List ℕ → Type 0) (r : Said) → Obeys d.tells m line.Clean r m' → (k.tells → Takes k r.text) → Found limit d (Clears limit d k Takes)
     clears Takes r does takes = (
-      kept_in m.stand,
+      any_in m.stand,
       found limit x b d m m' opens last,
       record {
         batch = clearing m.stand;
@@ -142,15 +143,15 @@ module _ (limit : ℕ) (x : Choices) (b : Book) (d : OverDisk) (k : OverSink) wh
     )
 
     module _ (Bs : List Batch) (is : Bs ≡ clearing m.stand ∷ []) where
-      clears_not : (fault : ApplyFault) → CommitsTo d.tells m m' Bs (Err fault) → ClearsNot limit d fault (kept_in m.stand)
+      clears_not : (fault : ApplyFault) → CommitsTo d.tells m m' Bs (Err fault) → ClearsNot limit d fault (any_in m.stand)
       clears_not fault stops = record {
         batch = clearing m.stand;
         clearing = is_clearing m.stand;
-        stopped = subst (λ (Cs : List Batch). IsStopped limit d (kept_in m.stand) Cs fault) is (stopped limit x b d m m' opens last faults Bs fault stops);
+        stopped = subst (λ (Cs : List Batch). IsStopped limit d (any_in m.stand) Cs fault) is (stopped limit x b d m m' opens last faults Bs fault stops);
       }
 
       not_cleared : (fault : ApplyFault) → CommitsTo d.tells m m' Bs (Err fault) → Found limit d (ClearsNot limit d fault)
-      not_cleared fault stops = (kept_in m.stand, found limit x b d m m' opens last, clears_not fault stops)
+      not_cleared fault stops = (any_in m.stand, found limit x b d m m' opens last, clears_not fault stops)
 
     clear_stopped : (end : StepEnd) → Breaks d.tells m line.Clean end m' → IsUntouched k → Cleaned limit d k (status_of (Err (Machine end)))
     clear_stopped end (inl (is, same)) untouched =
@@ -159,7 +160,7 @@ module _ (limit : ℕ) (x : Choices) (b : Book) (d : OverDisk) (k : OverSink) wh
     clear_stopped (line_end.StateFull needed most) (inr (Bs, is, stops)) untouched =
         let over = too_much limit x b d m m' opens last faults Bs needed most stops in (
           (
-            kept_in m.stand,
+            any_in m.stand,
             found limit x b d m m' opens last,
             record { clears_not = clears_not Bs is (applying.Full needed most) stops; most_is = over.0; over = over.1 },
           ),
@@ -192,46 +193,46 @@ module _ (limit : ℕ) (x : Choices) (b : Book) (d : OverDisk) (k : OverSink) wh
 
 module _ (limit : ℕ) (w : Asked) (d : OverDisk) (k : OverSink) (b : Book) where
   module _ (m m' : Scene) (opens : Opens limit (choices_of w) b d m) (last : m'.story ≡ d.new) where
-    found_there : (P : Book → SomeKept → Type 0) → P b (kept_in m.stand) → Found limit d (P b)
-    found_there P holds_there = (kept_in m.stand, found limit (choices_of w) b d m m' opens last, holds_there)
+    found_there : (P : Book → AnyKept → Type 0) → P b (any_in m.stand) → Found limit d (P b)
+    found_there P holds_there = (any_in m.stand, found limit (choices_of w) b d m m' opens last, holds_there)
 
-    answers : (a : Answer) (Bs : List Batch) → Plans m w.targets a Bs → Answers w b (kept_in m.stand) a Bs
+    answers : (a : Answer) (Bs : List Batch) → Plans m w.targets a Bs → Answers w b (any_in m.stand) a Bs
     answers a Bs plans =
-        let K = kept_in m.stand in
+        let K = any_in m.stand in
         subst (λ (y : Choices). Under K b (IsPlan (scheduler_of y.scheduler) (how_of y.rebuilder) K b w.targets Bs a)) opens.choices
         (subst (λ (c : Book). Under K c (IsPlan (scheduler_of m.choices.scheduler) (how_of m.choices.rebuilder) K c w.targets Bs a)) opens.book plans)
 
-    may_build : (a : Answer) (Bs : List Batch) → Plans m w.targets a Bs → MayBuild w b (kept_in m.stand) Bs
+    may_build : (a : Answer) (Bs : List Batch) → Plans m w.targets a Bs → MayBuild w b (any_in m.stand) Bs
     may_build a Bs plans H sound distinct = (a, answers a Bs plans H sound distinct)
 
     module _ (faults : m'.faults ≡ d.failed) where
       replies : (Takes : OverSink → List ℕ → Type 0) (r : Said) (a : Answer) (Bs : List Batch) → Plans m w.targets a Bs → r ≡ build_reply m.choices.list w.targets a → Puts d.tells m m' Bs
-          → r.refused ≡ None → (k.tells → Takes k r.text) → Replies limit w d k Takes b (kept_in m.stand)
+          → r.refused ≡ None → (k.tells → Takes k r.text) → Replies limit w d k Takes b (any_in m.stand)
       replies Takes r (answer.Built built) Bs plans is puts none takes = record {
         built = built;
         commits = record { batches = Bs; answers = answers (answer.Built built) Bs plans; put = put limit (choices_of w) b d m m' opens last faults Bs puts };
         keeps = λ H sound distinct.
             let p = answers (answer.Built built) Bs plans H sound distinct in
-            plan_keeps (scheduler_of w.scheduler) (how_of w.rebuilder) (kept_in m.stand) H b w.targets built Bs sound distinct p.right.served p.leads;
+            plan_keeps (scheduler_of w.scheduler) (how_of w.rebuilder) (any_in m.stand) H b w.targets built Bs sound distinct p.right.served p.leads;
         takes = λ told. subst (Takes k)
             (ap (λ (q : Said). q.text) is ∙ ap (λ (y : Choices). reply w.targets built.values y.list built.ran built.given_up built.reused) opens.choices) (takes told);
       }
       replies Takes r (answer.Refused reason runs) Bs plans is puts none takes = absurd (not_both r.refused reason none (ap (λ (q : Said). q.refused) is))
 
       refuses : (r : Said) (a : Answer) (Bs : List Batch) → Plans m w.targets a Bs → r ≡ build_reply m.choices.list w.targets a → Puts d.tells m m' Bs
-          → (reason : Reason) → r.refused ≡ Some reason → RefusesFor limit w d reason b (kept_in m.stand)
+          → (reason : Reason) → r.refused ≡ Some reason → RefusesFor limit w d reason b (any_in m.stand)
       refuses r (answer.Built built) Bs plans is puts reason some = absurd (not_both r.refused reason (ap (λ (q : Said). q.refused) is) some)
       refuses r (answer.Refused other runs) Bs plans is puts reason some =
           let told : other ≡ reason = same_some r.refused other reason (ap (λ (q : Said). q.refused) is) some in (
             runs,
             record {
               batches = Bs;
-              answers = subst (λ (y : Reason). Answers w b (kept_in m.stand) (answer.Refused y runs) Bs) told (answers (answer.Refused other runs) Bs plans);
+              answers = subst (λ (y : Reason). Answers w b (any_in m.stand) (answer.Refused y runs) Bs) told (answers (answer.Refused other runs) Bs plans);
               put = put limit (choices_of w) b d m m' opens last faults Bs puts;
             },
           )
 
-      halts : (a : Answer) (Bs : List Batch) → Plans m w.targets a Bs → (fault : ApplyFault) → CommitsTo d.tells m m' Bs (Err fault) → Halts limit w d fault b (kept_in m.stand)
+      halts : (a : Answer) (Bs : List Batch) → Plans m w.targets a Bs → (fault : ApplyFault) → CommitsTo d.tells m m' Bs (Err fault) → Halts limit w d fault b (any_in m.stand)
       halts a Bs plans fault stops =
           record { answer = a; batches = Bs; answers = answers a Bs plans; stopped = stopped limit (choices_of w) b d m m' opens last faults Bs fault stops }
 
@@ -241,26 +242,26 @@ module _ (limit : ℕ) (w : Asked) (d : OverDisk) (k : OverSink) (b : Book) wher
           stays limit (choices_of w) b d m m' opens last faults Bs (MayBuild w b) (Err (fault_of end)) stops (may_build a Bs plans)
 
     -- the lines of an explanation
-    explains : (Takes : OverSink → List ℕ → Type 0) (r : Said) → IsExplained (how_of m.choices.rebuilder) (kept_in m.stand) m.book w.targets r → r.refused ≡ None → (k.tells → Takes k r.text)
-        → Explains w k Takes b (kept_in m.stand)
+    explains : (Takes : OverSink → List ℕ → Type 0) (r : Said) → IsExplained (how_of m.choices.rebuilder) (any_in m.stand) m.book w.targets r → r.refused ≡ None → (k.tells → Takes k r.text)
+        → Explains w k Takes b (any_in m.stand)
     explains Takes r (inl (told, of_targets, is, whys)) none takes =
-        let K = kept_in m.stand in
+        let K = any_in m.stand in
         record {
           told = told;
           of_targets = of_targets;
-          whys = subst (λ (y : Choices). Under K b (AllClean b w.targets × AreWhys (how_of y.rebuilder) K b told)) opens.choices
-              (subst (λ (c : Book). Under K c (AllClean c w.targets × AreWhys (how_of m.choices.rebuilder) K c told)) opens.book whys);
+          whys = subst (λ (y : Choices). Under K b (AllClean b w.targets × AreWhys (how_of y.rebuilder) (kept_for K b) b told)) opens.choices
+              (subst (λ (c : Book). Under K c (AllClean c w.targets × AreWhys (how_of m.choices.rebuilder) (kept_for K c) c told)) opens.book whys);
           takes = λ t. subst (Takes k) (ap (λ (q : Said). q.text) is) (takes t);
         }
     explains Takes r (inr (reason, is, why)) none takes = absurd (not_both r.refused reason none (ap (λ (q : Said). q.refused) is))
 
-    reasons : (r : Said) → IsExplained (how_of m.choices.rebuilder) (kept_in m.stand) m.book w.targets r → (reason : Reason) → r.refused ≡ Some reason
-        → Under (kept_in m.stand) b (IsReason b w.targets reason)
+    reasons : (r : Said) → IsExplained (how_of m.choices.rebuilder) (any_in m.stand) m.book w.targets r → (reason : Reason) → r.refused ≡ Some reason
+        → Under (any_in m.stand) b (IsReason b w.targets reason)
     reasons r (inl (told, of_targets, is, whys)) reason some = absurd (not_both r.refused reason (ap (λ (q : Said). q.refused) is) some)
     reasons r (inr (other, is, why)) reason some =
         let told : other ≡ reason = same_some r.refused other reason (ap (λ (q : Said). q.refused) is) some in
-        subst (λ (y : Reason). Under (kept_in m.stand) b (IsReason b w.targets y)) told
-        (subst (λ (c : Book). Under (kept_in m.stand) c (IsReason c w.targets other)) opens.book why)
+        subst (λ (y : Reason). Under (any_in m.stand) b (IsReason b w.targets y)) told
+        (subst (λ (c : Book). Under (any_in m.stand) c (IsReason c w.targets other)) opens.book why)
 
     explain_spared : (end : StepEnd) → Breaks d.tells m (line.Explain w.targets) end m' → IsSpared d
     explain_spared end (inl (is, same)) = spared limit (choices_of w) b d m m' opens last (ap (λ (q : Scene). q.story) same)
@@ -279,7 +280,7 @@ module _ (limit : ℕ) (w : Asked) (d : OverDisk) (k : OverSink) (b : Book) wher
       Did status = BuiltOver Has limit w front d k status
 
       module _ (m m' : Scene) (opens : Opens limit (choices_of w) b d m) (last : m'.story ≡ d.new) where
-        there : (P : Book → SomeKept → Type 0) → P b (kept_in m.stand) → Has (λ c. Found limit d (P c))
+        there : (P : Book → AnyKept → Type 0) → P b (any_in m.stand) → Has (λ c. Found limit d (P c))
         there P holds_there = has (λ c. Found limit d (P c)) (found_there m m' opens last P holds_there)
 
         build_stopped : m'.faults ≡ d.failed → (end : StepEnd) → Breaks d.tells m (line.Build w.targets) end m' → IsUntouched k → Did (status_of (Err (Machine end)))
@@ -343,7 +344,7 @@ module _ (limit : ℕ) (w : Asked) (s : OverSource) (d : OverDisk) (k : OverSink
   explain_stopped end m m' (inr (Bs, never, stops)) untouched = absurd never
 
   module _ (m m' : Scene) (opens : Opens limit (choices_of w) b d m) (last : m'.story ≡ d.new) where
-    explained_there : (P : Book → SomeKept → Type 0) → P b (kept_in m.stand) → Holds w.kind s (λ c. Found limit d (P c))
+    explained_there : (P : Book → AnyKept → Type 0) → P b (any_in m.stand) → Holds w.kind s (λ c. Found limit d (P c))
     explained_there P holds_there = holds_so w.kind s b holds (λ c. Found limit d (P c)) (found_there limit w d k b m m' opens last P holds_there)
 
   explained : (status : Status) → RequestsOver limit (choices_of w) b (line.Explain w.targets) [] d k status → Explained limit w s d k status

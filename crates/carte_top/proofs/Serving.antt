@@ -4,7 +4,6 @@ use Rattle.carte_io.specs.Causes.{HasCauseOf, Rose}
 use Rattle.carte_io.specs.Disk.{LeavesOnly, Story}
 use Rattle.carte_io.proofs.Images.{leaves_more, leaves_then}
 use Rattle.carte_book.specs.Book.{Book}
-use Rattle.carte_record.specs.Kept.{SomeKept}
 use Rattle.carte_session.specs.Lines.{AreAll, AreLines, IsNext, lines_of, spelled}
 use Rattle.carte_session.specs.Session.{Ended, Goes}
 use Rattle.carte_session.specs.declared.end.SessionEnd.{SessionEnd}
@@ -24,11 +23,11 @@ use Rattle.carte_shell.specs.Scenes.{Scene}
 use Rattle.carte_shell.specs.Sound.{KeepsSound, LeavesSound, StandsSound, StaysSound as LinesStay}
 use Rattle.carte_shell.proofs.Sounding.{end_sound, lines_sound}
 use Rattle.carte_sound.specs.Base.{HasDistinctDigests}
-use Rattle.carte_sound.specs.Sound.{IsSound}
-use Rattle.carte_sound.proofs.Begins.{behind_sound, front_distinct}
+use Rattle.carte_engine.proofs.Raising.{sound_behind}
+use Rattle.carte_sound.proofs.Begins.{front_distinct}
 use Rattle.carte_state.specs.Folding.{Keeps}
 use Rattle.carte_state.specs.declared.fault.ApplyFault.TheVariants.{Full, NoMemory as ShortOfMemory}
-use Rattle.carte_state.specs.States.{IsKeptOn, kept_in}
+use Rattle.carte_state.specs.States.{IsKeptOn, any_in}
 use Rattle.carte_state.proofs.Folds.{keeps_one}
 use Rattle.carte_words.specs.declared.line.Line.{Line}
 use Rattle.carte_words.specs.declared.line.Line.TheVariants as meaning
@@ -40,6 +39,8 @@ use Rattle.carte_top.specs.Outcome.{TellsDisk, TellsSink, TellsSource, status_of
 use Rattle.carte_top.specs.Running.{Serves, SitsOver}
 use Rattle.carte_top.specs.Sound.{AreFirst, StaysSound}
 use Rattle.carte_top.proofs.Putting.{kept_on}
+use Rattle.carte_engine.specs.Versions.{IsSoundAny}
+use Rattle.carte_state.specs.Versions.{AnyKept}
 
 -- ---- each device's fault by its own status
 
@@ -185,7 +186,7 @@ module _ (tells : Type 0) (c : OverSource) (m m' : Scene) where
           let a = all.3 told H stands (front_distinct (H ++ J) I distinct_on) in
           leaves_then m.story mid.story m'.story (KeepsSound limit (H ++ (J ++ I)))
           (leaves_more m.story mid.story (KeepsSound limit (H ++ J)) (KeepsSound limit (H ++ (J ++ I)))
-          (λ file keeps. (keeps.0, keeps.1, subst (IsSound keeps.0) assoc (behind_sound keeps.0 (H ++ J) I keeps.2))) a.1)
+          (λ file keeps. (keeps.0, keeps.1, subst (IsSoundAny keeps.0) assoc (sound_behind keeps.0 (H ++ J) I keeps.2))) a.1)
           (subst (λ (most : ℕ). LeavesOnly mid.story m'.story (KeepsSound most (H ++ (J ++ I)))) all.2
           (subst (λ (G : List Book). LeavesOnly mid.story m'.story (KeepsSound mid.stand.journal.limit G)) assoc (last.2 told (H ++ J) a.0 distinct_on)))
 
@@ -224,18 +225,18 @@ first_sound tells c k m m' limit read (Err (Machine end)) is =
     (λ told. begin_before c read is.0.0 is.0.3 c.new.last is.0.4 told (is.1 told)) is.0.5 is.0.6
 
 -- what is left of the disk that the state was loaded from
-pub stays_sound : (limit : ℕ) (w : Asked) (b : Book) (K : SomeKept) (d : OverDisk) (m m' : Scene) (J : List Book) → Begins limit w d b K m → m'.story ≡ d.new → (d.tells → Keeps limit K d.old.now.reads) → LeavesSound d.tells m m' J → StaysSound limit J d
+pub stays_sound : (limit : ℕ) (w : Asked) (b : Book) (K : AnyKept) (d : OverDisk) (m m' : Scene) (J : List Book) → Begins limit w d b K m → m'.story ≡ d.new → (d.tells → Keeps limit K d.old.now.reads) → LeavesSound d.tells m m' J → StaysSound limit J d
 stays_sound limit w b K d m m' J begins last found leaves told settled H (L, keeps, sound) distinct =
-    let same : L ≡ kept_in m.stand = keeps_one limit d.old.now.reads L K keeps (found told) ∙ sym begins.keeps in
+    let same : L ≡ any_in m.stand = keeps_one limit d.old.now.reads L K keeps (found told) ∙ sym begins.keeps in
     let on : IsKeptOn m.stand m.story = subst (λ (s : Story). IsKeptOn m.stand s) (sym (begins.story told)) (kept_on m.stand d.old (begins.loaded told) settled) in
-    let stands : StandsSound m H = record { kept_on = on; sound = subst (λ (M : SomeKept). IsSound M H) same sound } in
+    let stands : StandsSound m H = record { kept_on = on; sound = subst (λ (M : AnyKept). IsSoundAny M H) same sound } in
     let left : LeavesOnly m.story m'.story (KeepsSound limit (H ++ J)) = subst (λ (n : ℕ). LeavesOnly m.story m'.story (KeepsSound n (H ++ J))) begins.limit_is (leaves told H stands distinct) in
     let from : LeavesOnly d.old m'.story (KeepsSound limit (H ++ J)) = subst (λ (s : Story). LeavesOnly s m'.story (KeepsSound limit (H ++ J))) (begins.story told) left in
     subst (λ (s : Story). LeavesOnly d.old s (KeepsSound limit (H ++ J))) last from
 
 -- ---- all of it
 
-pub served : (limit : ℕ) (w : Asked) (b : Book) (K : SomeKept) (c : OverSource) (d : OverDisk) (k : OverSink) (m m' : Scene) (status : Status) → (d.tells → Keeps limit K d.old.now.reads) → Begins limit w d b K m → m'.story ≡ d.new → m'.faults ≡ d.failed
+pub served : (limit : ℕ) (w : Asked) (b : Book) (K : AnyKept) (c : OverSource) (d : OverDisk) (k : OverSink) (m m' : Scene) (status : Status) → (d.tells → Keeps limit K d.old.now.reads) → Begins limit w d b K m → m'.story ≡ d.new → m'.faults ≡ d.failed
     → Serves m m' d.tells c k status → SitsOver limit w b c d k status
 served limit w b K c d k m m' status found begins story faults serves = record {
   did = inr (serves.end, serves.status_is, (K, found, record { first = m; last = m'; begins = begins; story = story; faults = faults; goes = serves.goes }));

@@ -4,9 +4,7 @@ use Rattle.carte_name.specs.declared.kind.Kind.{Kind}
 use Rattle.carte_book.specs.Book.{Book}
 use Rattle.carte_book.specs.Reason.{AllClean, IsReason}
 use Rattle.carte_record.specs.declared.batch.Batch.{Batch}
-use Rattle.carte_record.specs.Kept.{SomeKept}
 use Rattle.carte_sound.specs.Base.{HasDistinctDigests}
-use Rattle.carte_sound.specs.Sound.{IsSound}
 use Rattle.carte_session.specs.Lines.{lines_of}
 use Rattle.carte_state.specs.Folding.{Keeps, IsBadState}
 use Rattle.carte_words.specs.Words.{words_of}
@@ -24,6 +22,8 @@ use Rattle.carte_top.specs.Around.{OverSource, OverDisk}
 use Rattle.carte_top.specs.Chosen.{scheduler_of, how_of, BookOfKind}
 use Rattle.carte_top.specs.Found.{AreClearing, Begins, FitsIn, IsNeeded, Makes, for_last}
 use Rattle.carte_top.specs.Outcome.{Asks}
+use Rattle.carte_engine.specs.Versions.{IsSoundAny}
+use Rattle.carte_state.specs.Versions.{AnyKept}
 
 -- ---- what is there
 
@@ -32,12 +32,12 @@ abbrev pub IsBook : Kind → OverSource → (Book → Type 0) → Type 0
 IsBook kind s P = s.tells × (b : Book) × BookOfKind kind s.old.left (Ok b) × P b
 
 -- the disk tells what it reads, and the file keeps this
-abbrev pub IsKept : ℕ → OverDisk → (SomeKept → Type 0) → Type 0
-IsKept limit d P = d.tells × (K : SomeKept) × Keeps limit K d.old.now.reads × P K
+abbrev pub IsKept : ℕ → OverDisk → (AnyKept → Type 0) → Type 0
+IsKept limit d P = d.tells × (K : AnyKept) × Keeps limit K d.old.now.reads × P K
 
 -- which is sound for a history, whose digests and the book's are distinct
-abbrev pub IsFound : ℕ → OverDisk → Book → (SomeKept → Type 0) → Type 0
-IsFound limit d b P = IsKept limit d (λ K. (H : List Book) × IsSound K H × HasDistinctDigests (H ++ b ∷ []) × P K)
+abbrev pub IsFound : ℕ → OverDisk → Book → (AnyKept → Type 0) → Type 0
+IsFound limit d b P = IsKept limit d (λ K. (H : List Book) × IsSoundAny K H × HasDistinctDigests (H ++ b ∷ []) × P K)
 
 abbrev pub IsBadNow : ℕ → OverDisk → ℕ → Type 0
 IsBadNow limit d at = d.tells × IsBadState limit d.old.now.reads at
@@ -45,7 +45,7 @@ IsBadNow limit d at = d.tells × IsBadState limit d.old.now.reads at
 -- ---- room
 
 -- the batches are those of a right plan
-abbrev pub IsPlanned : Asked → Book → SomeKept → List Batch → Type 0
+abbrev pub IsPlanned : Asked → Book → AnyKept → List Batch → Type 0
 IsPlanned w b K Bs = (a : Answer) × IsPlan (scheduler_of w.scheduler) (how_of w.rebuilder) K b w.targets Bs a
 
 -- there is room for all such batches
@@ -87,7 +87,7 @@ IsExplainDue limit w s d (BadState at) = IsBook w.kind s (λ b. IsBadNow limit d
 IsExplainDue limit w s d _ = ⊥
 
 -- there is room for all batches that a line of the script may bring, wherever the lines before it lead
-abbrev pub LinesFit : ℕ → Asked → OverSource → OverDisk → Book → SomeKept → Type 0
+abbrev pub LinesFit : ℕ → Asked → OverSource → OverDisk → Book → AnyKept → Type 0
 LinesFit limit w c d b K = (m : Scene) → Begins limit w d b K m → AllLinesFit d.tells m (lines_of c.old.left)
 
 -- the lines are carried out and answered where the script's bytes are told and within the limit, and there is room

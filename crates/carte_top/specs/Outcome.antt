@@ -13,12 +13,12 @@ use Rattle.carte_words.specs.Words.{words_of}
 use Rattle.carte_words.specs.declared.words.Command.{Command}
 use Rattle.carte_words.specs.declared.words.Command.TheVariants as command
 use Rattle.carte_words.specs.declared.words.Words.{Words as Asked}
-use Rattle.carte_engine.specs.Answers.{Under}
 use Rattle.carte_report.specs.declared.status.Status.{Status}
 use Rattle.carte_report.specs.declared.status.Status.TheVariants.{Done, BookRefused, Usage, BuildRefused, ReadFault, WriteFault, DiskFault, BadState, StateFull, NoMemory, ScriptTooLong}
 use Rattle.carte_report.specs.Texts.{error_line}
 use Rattle.carte_top.specs.Around.{OverSource, OverDisk, OverSink, IsUnread, IsUnvisited, IsUntouched, TakesAll, TakesFront, Says}
 use Rattle.carte_top.specs.Found.{Holds, HasBook, Makes, Refuses, Found, RefusesFor, Replies, Overfills, Halts, Clears, ClearsNot, ClearsTooMuch, Explains, Carries, behind, for_last, front_of}
+use Rattle.carte_engine.specs.Versions.{Under}
 
 -- the words ask for something that is so
 abbrev pub Asks : List (List ℕ) → (Asked → Type 0) → Type 0

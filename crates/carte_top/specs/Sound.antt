@@ -3,33 +3,34 @@ use Rattle.std.specs.Prelude.{ℕ, ◌≡◌, ◌⊎◌, List, [], ◌∷◌, �
 use Rattle.carte_io.specs.Disk.{IsSettled, LeavesOnly}
 use Rattle.carte_book.specs.Book.{Book}
 use Rattle.carte_record.specs.declared.batch.Batch.{Batch}
-use Rattle.carte_record.specs.Kept.{SomeKept}
 use Rattle.carte_sound.specs.Base.{HasDistinctDigests}
-use Rattle.carte_sound.specs.Parts.{applied}
 use Rattle.carte_session.specs.Lines.{lines_of}
 use Rattle.carte_state.specs.Folding.{Keeps}
 use Rattle.carte_words.specs.declared.words.Command.{Command}
 use Rattle.carte_words.specs.declared.words.Command.TheVariants as command
 use Rattle.carte_words.specs.declared.words.Words.{Words as Asked}
 use Rattle.carte_engine.specs.declared.answer.Answer.{Answer}
-use Rattle.carte_engine.specs.Answers.{IsPlan, Under}
+use Rattle.carte_engine.specs.Answers.{IsPlan}
 use Rattle.carte_shell.specs.Books.{AreBooks as AreBooksAt}
 use Rattle.carte_top.specs.Around.{OverSource, OverDisk, IsUnvisited}
 use Rattle.carte_top.specs.Chosen.{scheduler_of, how_of}
 use Rattle.carte_top.specs.Found.{AreClearing, Holds, HasBook, Makes, for_last}
 use Rattle.carte_top.specs.Outcome.{Asks, IsSpared}
 pub use Rattle.carte_shell.specs.Sound.{KeepsSound}
+use Rattle.carte_engine.specs.Versions.{Under}
+use Rattle.carte_state.specs.Versions.{AnyKept}
+use Rattle.carte_state.specs.Runs.{applied_to}
 
 -- a file keeps what was kept before a run, or what such batches make of that, of which the first ones were put
-abbrev pub IsStation : ℕ → (SomeKept → List Batch → Type 0) → SomeKept → List ℕ → Type 0
-IsStation limit May K file = Keeps limit K file ⊎ ((some rest : List Batch) × May K (some ++ rest) × Keeps limit (applied K some) file)
+abbrev pub IsStation : ℕ → (AnyKept → List Batch → Type 0) → AnyKept → List ℕ → Type 0
+IsStation limit May K file = Keeps limit K file ⊎ ((some rest : List Batch) × May K (some ++ rest) × Keeps limit (applied_to K some) file)
 
 -- at each moment an image of the file does
-abbrev pub StaysAt : ℕ → (SomeKept → List Batch → Type 0) → OverDisk → Type 0
-StaysAt limit May d = d.tells → IsSettled d.old.now → (K : SomeKept) → Keeps limit K d.old.now.reads → LeavesOnly d.old d.new (IsStation limit May K)
+abbrev pub StaysAt : ℕ → (AnyKept → List Batch → Type 0) → OverDisk → Type 0
+StaysAt limit May d = d.tells → IsSettled d.old.now → (K : AnyKept) → Keeps limit K d.old.now.reads → LeavesOnly d.old d.new (IsStation limit May K)
 
 -- the batches are those that a build with a right answer may commit
-abbrev pub MayBuild : Asked → Book → SomeKept → List Batch → Type 0
+abbrev pub MayBuild : Asked → Book → AnyKept → List Batch → Type 0
 MayBuild w b K Bs = Under K b ((a : Answer) × IsPlan (scheduler_of w.scheduler) (how_of w.rebuilder) K b w.targets Bs a)
 
 -- ---- soundness

@@ -1,4 +1,4 @@
--- What the cut batches make is what is kept, trimmed.
+-- What the cut batch makes is what is kept, trimmed.
 use Rattle.std.proofs.Common.{◌≡◌, ◌⊎◌, ℕ, Bool, true, false, List, [], ◌∷◌, Option, Some, None, refl, ap, sym, ◌∙◌, subst, inl, inr}
 use Rattle.std.specs.Prelude.{◌||◌, if◌then◌else◌, option_map, unwrap_or}
 use Rattle.std.specs.List.{list_any}
@@ -15,23 +15,25 @@ use Rattle.carte_record.specs.declared.kept.Kept.{Kept}
 use Rattle.carte_record.specs.declared.trace.Trace.{Trace}
 use Rattle.carte_record.specs.declared.way.Way.{Way}
 use Rattle.carte_record.specs.declared.way.Way.TheVariants.{Verifying, Constructive, Deep}
-use Rattle.carte_record.specs.Folds.{apply, batch_traces, carried, is_among, started, with_marks}
+use Rattle.carte_record.specs.declared.start.Start.{Start}
+use Rattle.carte_record.specs.declared.start.Start.TheVariants.{Cleared, GoOn}
+use Rattle.carte_record.specs.Folds.{apply, batch_traces, carried, is_among, started}
+use Rattle.carte_record.specs.Growth.{put_in}
 use Rattle.carte_record.specs.Kept.{SomeKept, kept_view, nothing_kept, staled, traces_in}
 use Rattle.carte_record.specs.Lookups.{entry_in, first_entry, is_entry_of}
 use Rattle.carte_record.specs.Marked.{marked_as}
-use Rattle.carte_record.proofs.Growing.{kept_same}
+use Rattle.carte_record.proofs.Gone.{dropping_none}
 use Rattle.carte_record.proofs.Looked.{digest_eq_is, digest_eq_self, find_passes}
-use Rattle.carte_record.proofs.Marks.{none_marked}
 use Rattle.carte_sound.specs.Lists.{EachOnce}
 use Rattle.carte_state.specs.Runs.{applied}
-use Rattle.carte_compact.specs.Live.{IsLive, IsSomeLive, and_marks, entry_at, found_at, marks_of, put, stale_at, start_for}
+use Rattle.carte_compact.specs.Live.{IsLive, IsSomeLive, entry_at, found_at, put}
 use Rattle.carte_compact.proofs.Found.{each_found, unlisted}
 use Rattle.carte_compact.proofs.Living.{is_kept, kept_again}
 use Rattle.carte_trim.specs.declared.cut.Counts.{Counts}
 use Rattle.carte_trim.specs.Lists.{AreCut, IsCut, in_batch, in_entries, in_traces, newest_of, number_in}
 use Rattle.carte_trim.specs.Trimmed.{IsNamed, IsNumberOf, IsTrimmed, by_entry, by_trace}
 use Rattle.carte_trim.proofs.Once.{is_there, last_once, newest_once, newest_taken, was_there}
-use Rattle.carte_trim.proofs.Trims.{marked_trimmed, nothing_trimmed}
+use Rattle.carte_trim.proofs.Trims.{nothing_newest, unmarked_named}
 
 -- ---- digests that are named in lists
 
@@ -83,18 +85,25 @@ found_has {A = A} f (n ∷ ns) x has = on (f n) refl (λ later. found_has f ns x
     on (Some y) there rest (inl is) = (n, there ∙ ap Some (sym is))
     on (Some y) there rest (inr later) = rest later
 
--- ---- the first batch
+-- ---- the batch
 
-abbrev under : Option Digest → SomeKept
-under r = record nothing_kept { rules = r }
+started_none : (s : Start) → started s nothing_kept ≡ nothing_kept
+started_none GoOn = refl
+started_none Cleared = refl
 
-started_for : (r : Option Digest) → started (start_for r) nothing_kept ≡ under r
-started_for None = refl
-started_for (Some d) = refl
+-- what a batch makes of nothing
+made_of : (B : Batch) → B.gone ≡ [] → apply B nothing_kept ≡ put_in B nothing_kept
+made_of B gone = ap (carried B) (started_none B.start) ∙ dropping_none B nothing_kept gone
 
 -- over a batch in which each trace stands once, and of which each entry is found
-module _ (n : ℕ) (r : Option Digest) (B C : Batch) (cut : IsCut n B C) (once : (w : Way) → EachOnce (batch_traces w B))
+module _ (n : ℕ) (B C : Batch) (cut : IsCut n B C) (once : (w : Way) → EachOnce (batch_traces w B))
     (found : (e : Entry) → Has B.entries e → (k : List ℕ) × (entry_in B.entries k ≡ Some e)) where
+  abbrev K : SomeKept
+  K = put_in B nothing_kept
+
+  abbrev L : SomeKept
+  L = put_in C nothing_kept
+
   newest_in : (w : Way) → batch_traces w C ≡ newest_of n (batch_traces w B)
   newest_in Verifying = cut.verifying
   newest_in Constructive = cut.constructive
@@ -108,24 +117,30 @@ module _ (n : ℕ) (r : Option Digest) (B C : Batch) (cut : IsCut n B C) (once :
   trace_named Constructive t has = or_left _ _ (or_right _ _ (item_named (λ (u : Trace). u.result) C.constructive t has))
   trace_named Deep t has = or_right _ _ (item_named (λ (u : Trace). u.result) C.deep t has)
 
-  in_batch_named : (d : Digest) → IsNamed (carried C (under r)) d → in_batch C d ≡ true
+  entry_named : (e : Entry) → Has C.entries e → in_batch C e.result ≡ true
+  entry_named e has = or_left _ _ (or_left _ _ (or_left _ _ (item_named (λ (f : Entry). f.result) C.entries e has)))
+
+  in_batch_named : (d : Digest) → IsNamed L d → in_batch C d ≡ true
   in_batch_named d (by_entry k e is) =
-      let there : Has C.entries e = last_has (is_entry_of k) C.entries e (sym (or_none (entry_in C.entries k)) ∙ is) in
-      or_left _ _ (or_left _ _ (or_left _ _ (item_named (λ (f : Entry). f.result) C.entries e there)))
+      let (f, there, same) = unmarked_named (option_or (entry_in C.entries k) None) (is_among C.stale k) e is in
+      let has : Has C.entries f = last_has (is_entry_of k) C.entries f (sym (or_none (entry_in C.entries k)) ∙ there) in
+      subst (λ r. in_batch C r ≡ true) same (entry_named f has)
   in_batch_named d (by_trace w k t has) = trace_named w t (was_there k (batch_traces w C) t (once_too w) has)
 
-  from_traces : (w : Way) (d : Digest) → in_traces (batch_traces w C) d ≡ true → IsNamed (carried C (under r)) d
+  from_traces : (w : Way) (d : Digest) → in_traces (batch_traces w C) d ≡ true → IsNamed L d
   from_traces w d is =
       let (t, has, same) = named_item (λ (u : Trace). u.result) (batch_traces w C) d is in
-      subst (IsNamed (carried C (under r))) same (by_trace w t.key t (is_there (batch_traces w C) t (once_too w) has))
+      subst (IsNamed L) same (by_trace w t.key t (is_there (batch_traces w C) t (once_too w) has))
 
-  from_entries : (d : Digest) → in_entries C.entries d ≡ true → IsNamed (carried C (under r)) d
+  from_entries : (d : Digest) → in_entries C.entries d ≡ true → IsNamed L d
   from_entries d is =
       let (e, has, same) = named_item (λ (f : Entry). f.result) C.entries d is in
       let (k, there) = found e (subst (λ es. Has es e) cut.entries has) in
-      subst (IsNamed (carried C (under r))) same (by_entry k e (or_none (entry_in C.entries k) ∙ ap (λ es. entry_in es k) cut.entries ∙ there))
+      let marked : L.entries k ≡ Some (staled (is_among C.stale k) e) =
+      ap (option_map (staled (is_among C.stale k))) (or_none (entry_in C.entries k) ∙ ap (λ es. entry_in es k) cut.entries ∙ there) in
+      subst (IsNamed L) same (by_entry k (staled (is_among C.stale k) e) marked)
 
-  named_in_batch : (d : Digest) → in_batch C d ≡ true → IsNamed (carried C (under r)) d
+  named_in_batch : (d : Digest) → in_batch C d ≡ true → IsNamed L d
   named_in_batch d is = elim (or_either ((in_entries C.entries d || in_traces C.verifying d) || in_traces C.constructive d) (in_traces C.deep d) is) [
     | inr deep ↦ from_traces Deep d deep
     | inl front ↦ elim (or_either (in_entries C.entries d || in_traces C.verifying d) (in_traces C.constructive d) front) [
@@ -140,59 +155,35 @@ module _ (n : ℕ) (r : Option Digest) (B C : Batch) (cut : IsCut n B C) (once :
   stored_there : (d : Digest) → in_batch C d ≡ true → first_value C.values d ≡ first_value B.values d
   stored_there d is = cut.values d ∙ ap (λ b. if b then first_value B.values d else None) is
 
-  only_there : (d : Digest) (v : Value) (b : Bool) → in_batch C d ≡ b → (if b then first_value B.values d else None) ≡ Some v
-      → IsNamed (carried C (under r)) d × (first_value B.values d ≡ Some v)
+  only_there : (d : Digest) (v : Value) (b : Bool) → in_batch C d ≡ b → (if b then first_value B.values d else None) ≡ Some v → IsNamed L d × (first_value B.values d ≡ Some v)
   only_there d v true named is = (named_in_batch d named, is)
   only_there d v false named is = absurd (cc)
 
-  pub carried_trimmed : IsTrimmed (carried B (under r)) n (carried C (under r))
-  carried_trimmed = record {
-    rules = refl;
-    seen = ap (λ ls. λ (k : List ℕ). option_or (link_in ls k) None) cut.seen;
-    entries = λ i. λ k. option_or (entry_in (cut.entries i) k) (option_map (staled (is_among (cut.stale i) k)) None);
-    traces = λ w k. ap (λ ts. traces_in k ts []) (newest_in w) ∙ newest_taken n k (batch_traces w B) (once w);
-    chain = ap (λ o. unwrap_or o []) cut.chain;
-    named = λ d named. stored_there d (in_batch_named d named);
+  pub put_trimmed : IsTrimmed K n L
+  put_trimmed = record {
+    newest = record {
+      seen = ap (λ ls. λ (k : List ℕ). option_or (link_in ls k) None) cut.seen;
+      entries = λ i. λ k. option_map (staled (is_among (cut.stale i) k)) (option_or (entry_in (cut.entries i) k) None);
+      traces = λ w k. ap (λ ts. traces_in k ts []) (newest_in w) ∙ newest_taken n k (batch_traces w B) (once w);
+      chain = ap (λ o. unwrap_or o []) cut.chain;
+      named = λ d named. stored_there d (in_batch_named d named);
+    };
     only = λ d v there. only_there d v (in_batch C d) refl (sym (cut.values d) ∙ there);
   }
 
 -- how many traces it has
-number_of : (r : Option Digest) (B : Batch) → ((w : Way) → EachOnce (batch_traces w B)) → IsNumberOf (carried B (under r)) (number_in B)
-number_of r B once = record {
+number_of : (B : Batch) → ((w : Way) → EachOnce (batch_traces w B)) → IsNumberOf (put_in B nothing_kept) (number_in B)
+number_of B once = record {
   lists = λ w. batch_traces w B;
   listed = λ w. record { once = once w; each = λ t has. is_there (batch_traces w B) t (once w) has; all = λ k t has. was_there k (batch_traces w B) t (once w) has };
   sum = refl;
 }
 
-marks_count : (K : SomeKept) (ks : List (List ℕ)) (number : ℕ) → IsNumberOf K number → IsNumberOf (with_marks K ks) number
-marks_count K ks number is = record {
-  lists = is.lists;
-  listed = λ w. let listed = is.listed w in record { once = listed.once; each = listed.each; all = listed.all };
-  sum = is.sum;
-}
-
 nothing_counts : IsNumberOf nothing_kept 0
 nothing_counts = record { lists = λ w. []; listed = λ w. record { once = tt; each = λ t has. absurd has; all = λ k t has. absurd has }; sum = refl }
 
--- ---- the marks
-
-with_none : (L : SomeKept) → L ≡ with_marks L []
-with_none L = kept_same L (with_marks L []) refl (λ k. refl) (λ k. none_marked (L.entries k)) (λ w k. refl) refl (λ d. refl)
-
-only_marks : (ks : List (List ℕ)) (L : SomeKept) → apply (marks_of ks) L ≡ with_marks L ks
-only_marks ks L = kept_same (apply (marks_of ks) L) (with_marks L ks) refl (λ k. refl) (λ k. refl) none refl (λ d. or_none (L.stored d))
-  where
-    none : (w : Way) (k : List ℕ) → traces_in k (batch_traces w (marks_of ks)) (L.traces w k) ≡ L.traces w k
-    none Verifying k = refl
-    none Constructive k = refl
-    none Deep k = refl
-
--- the batches behind the first one are as before
-module _ (n : ℕ) (B : Batch) (c : Counts) where
-  cut_marked : (ks : List (List ℕ)) (Cs : List Batch) → AreCut n (and_marks B ks) Cs c
-      → (C : Batch) × IsCut n B C × (applied nothing_kept Cs ≡ with_marks (apply C nothing_kept) ks) × (c.before ≡ number_in B) × (c.after ≡ number_in C)
-  cut_marked [] Cs (C, is, cut, before, after) = (C, cut, ap (applied nothing_kept) is ∙ with_none (apply C nothing_kept), before, after)
-  cut_marked (k ∷ ks) Cs (C, is, cut, before, after) = (C, cut, ap (applied nothing_kept) is ∙ only_marks (k ∷ ks) (apply C nothing_kept), before, after)
+nothing_trimmed : (n : ℕ) → IsTrimmed nothing_kept n nothing_kept
+nothing_trimmed n = record { newest = nothing_newest n; only = λ d v there. absurd (cc) }
 
 -- ---- all of it
 
@@ -202,9 +193,6 @@ Comes K n Cs c = IsTrimmed (kept_view K) n (applied nothing_kept Cs) × IsNumber
 module _ (K : Kept) (n : ℕ) (Bs Cs : List Batch) (c : Counts) (live : IsSomeLive K Bs) (cut : AreCut n Bs Cs c) where
   abbrev B : Batch
   B = live.first
-
-  abbrev ks : List (List ℕ)
-  ks = stale_at K.entries live.keys
 
   once : (w : Way) → EachOnce (batch_traces w B)
   once Verifying = subst EachOnce (sym live.all.verifying) (last_once K.verifying)
@@ -229,26 +217,19 @@ module _ (K : Kept) (n : ℕ) (Bs Cs : List Batch) (c : Counts) (live : IsSomeLi
             ∙ there,
       )
 
-  from_start : (C : Batch) → C.start ≡ start_for K.rules → carried C (under K.rules) ≡ apply C nothing_kept
-  from_start C start = ap (carried C) (sym (ap (λ s. started s nothing_kept) start ∙ started_for K.rules))
-
-  comes_of : (C : Batch) → IsCut n B C → applied nothing_kept Cs ≡ with_marks (apply C nothing_kept) ks → c.before ≡ number_in B → c.after ≡ number_in C → Comes K n Cs c
-  comes_of C is made before after =
-      let old : with_marks (carried B (under K.rules)) ks ≡ kept_view K =
-      ap (λ M. with_marks M ks) (from_start B live.all.start) ∙ kept_again K live.names live.keys live.seen live.listed B live.all in
-      let new : with_marks (carried C (under K.rules)) ks ≡ applied nothing_kept Cs = ap (λ M. with_marks M ks) (from_start C (is.start ∙ live.all.start)) ∙ sym made in (
-        subst (λ M. IsTrimmed M n (applied nothing_kept Cs)) old
-            (subst (λ M. IsTrimmed (with_marks (carried B (under K.rules)) ks) n M) new
-            (marked_trimmed (carried B (under K.rules)) (carried C (under K.rules)) n (carried_trimmed n K.rules B C is once found) ks)),
-        subst (IsNumberOf (kept_view K)) (sym before) (subst (λ M. IsNumberOf M (number_in B)) old (marks_count (carried B (under K.rules)) ks (number_in B) (number_of K.rules B once))),
-        subst (IsNumberOf (applied nothing_kept Cs)) (sym after)
-            (subst (λ M. IsNumberOf M (number_in C)) new (marks_count (carried C (under K.rules)) ks (number_in C) (number_of K.rules C (once_too n K.rules B C is once found)))),
+  comes_of : (C : Batch) → IsCut n B C → Cs ≡ C ∷ [] → c.before ≡ number_in B → c.after ≡ number_in C → Comes K n Cs c
+  comes_of C is only before after =
+      let old : put_in B nothing_kept ≡ kept_view K = sym (made_of B live.all.gone) ∙ kept_again K live.names live.keys live.seen live.listed B live.all in
+      let new : put_in C nothing_kept ≡ applied nothing_kept Cs = sym (made_of C (is.gone ∙ live.all.gone)) ∙ ap (applied nothing_kept) (sym only) in (
+        subst (λ M. IsTrimmed M n (applied nothing_kept Cs)) old (subst (λ M. IsTrimmed (put_in B nothing_kept) n M) new (put_trimmed n B C is once found)),
+        subst (IsNumberOf (kept_view K)) (sym before) (subst (λ M. IsNumberOf M (number_in B)) old (number_of B once)),
+        subst (IsNumberOf (applied nothing_kept Cs)) (sym after) (subst (λ M. IsNumberOf M (number_in C)) new (number_of C (once_too n B C is once found))),
       )
 
   pub some_comes : Comes K n Cs c
   some_comes =
-      let (C, is, made, before, after) = cut_marked n B c ks Cs (subst (λ Ds. AreCut n Ds Cs c) live.batches cut) in
-      comes_of C is made before after
+      let (C, only, is, before, after) = subst (λ Ds. AreCut n Ds Cs c) live.batches cut in
+      comes_of C is only before after
 
 pub comes : (K : Kept) (n : ℕ) (Bs Cs : List Batch) (c : Counts) → IsLive K Bs → AreCut n Bs Cs c → Comes K n Cs c
 comes K n Bs Cs c (inr (some, live)) cut = some_comes K n Bs Cs c live cut

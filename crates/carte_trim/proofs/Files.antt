@@ -1,6 +1,6 @@
 -- What a new file keeps, before and while it is written.
 use Rattle.std.proofs.Common.{◌≡◌, ◌⊎◌, ℕ, ◌+◌, ◌-◌, ◌≤◌, true, false, List, [], ◌∷◌, ◌++◌, length, take, refl, ap, sym, ◌∙◌, subst, inl, inr, arith}
-use Rattle.std.specs.Prelude.{if◌then◌else◌, None, ◌&&◌, ◌==◌, is_none}
+use Rattle.std.specs.Prelude.{if◌then◌else◌, None, Some, Option, is_some, ◌&&◌, ◌==◌, is_none}
 use Rattle.std.specs.Str.{bytes_eq}
 use Rattle.std.proofs.lemmas.Bool.{le-leb}
 use Rattle.carte_io.specs.Disk.{CountsUp, LeavesOnly, Story, moments}
@@ -13,17 +13,24 @@ use Rattle.carte_bank.specs.Roots.{bank_at}
 use Rattle.carte_journal.specs.Journals.{IsAtRest, IsRead, IsReadAs, Standing, committed, needed_for, step_of}
 use Rattle.carte_journal.specs.Regions.{IsPlannedOn, IsRewritable, bytes_of, gate_of, placed_at, region_end, rewritten, step_to, written_from}
 use Rattle.carte_record.specs.Empty.{brings_no_key, brings_no_trace, goes_on, is_empty}
-use Rattle.carte_record.specs.Folds.{apply}
 use Rattle.carte_record.specs.declared.batch.Batch.{Batch}
 use Rattle.carte_compact.proofs.Bare.{both, no_items}
 use Rattle.carte_record.specs.Kept.{SomeKept, nothing_kept}
 use Rattle.carte_record.proofs.Empties.{empty_same}
-use Rattle.carte_state.specs.Folding.{IsFolded, Keeps}
-use Rattle.carte_state.specs.States.{IsLoaded, Stand, kept_in}
+use Rattle.carte_record_one.specs.Kept.{SomeKeptOne, kept_one_view}
+use Rattle.carte_record_one.specs.declared.kept.KeptOne.{KeptOne}
+use Rattle.carte_state.specs.Folding.{IsFolded, Keeps, Makes}
+use Rattle.carte_state.specs.States.{IsLoaded, Stand, any_in, any_of, kept_in}
+use Rattle.carte_state.specs.Versions.{AnyKept, InOne, InTwo, Phase, taken}
+use Rattle.carte_state.specs.declared.any.AnyBatch.TheVariants.{Two}
 use Rattle.carte_trim.specs.New.{IsNew, IsPlan, KeepsEither, fresh_journal}
 use Rattle.carte_trim.specs.declared.plan.Plan.{Plan}
 
 -- ---- a new file
+
+-- a file without bodies keeps nothing
+pub keeps_none : (limit : ℕ) (file : List ℕ) → reading limit file ≡ Ends 8 [] → Keeps limit (InTwo nothing_kept) file
+keeps_none limit file reads = record { gate = 8; bodies = []; reads = reads; makes = record { phase = None; folded = refl; kept = refl } }
 
 module _ (limit : ℕ) (file : List ℕ) (short : length file ≤ 9) where
   new_read : IsRead (fresh_journal limit) [] file
@@ -34,8 +41,8 @@ module _ (limit : ℕ) (file : List ℕ) (short : length file ≤ 9) where
     frames_is = refl;
   }
 
-  pub new_keeps : Keeps limit nothing_kept file
-  new_keeps = record { gate = 8; bodies = []; reads = new_read.reads; folded = refl }
+  pub new_keeps : Keeps limit (InTwo nothing_kept) file
+  new_keeps = keeps_none limit file new_read.reads
 
 pub new_rest : (limit : ℕ) (s : Story) → IsNew s → IsAtRest (fresh_journal limit) [] s
 new_rest limit s is = record { read = new_read limit s.now.reads is.short; settled = is.settled }
@@ -43,7 +50,7 @@ new_rest limit s is = record { read = new_read limit s.now.reads is.short; settl
 pub new_leaves : (limit : ℕ) (L : SomeKept) (s t : Story) → IsNew s → t ≡ s → LeavesOnly s t (KeepsEither limit L)
 new_leaves limit L s t is same =
     leaves_none s t (KeepsEither limit L) same
-    (λ image there. inl (subst (λ file. Keeps limit nothing_kept file) (sym (settled_image s.now image is.settled there)) (new_keeps limit s.now.reads is.short)))
+    (λ image there. inl (subst (λ file. Keeps limit (InTwo nothing_kept) file) (sym (settled_image s.now image is.settled there)) (new_keeps limit s.now.reads is.short)))
 
 -- the journal of a file that is known to be new
 pub read_fresh : (limit : ℕ) (j : Standing) (bodies : List BodyAt) → IsRead j bodies [] → j.limit ≡ limit → j.broken ≡ false → j ≡ fresh_journal limit
@@ -59,24 +66,44 @@ read_fresh limit j bodies read limit_is whole =
     parts gate limited fresh broken bank frames i = record { gate = gate i; limit = limited i; fresh = fresh i; broken = broken i; bank = bank i; frames = frames i }
 
 -- what was loaded is what the file keeps
-pub loaded_keeps : (limit : ℕ) (e : Stand) (file : List ℕ) → IsLoaded e file → e.journal.limit ≡ limit → Keeps limit (kept_in e) file
+loaded_keeps : (limit : ℕ) (e : Stand) (file : List ℕ) → IsLoaded e file → e.journal.limit ≡ limit → Keeps limit (any_in e) file
 loaded_keeps limit e file loaded same =
-    subst (λ (l : ℕ). Keeps l (kept_in e) file) same (record { gate = e.journal.gate; bodies = loaded.bodies; reads = loaded.read.reads; folded = loaded.folded })
+    subst (λ (l : ℕ). Keeps l (any_in e) file) same (record { gate = e.journal.gate; bodies = loaded.bodies; reads = loaded.read.reads; makes = loaded.makes })
+
+-- in the version that it is of
+of_two : (o : Option KeptOne) (K : SomeKept) → is_some o ≡ false → any_of o K ≡ InTwo K
+of_two None K is = refl
+of_two (Some J) K is = absurd (cc)
+
+pub two_keeps : (limit : ℕ) (e : Stand) (file : List ℕ) → is_some e.one ≡ false → IsLoaded e file → e.journal.limit ≡ limit → Keeps limit (InTwo (kept_in e)) file
+two_keeps limit e file two loaded same = subst (λ A. Keeps limit A file) (of_two e.one (kept_in e) two) (loaded_keeps limit e file loaded same)
+
+of_one : (o : Option KeptOne) (K : SomeKept) → is_some o ≡ true → (J : SomeKeptOne) × (any_of o K ≡ InOne J)
+of_one None K is = absurd (cc)
+of_one (Some J) K is = (kept_one_view J, refl)
+
+pub one_keeps : (limit : ℕ) (e : Stand) (T : Type 0) (file : List ℕ) → is_some e.one ≡ true → (T → IsLoaded e file) → e.journal.limit ≡ limit → (K : SomeKeptOne) × (T → Keeps limit (InOne K) file)
+one_keeps limit e T file one loaded same =
+    let (K, is) = of_one e.one (kept_in e) one in
+    (K, λ told. subst (λ A. Keeps limit A file) is (loaded_keeps limit e file (loaded told) same))
 
 -- a batch that brings nothing has no entry
 pub no_entries : (B : Batch) → is_empty B ≡ true → B.entries ≡ []
 no_entries B is =
     let whole = both ((goes_on B.start && is_none B.chain) && brings_no_key B) (brings_no_trace B) is in
     let front = both (goes_on B.start && is_none B.chain) (brings_no_key B) whole.0 in
-    let keys = both (length B.values == 0 && length B.seen == 0) (length B.stale == 0 && length B.entries == 0) front.1 in
-    no_items B.entries ((both (length B.stale == 0) (length B.entries == 0) keys.1).1)
+    let keys = both ((length B.values == 0 && length B.gone == 0) && length B.seen == 0) (length B.entries == 0 && length B.stale == 0) front.1 in
+    no_items B.entries ((both (length B.entries == 0) (length B.stale == 0) keys.1).0)
 
 -- ---- what is planned
 
 -- where bodies stand doesn't count
-folded_placed : (K L : SomeKept) (at : ℕ) (bodies : List BodyAt) → IsFolded K bodies L → IsFolded K (placed_at at (bytes_of bodies)) L
-folded_placed K L at [] folded = folded
-folded_placed K L at (body ∷ bodies) folded = (folded.0, folded.1, folded_placed (apply folded.0 K) L (end_of at body.1) bodies folded.2)
+folded_placed : (p q : Phase) (at : ℕ) (bodies : List BodyAt) → IsFolded p bodies q → IsFolded p (placed_at at (bytes_of bodies)) q
+folded_placed p q at [] folded = folded
+folded_placed p q at (body ∷ bodies) folded = (folded.0, folded.1, folded.2, folded_placed (taken folded.0 p) q (end_of at body.1) bodies folded.3)
+
+makes_placed : (K : AnyKept) (at : ℕ) (bodies : List BodyAt) → Makes bodies K → Makes (placed_at at (bytes_of bodies)) K
+makes_placed K at bodies makes = record { phase = makes.phase; folded = folded_placed None makes.phase at bodies makes.folded; kept = makes.kept }
 
 either_nothing : {A : Type 0} → A ⊎ A → A
 either_nothing (inl a) = a
@@ -86,23 +113,24 @@ module _ (limit : ℕ) (L : SomeKept) (p : Plan) (is : IsPlan limit L p) where
   abbrev first : List BodyAt
   first = (8, p.frame) ∷ []
 
-  first_keeps : (gate : ℕ) (file : List ℕ) → reading limit file ≡ Ends gate first → Keeps limit nothing_kept file
+  first_keeps : (gate : ℕ) (file : List ℕ) → reading limit file ≡ Ends gate first → Keeps limit (InTwo nothing_kept) file
   first_keeps gate file reads = record {
     gate = gate;
     bodies = first;
     reads = reads;
-    folded = (is.empty, is.body, sym (empty_same is.empty nothing_kept is.brings_nothing));
+    makes = record {
+      phase = taken (Two is.empty) None;
+      folded = (Two is.empty, is.body, tt, refl);
+      kept = ap InTwo (sym (empty_same is.empty nothing_kept is.brings_nothing));
+    };
   }
 
-  start_keeps : (file : List ℕ) → reading limit file ≡ Ends 8 [] → Keeps limit nothing_kept file
-  start_keeps file reads = record { gate = 8; bodies = []; reads = reads; folded = refl }
-
-  region_keeps : (gate : ℕ) (file : List ℕ) → reading limit file ≡ Ends gate (placed_at p.region.at (bytes_of is.region.bodies)) → Keeps limit L file
+  region_keeps : (gate : ℕ) (file : List ℕ) → reading limit file ≡ Ends gate (placed_at p.region.at (bytes_of is.region.bodies)) → Keeps limit (InTwo L) file
   region_keeps gate file reads = record {
     gate = gate;
     bodies = placed_at p.region.at (bytes_of is.region.bodies);
     reads = reads;
-    folded = folded_placed nothing_kept L p.region.at is.region.bodies is.region.folded;
+    makes = makes_placed (InTwo L) p.region.at is.region.bodies is.region.makes;
   }
 
   -- while the first frame is written
@@ -112,7 +140,7 @@ module _ (limit : ℕ) (L : SomeKept) (p : Plan) (is : IsPlan limit L p) where
       let fresh = fresh_journal limit in
       let as_new = subst (λ (j : Standing). StepsThrough (IsReadAs j.limit) (Ends j.gate []) (step_of j [] p.frame ∷ []) old mid) is.journal steps in
       leaves_more old mid (IsAtOneOf (IsReadAs limit) (Ends 8 []) (step_of fresh [] p.frame ∷ [])) (KeepsEither limit L)
-      (λ image at. inl (elim at [ inl before ↦ start_keeps image before | inr after ↦ first_keeps (end_of 8 p.frame) image after ]))
+      (λ image at. inl (elim at [ inl before ↦ keeps_none limit image before | inr after ↦ first_keeps (end_of 8 p.frame) image after ]))
       (steps_leave (IsReadAs limit) (Ends 8 []) (step_of fresh [] p.frame ∷ []) old mid up as_new)
 
   -- while the region is
@@ -127,7 +155,7 @@ module _ (limit : ℕ) (L : SomeKept) (p : Plan) (is : IsPlan limit L p) where
 
   -- and behind it
   pub turned_keeps : (k : Standing) (new : Story) → k ≡ committed (fresh_journal limit) p.frame → IsAtRest (rewritten k p.region) (placed_at p.region.at (bytes_of is.region.bodies)) new
-      → Keeps limit L new.now.reads
+      → Keeps limit (InTwo L) new.now.reads
   turned_keeps k new same rest =
       let as_planned = subst (λ (j : Standing). IsAtRest (rewritten j p.region) (placed_at p.region.at (bytes_of is.region.bodies)) new) same rest in
       region_keeps (region_end p.region - 1) new.now.reads as_planned.read.reads

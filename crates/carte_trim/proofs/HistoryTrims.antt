@@ -7,10 +7,11 @@ use Rattle.carte_value.specs.Lists.{Has}
 use Rattle.carte_book.specs.Book.{Book}
 use Rattle.carte_record.specs.Kept.{SomeKept, nothing_kept}
 use Rattle.carte_sound.specs.Base.{HasDistinctDigests}
-use Rattle.carte_sound.specs.Sound.{IsSound}
+use Rattle.carte_engine.specs.Versions.{IsSoundAny}
 use Rattle.carte_sound.proofs.Begins.{front_distinct}
 use Rattle.carte_sound.proofs.Histories.{nothing_sound}
 use Rattle.carte_state.specs.Folding.{Keeps}
+use Rattle.carte_state.specs.Versions.{InTwo}
 use Rattle.carte_state.proofs.Folds.{keeps_one}
 use Rattle.carte_top.specs.Histories.{IsLeft}
 use Rattle.carte_top.specs.Sound.{KeepsSound}
@@ -18,7 +19,7 @@ use Rattle.carte_top.proofs.HistoryRuns.{histories}
 use Rattle.carte_trim.specs.Histories.{AreSteps, IsTrimFrom, Runs, Step, Trim, Trims, TrimsBetween, around_of}
 use Rattle.carte_trim.specs.New.{KeepsEither}
 use Rattle.carte_trim.specs.Outcome.{IsSpared, Leaves as TrimLeaves, MadeLeaves}
-use Rattle.carte_trim.proofs.Files.{new_keeps}
+use Rattle.carte_trim.proofs.Files.{keeps_none, new_keeps}
 use Rattle.carte_trim.proofs.Trims.{sound}
 
 at_moment : (Q : Moment → Type 0) (ms : List Moment) (m : Moment) → EachMoment Q ms → Has ms m → Q m
@@ -36,21 +37,21 @@ module _ (limit : ℕ) (file : List ℕ) (G : List Book) (t : Trim) (keeps : Kee
   keeps_old : KeepsSound limit G t.state.now.reads
   keeps_old = subst (KeepsSound limit G) (sym is.found) keeps
 
-  nothing_left : (image : List ℕ) → Keeps limit nothing_kept image → KeepsSound limit G image
-  nothing_left image there = (nothing_kept, there, nothing_sound G)
+  nothing_left : (image : List ℕ) → Keeps limit (InTwo nothing_kept) image → KeepsSound limit G image
+  nothing_left image there = (InTwo nothing_kept, there, nothing_sound G)
 
   -- where nothing was written, an image is a new file
   spared : IsSpared (around_of t).new → LeavesOnly t.new t.new_after (KeepsSound limit G)
   spared same =
       leaves_none t.new t.new_after (KeepsSound limit G) (same tt)
-      (λ image there. nothing_left image (subst (Keeps limit nothing_kept) (sym (settled_image t.new.now image is.fresh.settled there)) (new_keeps limit t.new.now.reads is.fresh.short)))
+      (λ image there. nothing_left image (subst (Keeps limit (InTwo nothing_kept)) (sym (settled_image t.new.now image is.fresh.settled there)) (new_keeps limit t.new.now.reads is.fresh.short)))
 
-  made : (n : ℕ) (K : SomeKept) → Keeps limit K t.state.now.reads → MadeLeaves limit n K (around_of t).new → LeavesOnly t.new t.new_after (KeepsSound limit G)
+  made : (n : ℕ) (K : SomeKept) → Keeps limit (InTwo K) t.state.now.reads → MadeLeaves limit n K (around_of t).new → LeavesOnly t.new t.new_after (KeepsSound limit G)
   made n K there (inl same) = spared same
   made n K there (inr (short, (L, trimmed, leaves))) =
-      let known : IsSound K G = subst (λ M. IsSound M G) (keeps_one limit t.state.now.reads keeps_old.0 K keeps_old.1 there) keeps_old.2 in
+      let known : IsSoundAny (InTwo K) G = subst (λ A. IsSoundAny A G) (keeps_one limit t.state.now.reads keeps_old.0 (InTwo K) keeps_old.1 there) keeps_old.2 in
       leaves_more t.new t.new_after (KeepsEither limit L) (KeepsSound limit G)
-      (λ image either. elim either [ inl none ↦ nothing_left image none | inr whole ↦ (L, whole, sound K L n G trimmed known) ]) (leaves tt is.fresh)
+      (λ image either. elim either [ inl none ↦ nothing_left image none | inr whole ↦ (InTwo L, whole, sound K L n G trimmed known) ]) (leaves tt is.fresh)
 
   leaves_sound : TrimLeaves limit t.words (around_of t).state (around_of t).new → LeavesOnly t.new t.new_after (KeepsSound limit G)
   leaves_sound (inl same) = spared same
@@ -77,4 +78,4 @@ steps_sound limit (Trims t ∷ steps) G H file last keeps (is, more) distinct = 
 
 pub trims_between : TrimsBetween
 trims_between limit steps H last are distinct =
-    steps_sound limit steps [] H [] last (nothing_kept, record { gate = 8; bodies = []; reads = refl; folded = refl }, nothing_sound []) are distinct
+    steps_sound limit steps [] H [] last (InTwo nothing_kept, keeps_none limit [] refl, nothing_sound []) are distinct

@@ -10,7 +10,7 @@ use Rattle.carte_trim.specs.Parts.{Answers, LengthOr, Makes, RunsOver}
 use Rattle.carte_trim.specs.Texts.{reply}
 use Rattle.carte_trim.specs.Trimmed.{IsNumberOf, IsTrimmed}
 use Rattle.carte_trim.specs.declared.status.Status.{Status}
-use Rattle.carte_trim.specs.declared.status.Status.TheVariants.{Done, Usage, WriteFault, StateFault, BadState, Full, NoMemory, NotNew, NewFault}
+use Rattle.carte_trim.specs.declared.status.Status.TheVariants.{Done, Usage, WriteFault, StateFault, BadState, Full, NoMemory, NotNew, NewFault, OldState}
 
 untouched : (k : OverSink) → k.new ≡ k.old → IsUntouched k
 untouched k same = (ap (λ s. s.taken) same, ap (λ s. s.handed) same, ap (λ s. s.faults) same)
@@ -30,6 +30,7 @@ made_length limit L d between (Err (BadState offset)) same made never leaves = a
 made_length limit L d between (Err (Full needed most)) same made never leaves = absurd never
 made_length limit L d between (Err NoMemory) same made never leaves = absurd never
 made_length limit L d between (Err NotNew) same made never leaves = absurd never
+made_length limit L d between (Err OldState) same made never leaves = absurd never
 
 -- ---- over what is kept
 
@@ -60,6 +61,7 @@ module _ (limit n : ℕ) (K : SomeKept) (of_bytes : ℕ) (d : OverDisk) (k : Ove
     runs_unmade StateFault makes still = absurd makes.made
     runs_unmade (BadState offset) makes still = absurd makes.made
     runs_unmade NotNew makes still = absurd makes.made
+    runs_unmade OldState makes still = absurd makes.made
 
     module _ (bytes traces of_traces : ℕ) (makes : Makes limit L d (Ok bytes)) (number : IsNumberOf L traces) (of_number : IsNumberOf K of_traces) where
       replies : (Takes : OverSink → List ℕ → Type 0) → (k.tells → Takes k (reply traces of_traces bytes of_bytes)) → Replies of_bytes d k Takes K L
@@ -94,6 +96,7 @@ module _ (limit n : ℕ) (K : SomeKept) (of_bytes : ℕ) (d : OverDisk) (k : Ove
       runs_made NoMemory (inr never) = absurd never
       runs_made NotNew (inr never) = absurd never
       runs_made NewFault (inr never) = absurd never
+      runs_made OldState (inr never) = absurd never
 
 -- ---- the same of a disk that was looked at before, and of the very disk
 
@@ -138,6 +141,7 @@ module _ (limit n : ℕ) (K : SomeKept) (of_bytes : ℕ) (d : OverDisk) (old : S
   made_status Usage made = made
   made_status StateFault made = made
   made_status (BadState offset) made = made
+  made_status OldState made = made
 
   tells_status : (status : Status) → TellsNew d status → TellsNew e status
   tells_status NewFault is = subst (λ (m : ℕ). Rose m d.failed) faults is
@@ -149,6 +153,7 @@ module _ (limit n : ℕ) (K : SomeKept) (of_bytes : ℕ) (d : OverDisk) (old : S
   tells_status Usage is = is ∙ faults
   tells_status StateFault is = is ∙ faults
   tells_status (BadState offset) is = is ∙ faults
+  tells_status OldState is = is ∙ faults
 
   leaves_too : MadeLeaves limit n K d → MadeLeaves limit n K e
   leaves_too (inl spared) = inl (spared_too spared)

@@ -6,21 +6,21 @@ use Rattle.carte_value.specs.declared.value.Value.{Value}
 use Rattle.carte_value.specs.Lists.{Has}
 use Rattle.carte_value.specs.Truths.{NoneTwice}
 use Rattle.carte_book.specs.Book.{Book}
-use Rattle.carte_book.specs.Digest.{rules_digest_of}
-use Rattle.carte_book.specs.Needs.{IsRule}
 use Rattle.carte_record.specs.declared.entry.Entry.{Entry}
 use Rattle.carte_record.specs.declared.trace.Trace.{Trace}
 use Rattle.carte_record.specs.declared.way.Way.{Way}
 use Rattle.carte_record.specs.declared.way.Way.TheVariants.{Verifying, Constructive, Deep}
-use Rattle.carte_record.specs.Folds.{is_among, with_marks}
+use Rattle.carte_record.specs.Folds.{is_among}
 use Rattle.carte_record.specs.Kept.{SomeKept, nothing_kept, staled}
 use Rattle.carte_record.proofs.Growing.{kept_same}
-use Rattle.carte_sound.specs.Begun.{begin, has_rules_of, is_digest}
+use Rattle.carte_sound.specs.Begun.{Beginning, IsBeginning, IsGone, begin}
+use Rattle.carte_sound.specs.Begun as dropped
 use Rattle.carte_sound.specs.Held.{IsTrusted, dirty, tracing}
-use Rattle.carte_sound.specs.Marks.{IsChanged, IsFresh, IsMarked, Leads, need, on}
-use Rattle.carte_sound.specs.Sound.{IsEntryOfSome, IsFreshIn, IsSeen, IsSound, IsStored, IsTraceOfSome, Stood}
+use Rattle.carte_sound.specs.Marks.{Comes, IsChanged, IsFresh, IsMarked, Leads, need, on}
+use Rattle.carte_sound.specs.Marks as marks
+use Rattle.carte_sound.specs.Sound.{IsEntryOfSome, IsFreshIn, IsRuled, IsSeen, IsSound, IsStored, IsTraceOfSome}
 use Rattle.carte_trim.specs.Laws.{HeldAsBefore, NoneNewlyHeld, OneTrimmed, TrimmedBegins, TrimmedIsSound}
-use Rattle.carte_trim.specs.Trimmed.{IsNamed, IsTrimmed, by_entry, by_trace}
+use Rattle.carte_trim.specs.Trimmed.{HasNewest, IsNamed, IsTrimmed, by_entry, by_trace}
 
 pub has_taken : {A : Type 0} (n : ℕ) (xs : List A) (x : A) → Has (take n xs) x → Has xs x
 has_taken zero xs x has = absurd has
@@ -45,11 +45,16 @@ module _ (K L : SomeKept) (seen : L.seen ≡ K.seen) (entries : L.entries ≡ K.
   leads_too k j (need e is among) = need e (entry_too k (Some e) is) among
   leads_too k j (on {i = i} e is among leads) = on e (entry_too k (Some e) is) among (leads_too i j leads)
 
+  comes_too : (k j : List ℕ) → Comes K k j → Comes L k j
+  comes_too k j (inl same) = inl same
+  comes_too k j (inr leads) = inr (leads_too k j leads)
+
   fresh_too : (k : List ℕ) → IsFresh K k → IsFresh L k
   fresh_too k fresh = record { entry = fresh.entry; kept = entry_too k (Some fresh.entry) fresh.kept; fresh = fresh.fresh }
 
   changed_too : (b : Book) (k : List ℕ) → IsChanged K b k → IsChanged L b k
-  changed_too b k is = record { digest = is.digest; seen = seen_too k (Some is.digest) is.seen; differs = is.differs }
+  changed_too b k (marks.IsChanged.seen d is differs) = marks.IsChanged.seen d (seen_too k (Some d) is) differs
+  changed_too b k (marks.IsChanged.task e is differs) = marks.IsChanged.task e (entry_too k (Some e) is) differs
 
   marked_too : (b : Book) (k : List ℕ) → IsMarked K b k → IsMarked L b k
   marked_too b k is = record {
@@ -57,30 +62,30 @@ module _ (K L : SomeKept) (seen : L.seen ≡ K.seen) (entries : L.entries ≡ K.
     kept = entry_too k (Some is.entry) is.kept;
     unmarked = is.unmarked;
     name = is.name;
-    leads = leads_too k is.name is.leads;
+    leads = comes_too k is.name is.leads;
     changed = changed_too b is.name is.changed;
   }
+
+  gone_too : (b : Book) (k : List ℕ) → IsGone K b k → IsGone L b k
+  gone_too b k (dropped.IsGone.seen d is differs) = dropped.IsGone.seen d (seen_too k (Some d) is) differs
+  gone_too b k (dropped.IsGone.entry e is differs) = dropped.IsGone.entry e (entry_too k (Some e) is) differs
 
   trusted_too : (w : Way) (k : List ℕ) (t : Trace) → IsTrusted w K k t → IsTrusted w L k t
   trusted_too Verifying k t (e, is, same) = (e, entry_too k (Some e) is, same)
   trusted_too Constructive k t is = is
   trusted_too Deep k t is = is
 
-  module _ (rules : L.rules ≡ K.rules) (H : List Book) where
-    stood_too : (b : Book) → Stood H K b → Stood H L b
-    stood_too b is = record { stood = is.stood; rules = rules ∙ is.rules }
+  names_too : (b : Book) (k : List ℕ) → IsSeen K b k ⊎ IsRuled K b k → IsSeen L b k ⊎ IsRuled L b k
+  names_too b k (inl is) = inl (record { value = is.value; is_input = is.is_input; seen = seen_too k _ is.seen })
+  names_too b k (inr is) = inr (record { entry = is.entry; kept = entry_too k (Some is.entry) is.kept; task = is.task })
 
-    names_too : (b : Book) (k : List ℕ) → IsSeen K b k ⊎ IsRule b k → IsSeen L b k ⊎ IsRule b k
-    names_too b k (inl is) = inl (record { value = is.value; is_input = is.is_input; seen = seen_too k _ is.seen })
-    names_too b k (inr is) = inr is
-
-    trace_too : (w : Way) (k : List ℕ) (t : Trace) → IsTraceOfSome K H w k t → IsTraceOfSome L H w k t
-    trace_too w k t is = record { book = is.book; stood = stood_too is.book is.stood; trace = is.trace; entry = is.entry; kept = entry_too k (Some is.entry) is.kept }
+  trace_too : (H : List Book) (w : Way) (k : List ℕ) (t : Trace) → IsTraceOfSome K H w k t → IsTraceOfSome L H w k t
+  trace_too H w k t is = record { book = is.book; stood = is.stood; trace = is.trace; entry = is.entry; kept = entry_too k (Some is.entry) is.kept }
 
 -- and back
-fresh_in : (K L : SomeKept) → L.seen ≡ K.seen → L.entries ≡ K.entries → L.rules ≡ K.rules → (b : Book) (k : List ℕ) (e : Entry) → IsFreshIn K b k e → IsFreshIn L b k e
-fresh_in K L seen entries rules b k e is = record {
-  names = λ i leads. names_too K L seen entries rules [] b i (is.names i (leads_too L K (sym seen) (sym entries) k i leads));
+fresh_in : (K L : SomeKept) → L.seen ≡ K.seen → L.entries ≡ K.entries → (b : Book) (k : List ℕ) (e : Entry) → IsFreshIn K b k e → IsFreshIn L b k e
+fresh_in K L seen entries b k e is = record {
+  names = λ i leads. names_too K L seen entries b i (is.names i (leads_too L K (sym seen) (sym entries) k i leads));
   rules = λ j among rule. fresh_too K L seen entries j (is.rules j among rule);
 }
 
@@ -99,150 +104,138 @@ none_stored (Some v) none = absurd (none v refl)
 
 module _ (K L M : SomeKept) (n : ℕ) (is : IsTrimmed K n L) (is' : IsTrimmed K n M) where
   across : (d : Digest) → IsNamed L d → IsNamed M d
-  across d named = named_too L M (is'.entries ∙ sym is.entries) (λ w k t has. subst (λ ts. Has ts t) (is.traces w k ∙ sym (is'.traces w k)) has) d named
+  across d named = named_too L M (is'.newest.entries ∙ sym is.newest.entries) (λ w k t has. subst (λ ts. Has ts t) (is.newest.traces w k ∙ sym (is'.newest.traces w k)) has) d named
 
   stored_on : (d : Digest) (o : Option Value) → L.stored d ≡ o → ((v : Value) → M.stored d ≡ Some v → L.stored d ≡ Some v) → o ≡ M.stored d
   stored_on d None here back = sym (none_stored (M.stored d) (λ v there. let clash : Some v ≡ None = sym (back v there) ∙ here in cc))
-  stored_on d (Some v) here back = let there = is.only d v here in sym (is'.named d (across d there.0) ∙ there.1)
+  stored_on d (Some v) here back = let there = is.only d v here in sym (is'.newest.named d (across d there.0) ∙ there.1)
 
 pub one : OneTrimmed
-one K L M n is is' = kept_same L M (is.rules ∙ sym is'.rules) (λ k. ap (λ f. f k) (is.seen ∙ sym is'.seen)) (λ k. ap (λ f. f k) (is.entries ∙ sym is'.entries))
-    (λ w k. is.traces w k ∙ sym (is'.traces w k)) (is.chain ∙ sym is'.chain)
-    (λ d. stored_on K L M n is is' d (L.stored d) refl (λ v there. let from = is'.only d v there in is.named d (across K M L n is' is d from.0) ∙ from.1))
+one K L M n is is' = kept_same L M (λ k. ap (λ f. f k) (is.newest.seen ∙ sym is'.newest.seen)) (λ k. ap (λ f. f k) (is.newest.entries ∙ sym is'.newest.entries))
+    (λ w k. is.newest.traces w k ∙ sym (is'.newest.traces w k)) (is.newest.chain ∙ sym is'.newest.chain)
+    (λ d. stored_on K L M n is is' d (L.stored d) refl (λ v there. let from = is'.only d v there in is.newest.named d (across K M L n is' is d from.0) ∙ from.1))
+
+-- ---- what has the newest traces
+
+module _ (K L : SomeKept) (n : ℕ) (has_newest : HasNewest K n L) where
+  from_newest : (w : Way) (k : List ℕ) (t : Trace) → Has (L.traces w k) t → Has (K.traces w k) t
+  from_newest w k t has = has_taken n (K.traces w k) t (subst (λ ts. Has ts t) (has_newest.traces w k) has)
+
+  still_stored : (d : Digest) → IsNamed L d → IsStored K d → IsStored L d
+  still_stored d named (v, stored) = (v, has_newest.named d named ∙ stored)
+
+  kept_entry : (k : List ℕ) (e : Entry) → L.entries k ≡ Some e → K.entries k ≡ Some e
+  kept_entry k e there = sym (ap (λ f. f k) has_newest.entries) ∙ there
+
+  kept_seen : (i : List ℕ) (d : Digest) → L.seen i ≡ Some d → K.seen i ≡ Some d
+  kept_seen i d there = sym (ap (λ f. f i) has_newest.seen) ∙ there
 
 -- ---- it is sound
 
-module _ (K L : SomeKept) (n : ℕ) (is : IsTrimmed K n L) where
-  from_newest : (w : Way) (k : List ℕ) (t : Trace) → Has (L.traces w k) t → Has (K.traces w k) t
-  from_newest w k t has = has_taken n (K.traces w k) t (subst (λ ts. Has ts t) (is.traces w k) has)
+module _ (K L : SomeKept) (n : ℕ) (H : List Book) (is : IsTrimmed K n L) (sound : IsSound K H) where
+  abbrev m : HasNewest K n L
+  m = is.newest
 
-  still_stored : (d : Digest) → IsNamed L d → IsStored K d → IsStored L d
-  still_stored d named (v, stored) = (v, is.named d named ∙ stored)
+  entry_sound : (k : List ℕ) (e : Entry) → K.entries k ≡ Some e → IsEntryOfSome L H k e
+  entry_sound k e kept =
+      let some = sound.entries k e kept in
+      record { book = some.book; stood = some.stood; entry = some.entry; fresh = λ fresh. fresh_in K L m.seen m.entries some.book k e (some.fresh fresh) }
 
-  of_nothing : K ≡ nothing_kept → L ≡ nothing_kept
-  of_nothing none = kept_same L nothing_kept (is.rules ∙ ap (λ (M : SomeKept). M.rules) none) (λ k. ap (λ f. f k) is.seen ∙ ap (λ (M : SomeKept). M.seen k) none)
-      (λ k. ap (λ f. f k) is.entries ∙ ap (λ (M : SomeKept). M.entries k) none) (λ w k. is.traces w k ∙ ap (λ (M : SomeKept). take n (M.traces w k)) none ∙ nothing_taken n)
-      (is.chain ∙ ap (λ (M : SomeKept). M.chain) none)
-      (λ d. none_stored (L.stored d) (λ v stored. let clash : Some v ≡ None = sym ((is.only d v stored).1) ∙ ap (λ (M : SomeKept). M.stored d) none in cc))
-
-  module _ (H : List Book) (sound : IsSound K H) where
-    entry_sound : (k : List ℕ) (e : Entry) → K.entries k ≡ Some e → IsEntryOfSome L H k e
-    entry_sound k e kept =
-        let some = sound.entries k e kept in
-        record {
-          book = some.book;
-          stood = stood_too K L is.seen is.entries is.rules H some.book some.stood;
-          entry = some.entry;
-          fresh = λ fresh. fresh_in K L is.seen is.entries is.rules some.book k e (some.fresh fresh);
-        }
-
-    kept_entry : (k : List ℕ) (e : Entry) → L.entries k ≡ Some e → K.entries k ≡ Some e
-    kept_entry k e there = sym (ap (λ f. f k) is.entries) ∙ there
-
-    pub trimmed_sound : IsSound L H
-    trimmed_sound = record {
-      nothing = λ none. of_nothing (sound.nothing (sym is.rules ∙ none));
-      traces = λ w k t has. trace_too K L is.seen is.entries is.rules H w k t (sound.traces w k t (from_newest w k t has));
-      entries = λ k e there. entry_sound k e (kept_entry k e there);
-      stored = λ d v there. sound.stored d v ((is.only d v there).1);
-      entry_stored = λ k e there. still_stored e.result (by_entry k e there) (sound.entry_stored k e (kept_entry k e there));
-      trace_stored = λ w k t has. still_stored t.result (by_trace w k t has) (sound.trace_stored w k t (from_newest w k t has));
-      chain = subst (λ ks. NoneTwice ks) (sym is.chain) sound.chain;
-      seen = λ i d there.
-          let some = sound.seen i d (sym (ap (λ f. f i) is.seen) ∙ there) in
-          record { book = some.book; stood = stood_too K L is.seen is.entries is.rules H some.book some.stood; value = some.value; is_input = some.is_input };
-    }
+  pub trimmed_sound : IsSound L H
+  trimmed_sound = record {
+    traces = λ w k t has. trace_too K L m.seen m.entries H w k t (sound.traces w k t (from_newest K L n m w k t has));
+    entries = λ k e there. entry_sound k e (kept_entry K L n m k e there);
+    stored = λ d v there. sound.stored d v ((is.only d v there).1);
+    entry_stored = λ k e there. still_stored K L n m e.result (by_entry k e there) (sound.entry_stored k e (kept_entry K L n m k e there));
+    trace_stored = λ w k t has. still_stored K L n m t.result (by_trace w k t has) (sound.trace_stored w k t (from_newest K L n m w k t has));
+    chain = subst (λ ks. NoneTwice ks) (sym m.chain) sound.chain;
+    apart = λ i d e seen kept. sound.apart i d e (kept_seen K L n m i d seen) (kept_entry K L n m i e kept);
+  }
 
 pub sound : TrimmedIsSound
-sound K L n H is s = trimmed_sound K L n is H s
+sound K L n H is s = trimmed_sound K L n H is s
 
 -- ---- what a build begins with
 
-module _ (K L : SomeKept) (n : ℕ) (is : IsTrimmed K n L) (ms : List (List ℕ)) where
-  -- marks change no result
-  unmarked_named : (o : Option Entry) (b : Bool) (e : Entry) → option_map (staled b) o ≡ Some e → (f : Entry) × (o ≡ Some f) × (f.result ≡ e.result)
-  unmarked_named None b e there = absurd (cc)
-  unmarked_named (Some f) b e there = let same : staled b f ≡ e = cc in (f, refl, ap (λ (g : Entry). g.result) same)
+pub nothing_newest : (n : ℕ) → HasNewest nothing_kept n nothing_kept
+nothing_newest n = record { seen = refl; entries = refl; traces = λ w k. sym (nothing_taken n); chain = refl; named = λ d named. refl }
 
-  named_before : (d : Digest) → IsNamed (with_marks L ms) d → IsNamed L d
-  named_before d (by_entry k e there) =
-      let before = unmarked_named (L.entries k) (is_among ms k) e there in
-      subst (λ r. IsNamed L r) before.2 (by_entry k before.0 before.1)
-  named_before d (by_trace w k t has) = by_trace w k t has
+-- marks change no result
+pub unmarked_named : (o : Option Entry) (b : Bool) (e : Entry) → option_map (staled b) o ≡ Some e → (f : Entry) × (o ≡ Some f) × (f.result ≡ e.result)
+unmarked_named None b e there = absurd (cc)
+unmarked_named (Some f) b e there = let same : staled b f ≡ e = cc in (f, refl, ap (λ (g : Entry). g.result) same)
 
-  named_after : (d : Digest) → IsNamed L d → IsNamed (with_marks L ms) d
-  named_after d (by_entry k e there) = by_entry k (staled (is_among ms k) e) (ap (option_map (staled (is_among ms k))) there)
-  named_after d (by_trace w k t has) = by_trace w k t has
+module _ (K L : SomeKept) (n : ℕ) (m : HasNewest K n L) (x : Beginning) where
+  -- what is named then was named before
+  named_before : (d : Digest) → IsNamed (begin L x) d → IsNamed L d
+  named_before d (by_entry k e there) = entry (is_among x.gone k) there
+    where
+      entry : (g : Bool) → (if g then None else option_map (staled (is_among x.marks k)) (L.entries k)) ≡ Some e → IsNamed L e.result
+      entry true none = absurd (cc)
+      entry false some =
+          let before = unmarked_named (L.entries k) (is_among x.marks k) e some in
+          subst (λ r. IsNamed L r) before.2 (by_entry k before.0 before.1)
+  named_before d (by_trace w k t has) = trace (is_among x.gone k) has
+    where
+      trace : (g : Bool) → Has (if g then [] else L.traces w k) t → IsNamed L t.result
+      trace true none = absurd none
+      trace false there = by_trace w k t there
 
-  pub marked_trimmed : IsTrimmed (with_marks K ms) n (with_marks L ms)
-  marked_trimmed = record {
-    rules = is.rules;
-    seen = is.seen;
-    entries = ap (λ (f : List ℕ → Option Entry). λ k. option_map (staled (is_among ms k)) (f k)) is.entries;
-    traces = is.traces;
-    chain = is.chain;
-    named = λ d named. is.named d (named_before d named);
-    only = λ d v there. let from = is.only d v there in (named_after d from.0, from.1);
+  begun_newest : HasNewest (begin K x) n (begin L x)
+  begun_newest = record {
+    seen = ap (λ (f : List ℕ → Option Digest). λ k. if is_among x.gone k then None else f k) m.seen;
+    entries = ap (λ (f : List ℕ → Option Entry). λ k. if is_among x.gone k then None else option_map (staled (is_among x.marks k)) (f k)) m.entries;
+    traces = λ w k. traces w k (is_among x.gone k);
+    chain = m.chain;
+    named = λ d named. m.named d (named_before d named);
   }
-
-pub nothing_trimmed : (n : ℕ) → IsTrimmed nothing_kept n nothing_kept
-nothing_trimmed n = record {
-  rules = refl;
-  seen = refl;
-  entries = refl;
-  traces = λ w k. sym (nothing_taken n);
-  chain = refl;
-  named = λ d named. refl;
-  only = λ d v there. absurd (cc);
-}
+    where
+      traces : (w : Way) (k : List ℕ) (g : Bool) → (if g then [] else L.traces w k) ≡ take n (if g then [] else K.traces w k)
+      traces w k true = sym (nothing_taken n)
+      traces w k false = m.traces w k
 
 pub begins : TrimmedBegins
-begins K L n b ms is marks = (
-  record {
-    same = λ rules.
-        let listed = marks.same (sym same_rules ∙ rules) in
-        record {
-          rising = listed.rising;
-          only = λ k among. marked_too K L is.seen is.entries b k (listed.only k among);
-          each = λ k marked. listed.each k (marked_too L K (sym is.seen) (sym is.entries) b k marked);
+begins K L n b x is beginning =
+    let m = is.newest in (
+      record {
+        marks = record {
+          rising = beginning.marks.rising;
+          only = λ k among. marked_too K L m.seen m.entries b k (beginning.marks.only k among);
+          each = λ k marked. beginning.marks.each k (marked_too L K (sym m.seen) (sym m.entries) b k marked);
         };
-    other = λ rules. marks.other (sym same_rules ∙ rules);
-  },
-  on (has_rules_of K b) refl,
-)
-  where
-    same_rules : has_rules_of L b ≡ has_rules_of K b
-    same_rules = ap (λ r. is_digest r (rules_digest_of b)) is.rules
-
-    begun : (c : Bool) → IsTrimmed (if c then with_marks K ms else nothing_kept) n (if c then with_marks L ms else nothing_kept)
-    begun true = marked_trimmed K L n is ms
-    begun false = nothing_trimmed n
-
-    on : (c : Bool) → has_rules_of K b ≡ c → IsTrimmed (begin K b ms) n (begin L b ms)
-    on c here = subst (λ d. IsTrimmed (if has_rules_of K b then with_marks K ms else nothing_kept) n (if d then with_marks L ms else nothing_kept)) (sym same_rules) (begun (has_rules_of K b))
+        gone = record {
+          rising = beginning.gone.rising;
+          only = λ k among. gone_too K L m.seen m.entries b k (beginning.gone.only k among);
+          each = λ k gone. beginning.gone.each k (gone_too L K (sym m.seen) (sym m.entries) b k gone);
+        };
+      },
+      begun_newest K L n m x,
+    )
 
 -- ---- what is held
 
 pub none_newly : NoneNewlyHeld
-none_newly dirty K L n b k is held = fresh_too L K (sym is.seen) (sym is.entries) k held
-none_newly (tracing w) K L n b k is (t, held) = (
+none_newly dirty K L n b k m held = fresh_too L K (sym m.seen) (sym m.entries) k held
+none_newly (tracing w) K L n b k m (t, held) = (
   t,
   record {
-    kept = from_newest K L n is w k t held.kept;
+    kept = from_newest K L n m w k t held.kept;
+    task = held.task;
     links = held.links;
-    trusted = trusted_too L K (sym is.seen) (sym is.entries) w k t held.trusted;
+    trusted = trusted_too L K (sym m.seen) (sym m.entries) w k t held.trusted;
   },
 )
 
 pub as_before : HeldAsBefore
-as_before K L n b k is = (
-  λ held. fresh_too K L is.seen is.entries k held,
+as_before K L n b k m = (
+  λ held. fresh_too K L m.seen m.entries k held,
   λ w newest. let (t, held, taken) = newest in (
     t,
     record {
-      kept = subst (λ ts. Has ts t) (sym (is.traces w k)) taken;
+      kept = subst (λ ts. Has ts t) (sym (m.traces w k)) taken;
+      task = held.task;
       links = held.links;
-      trusted = trusted_too K L is.seen is.entries w k t held.trusted;
+      trusted = trusted_too K L m.seen m.entries w k t held.trusted;
     },
   ),
 )

@@ -1,4 +1,4 @@
--- The same of lists, as they stand in the first batch of the live information, where of equal traces one is left.
+-- The same of lists, as they stand in the batch of the live information, where of equal traces one is left.
 use Rattle.std.specs.Prelude.{ℕ, ◌≡◌, ◌+◌, Bool, ◌||◌, nat_lt, List, [], ◌∷◌, None, filter, length, if◌then◌else◌}
 use Rattle.std.specs.List.{list_any}
 use Rattle.carte_value.specs.declared.digest.Digest.{Digest}
@@ -40,6 +40,7 @@ with_newest n B = record B { verifying = newest_of n B.verifying; constructive =
 -- C is B with the newest n traces of each key, and the values that are named then
 pub record IsCut (n : ℕ) (B C : Batch) : Type 0 where
   pub start : C.start ≡ B.start
+  pub gone : C.gone ≡ B.gone
   pub seen : C.seen ≡ B.seen
   pub stale : C.stale ≡ B.stale
   pub entries : C.entries ≡ B.entries
@@ -52,7 +53,7 @@ pub record IsCut (n : ℕ) (B C : Batch) : Type 0 where
 abbrev pub number_in : Batch → ℕ
 number_in B = length B.verifying + length B.constructive + length B.deep
 
--- the first of the batches is cut, and how many traces it had and has
+-- the first of the batches is cut, and how many traces it had and has; of none there are none
 abbrev pub AreCut : ℕ → List Batch → List Batch → Counts → Type 0
 AreCut n [] Cs c = (Cs ≡ []) × (c.before ≡ 0) × (c.after ≡ 0)
 AreCut n (B ∷ Bs) Cs c = (C : Batch) × (Cs ≡ C ∷ Bs) × IsCut n B C × (c.before ≡ number_in B) × (c.after ≡ number_in C)

@@ -9,6 +9,7 @@ use Rattle.carte_record.specs.Kept.{SomeKept, nothing_kept}
 use Rattle.carte_record.specs.declared.batch.Batch.{Batch}
 use Rattle.carte_state.specs.Folding.{Keeps}
 use Rattle.carte_state.specs.Rewriting.{IsRegionFor}
+use Rattle.carte_state.specs.Versions.{InTwo}
 use Rattle.carte_trim.specs.declared.plan.Plan.{Plan}
 
 -- the file has at most 9 bytes, all of them on the disk
@@ -18,7 +19,7 @@ pub record IsNew (s : Story) : Type 0 where
 
 -- a file keeps nothing, or this
 abbrev pub KeepsEither : ℕ → SomeKept → List ℕ → Type 0
-KeepsEither limit L file = Keeps limit nothing_kept file ⊎ Keeps limit L file
+KeepsEither limit L file = Keeps limit (InTwo nothing_kept) file ⊎ Keeps limit (InTwo L) file
 
 -- the journal of a new file
 abbrev pub fresh_journal : ℕ → Standing

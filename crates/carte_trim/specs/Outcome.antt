@@ -3,14 +3,16 @@ use Rattle.std.specs.Prelude.{ℕ, ◌≡◌, ◌⊎◌, ◌<◌, ◌≤◌, tru
 use Rattle.carte_io.specs.Causes.{Rose}
 use Rattle.carte_io.specs.Disk.{LeavesOnly}
 use Rattle.carte_record.specs.Kept.{SomeKept, nothing_kept}
+use Rattle.carte_record_one.specs.Kept.{SomeKeptOne}
 use Rattle.carte_state.specs.Folding.{IsBadState, Keeps}
+use Rattle.carte_state.specs.Versions.{InOne, InTwo}
 use Rattle.carte_trim.specs.Around.{OverDisk, OverSink, IsUnvisited, IsUntouched, Says, TakesAll, TakesFront}
 use Rattle.carte_trim.specs.New.{IsNeeded, IsNew, KeepsEither}
 use Rattle.carte_trim.specs.Texts.{error_line, is_long, reply}
 use Rattle.carte_trim.specs.Trimmed.{IsNumberOf, IsTrimmed}
 use Rattle.carte_trim.specs.Words.{count_of}
 use Rattle.carte_trim.specs.declared.status.Status.{Status}
-use Rattle.carte_trim.specs.declared.status.Status.TheVariants.{Done, Usage, WriteFault, StateFault, BadState, Full, NoMemory, NotNew, NewFault}
+use Rattle.carte_trim.specs.declared.status.Status.TheVariants.{Done, Usage, WriteFault, StateFault, BadState, Full, NoMemory, NotNew, NewFault, OldState}
 
 -- the words ask for so many traces of each key
 abbrev pub Asks : List (List ℕ) → (ℕ → Type 0) → Type 0
@@ -18,7 +20,11 @@ Asks words P = (n : ℕ) × (count_of words ≡ Some n) × P n
 
 -- there is what was found to be kept, and where the disk tells what it reads, that is what its file keeps
 abbrev pub Found : ℕ → OverDisk → (SomeKept → Type 0) → Type 0
-Found limit s P = (K : SomeKept) × (s.tells → Keeps limit K s.old.now.reads) × P K
+Found limit s P = (K : SomeKept) × (s.tells → Keeps limit (InTwo K) s.old.now.reads) × P K
+
+-- and so of version 1
+abbrev pub FoundOld : ℕ → OverDisk → Type 0
+FoundOld limit s = (K : SomeKeptOne) × (s.tells → Keeps limit (InOne K) s.old.now.reads)
 
 -- there is what is left of it
 abbrev pub Left : ℕ → SomeKept → (SomeKept → Type 0) → Type 0
@@ -37,7 +43,7 @@ HasRoomFor limit d L = ((L ≡ nothing_kept) × IsSpared d) ⊎ ((needed : ℕ) 
 
 -- the file was a new one and keeps this
 pub record IsMade (limit : ℕ) (d : OverDisk) (L : SomeKept) : Type 0 where
-  pub keeps : d.tells → IsNew d.old → Keeps limit L d.new.now.reads
+  pub keeps : d.tells → IsNew d.old → Keeps limit (InTwo L) d.new.now.reads
   pub room : HasRoomFor limit d L
 
 -- with it the file would need so many bytes, which are more than the limit
@@ -72,6 +78,7 @@ MadeOf limit n s d k status = Found limit s (λ K. (of_bytes : ℕ) × (s.tells 
 abbrev pub Did : ℕ → ℕ → OverDisk → OverDisk → OverSink → Status → Type 0
 Did limit n s d k StateFault = IsUnvisited d × IsUntouched k
 Did limit n s d k (BadState offset) = (s.tells → IsBadState limit s.old.now.reads offset) × IsUnvisited d × IsUntouched k
+Did limit n s d k OldState = FoundOld limit s × IsUnvisited d × IsUntouched k
 Did limit n s d k NoMemory = IsUntouched k
 Did limit n s d k status = MadeOf limit n s d k status
 

@@ -7,11 +7,12 @@ use Rattle.carte_journal.specs.declared.faults.LoadFault.TheVariants as load
 use Rattle.carte_record.specs.Kept.{SomeKept}
 use Rattle.carte_state.specs.Folding.{IsBadState, Keeps}
 use Rattle.carte_state.specs.States.{Stand, kept_in}
+use Rattle.carte_state.specs.Versions.{InTwo}
 use Rattle.carte_trim.specs.Around.{OverDisk, OverSink, IsUntouched}
 use Rattle.carte_trim.specs.New.{IsNew, KeepsEither}
-use Rattle.carte_trim.specs.Outcome.{IsMade, IsOver, IsSpared, Made, MadeLeaves, Did, Prints, TellsNew, TellsSink, TellsState, Found}
+use Rattle.carte_trim.specs.Outcome.{IsMade, IsOver, IsSpared, Made, MadeLeaves, Did, Prints, TellsNew, TellsSink, TellsState, Found, FoundOld}
 use Rattle.carte_trim.specs.declared.status.Status.{Status}
-use Rattle.carte_trim.specs.declared.status.Status.TheVariants.{StateFault, BadState, Full, NoMemory, NewFault}
+use Rattle.carte_trim.specs.declared.status.Status.TheVariants.{StateFault, BadState, Full, NoMemory, NewFault, OldState}
 
 -- ---- the state
 
@@ -21,9 +22,10 @@ unloaded_of (load.BadState offset) = BadState offset
 unloaded_of load.NoMemory = NoMemory
 
 abbrev pub LoadedOr : ℕ → OverDisk → Result (Stand × ℕ) Status → Type 0
-LoadedOr limit s (Ok r) = (s.tells → Keeps limit (kept_in r.0) s.old.now.reads) × (s.tells → r.1 ≡ length s.old.now.reads) × (s.failed ≡ s.failed_before)
+LoadedOr limit s (Ok r) = (s.tells → Keeps limit (InTwo (kept_in r.0)) s.old.now.reads) × (s.tells → r.1 ≡ length s.old.now.reads) × (s.failed ≡ s.failed_before)
 LoadedOr limit s (Err StateFault) = Rose s.failed_before s.failed
 LoadedOr limit s (Err (BadState offset)) = (s.tells → IsBadState limit s.old.now.reads offset) × (s.failed ≡ s.failed_before)
+LoadedOr limit s (Err OldState) = FoundOld limit s × (s.failed ≡ s.failed_before)
 LoadedOr limit s (Err NoMemory) = s.failed ≡ s.failed_before
 LoadedOr limit s (Err status) = ⊥
 

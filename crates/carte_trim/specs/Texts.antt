@@ -2,7 +2,7 @@
 use Rattle.std.specs.Prelude.{ℕ, Bool, true, false, List, [], ◌∷◌, ◌++◌, codes}
 use Rattle.std.specs.Fmt.{decimal}
 use Rattle.carte_trim.specs.declared.status.Status.{Status}
-use Rattle.carte_trim.specs.declared.status.Status.TheVariants.{Done, Usage, WriteFault, StateFault, BadState, Full, NoMemory, NotNew, NewFault}
+use Rattle.carte_trim.specs.declared.status.Status.TheVariants.{Done, Usage, WriteFault, StateFault, BadState, Full, NoMemory, NotNew, NewFault, OldState}
 
 abbrev pub code_of : Status → ℕ
 code_of Done = 0
@@ -14,6 +14,7 @@ code_of (Full needed limit) = 8
 code_of NoMemory = 9
 code_of NotNew = 17
 code_of NewFault = 18
+code_of OldState = 19
 
 abbrev pub status_text : Status → List ℕ
 status_text Done = []
@@ -25,6 +26,7 @@ status_text (Full needed limit) = codes "state full: " ++ (decimal needed ++ (co
 status_text NoMemory = codes "out of memory"
 status_text NotNew = codes "NEW isn't new"
 status_text NewFault = codes "NEW's device failed"
+status_text OldState = codes "the state is of version 1: build with it first"
 
 -- nothing is said where all was done
 abbrev pub error_line : Status → List ℕ

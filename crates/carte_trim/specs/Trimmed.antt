@@ -15,14 +15,17 @@ pub data IsNamed (K : SomeKept) : Digest → Type 0 where
   by_entry : (k : List ℕ) (e : Entry) → K.entries k ≡ Some e → IsNamed K e.result
   by_trace : (w : Way) (k : List ℕ) (t : Trace) → Has (K.traces w k) t → IsNamed K t.result
 
--- L is K with the newest n different traces of each key and each way, all entries, seen inputs, marks and the chain, and those values of the store that these name
-pub record IsTrimmed (K : SomeKept) (n : ℕ) (L : SomeKept) : Type 0 where
-  pub rules : L.rules ≡ K.rules
+-- L has the newest n different traces of each key and each way of K, all entries, seen inputs, marks and the chain, and the values of the store that these name
+pub record HasNewest (K : SomeKept) (n : ℕ) (L : SomeKept) : Type 0 where
   pub seen : L.seen ≡ K.seen
   pub entries : L.entries ≡ K.entries
   pub traces : (w : Way) (k : List ℕ) → L.traces w k ≡ take n (K.traces w k)
   pub chain : L.chain ≡ K.chain
   pub named : (d : Digest) → IsNamed L d → L.stored d ≡ K.stored d
+
+-- and no other value
+pub record IsTrimmed (K : SomeKept) (n : ℕ) (L : SomeKept) : Type 0 where
+  pub newest : HasNewest K n L
   pub only : (d : Digest) (v : Value) → L.stored d ≡ Some v → IsNamed L d × (K.stored d ≡ Some v)
 
 -- these are the traces of one kind, each once

@@ -1,18 +1,20 @@
 -- All that a run has done: the theorem of the program.
 use Rattle.std.specs.Prelude.{ℕ, ◌≡◌, ◌⊎◌, ◌≤◌, ◌<◌, List, length, None}
 use Rattle.carte_record.specs.Kept.{SomeKept, nothing_kept}
+use Rattle.carte_record_one.specs.Kept.{SomeKeptOne}
 use Rattle.carte_state.specs.Folding.{IsBadState, Keeps}
+use Rattle.carte_state.specs.Versions.{InOne, InTwo}
 use Rattle.carte_trim.specs.Around.{Around, OverDisk}
 use Rattle.carte_trim.specs.New.{IsNeeded}
 use Rattle.carte_trim.specs.Outcome.{Asks, Ended, IsRun}
 use Rattle.carte_trim.specs.Trimmed.{IsTrimmed}
 use Rattle.carte_trim.specs.Words.{count_of}
 use Rattle.carte_trim.specs.declared.status.Status.{Status}
-use Rattle.carte_trim.specs.declared.status.Status.TheVariants.{Done, Usage, WriteFault, StateFault, BadState, Full, NoMemory, NotNew, NewFault}
+use Rattle.carte_trim.specs.declared.status.Status.TheVariants.{Done, Usage, WriteFault, StateFault, BadState, Full, NoMemory, NotNew, NewFault, OldState}
 
 -- the disk tells what it reads, and the file keeps this
 abbrev pub IsKept : ℕ → OverDisk → (SomeKept → Type 0) → Type 0
-IsKept limit s P = s.tells × (K : SomeKept) × Keeps limit K s.old.now.reads × P K
+IsKept limit s P = s.tells × (K : SomeKept) × Keeps limit (InTwo K) s.old.now.reads × P K
 
 -- and the other file has at most 9 bytes
 abbrev pub IsKeptBeside : ℕ → OverDisk → OverDisk → (SomeKept → Type 0) → Type 0
@@ -30,6 +32,7 @@ Overfills limit needed most L = ¬ (L ≡ nothing_kept) × (most ≡ limit) × (
 abbrev pub IsDue : ℕ → List (List ℕ) → OverDisk → OverDisk → Status → Type 0
 IsDue limit words s d Usage = count_of words ≡ None
 IsDue limit words s d (BadState at) = Asks words (λ n. s.tells × IsBadState limit s.old.now.reads at)
+IsDue limit words s d OldState = Asks words (λ n. s.tells × (K : SomeKeptOne) × Keeps limit (InOne K) s.old.now.reads)
 IsDue limit words s d NotNew = Asks words (λ n. IsKept limit s (λ K. d.tells × (9 < length d.old.now.reads)))
 IsDue limit words s d (Full needed most) = Asks words (λ n. IsKeptBeside limit s d (λ K. (L : SomeKept) → IsTrimmed K n L → Overfills limit needed most L))
 IsDue limit words s d Done = Asks words (λ n. IsKeptBeside limit s d (λ K. (L : SomeKept) → IsTrimmed K n L → Fits limit L))

@@ -1,4 +1,4 @@
-// The batches of the live information, cut to the newest traces.
+// The batch of the live information, cut to the newest traces.
 ghost use Rattle.std.specs.Prelude.{◌≡◌, IfOk, OnOk};
 ghost use Rattle.carte_trim.specs.Lists.{AreCut, IsCut, number_in, with_newest};
 
@@ -15,7 +15,7 @@ pub(crate) struct Counts {
     pub(crate) after: u64,
 }
 
-/// Cuts the first of the batches, which has all traces and values. The second one has marks alone.
+/// Cuts the one batch that there is, or none.
 pub(crate) fn cut_all(
     alloc: Global,
     batches: &mut Vec<Batch>,

@@ -12,7 +12,7 @@ pub fn trimmed_is_sound()
     ensures { TrimmedIsSound }
 {}
 
-/// A build marks the same keys over it, and what it begins with is trimmed.
+/// A build marks the same keys and drops the same names over it, and what it begins with has the newest traces.
 pub fn trimmed_begins()
     ensures { TrimmedBegins }
 {}

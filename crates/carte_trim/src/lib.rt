@@ -8,13 +8,16 @@
 //! traces, is held as before; no other is. These laws stand alone and are contracts of functions that do nothing.
 //!
 //! `trim` is the top call of the program: `IsOutcome` in `specs/Whole.antt` says all that a run does. `trimmed` works on the
-//! live information of `carte_compact`, where of equal traces one is left already: it cuts the first batch of that and takes
-//! all of them into nothing kept. Which traces are the newest is told by the table of places that a list of traces has, so
+//! live information of `carte_compact`, where of equal traces one is left already: it cuts the one batch of that and takes
+//! it into nothing kept. Which traces are the newest is told by the table of places that a list of traces has, so
 //! no trace is compared with another. The values are found by the digests that name them.
 //!
-//! The marks of stale entries need a second batch, and between two commits a crash would leave entries without their marks.
-//! So the new file gets a frame that brings nothing, and then a rewriting puts a region with all batches in its place: each
-//! image keeps nothing or all of it (`Plan`). The room is looked at before the first call.
+//! The new file gets a frame that brings nothing, and then a rewriting puts a region with all bodies in its place: so in
+//! however many batches it is, each image keeps nothing or all of it (`Plan`). The room is looked at before the first call.
+//!
+//! A state of version 1 isn't trimmed: only its book tells the tasks of what it keeps, and no book is read here. It has a
+//! status of its own, `OldState`, and a build makes it one of version 2. Turned down: a copy in version 1, since nothing
+//! writes that version any more.
 //!
 //! Turned down: cutting the lists as they were read, which have equal traces and entries that no longer count, so that what
 //! is counted would have to be told apart first; a definition by lists, which would say in which order a file has them; and

@@ -61,15 +61,20 @@ fn run_for<S: Disk, N: Disk, O: Sink>(
     }
 }
 
-// What the state keeps, and the length of its file.
+// What the state keeps, where it is of version 2, and the length of its file.
 fn load<S: Disk>(alloc: Global, state: &mut S, hasher: Seeded) -> Result<(State, u64), Status>
     ensures { LoadsState 268435456 (over_disk S.tells S.story S.faults state.old state.new) result }
 {
     match State::load(alloc, state, MOST_STATE, hasher) {
-        Ok(loaded) => match state.len() {
-            Ok(length) => Ok((loaded, length)),
-            Err(_) => Err(Status::StateFault),
-        },
+        Ok(loaded) => {
+            if loaded.is_old() {
+                return Err(Status::OldState);
+            }
+            match state.len() {
+                Ok(length) => Ok((loaded, length)),
+                Err(_) => Err(Status::StateFault),
+            }
+        }
         Err(fault) => Err(unloaded(fault)),
     }
 }

@@ -95,6 +95,7 @@ fn brief_line(status: &Status) -> Option<&'static str>
         Status::NoMemory => Some("carte_trim: out of memory\n"),
         Status::NotNew => Some("carte_trim: NEW isn't new\n"),
         Status::NewFault => Some("carte_trim: NEW's device failed\n"),
+        Status::OldState => Some("carte_trim: the state is of version 1: build with it first\n"),
         Status::Done | Status::BadState(_) | Status::Full(_, _) => None,
     }
 }

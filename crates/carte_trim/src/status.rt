@@ -22,6 +22,8 @@ pub enum Status {
     NotNew,
     /// A call of the new state's device failed.
     NewFault,
+    /// The state is of version 1, which is read by a build alone. No call of the new one was made.
+    OldState,
 }
 
 impl Status {
@@ -39,6 +41,7 @@ impl Status {
             Status::NoMemory => 9,
             Status::NotNew => 17,
             Status::NewFault => 18,
+            Status::OldState => 19,
         }
     }
 }

@@ -8,6 +8,7 @@ ghost use Rattle.carte_journal.specs.Journals.{IsAtRest, IsReadAs};
 ghost use Rattle.carte_journal.specs.Regions.{IsPlannedOn, IsRegionOf, IsRewritable, placed_at, region_end, rewritten, step_to};
 ghost use Rattle.carte_record.specs.Kept.{SomeKept};
 ghost use Rattle.carte_state.specs.Folding.{Keeps};
+ghost use Rattle.carte_state.specs.Versions.{InTwo};
 ghost use Rattle.carte_trim.specs.New.{IsNew, IsPlan, KeepsEither};
 
 use crate::plan::Plan;
@@ -19,7 +20,7 @@ use carte_journal::{Journal, Region};
 pub(crate) fn write<N: Disk>(disk: &mut N, plan: Plan) -> Result<(), Failed>
     requires room { region_end plan.region ≤ 268435456 }
     requires plan { (L : SomeKept) × IsPlan 268435456 L plan }
-    ensures keeps { N.tells → IsNew (N.story disk.old) → (L : SomeKept) → IsPlan 268435456 L plan → OnOk result (Keeps 268435456 L (N.story disk.new).now.reads) }
+    ensures keeps { N.tells → IsNew (N.story disk.old) → (L : SomeKept) → IsPlan 268435456 L plan → OnOk result (Keeps 268435456 (InTwo L) (N.story disk.new).now.reads) }
     ensures leaves { N.tells → IsNew (N.story disk.old) → (L : SomeKept) → IsPlan 268435456 L plan
         → LeavesOnly (N.story disk.old) (N.story disk.new) (KeepsEither 268435456 L) }
     ensures cause { HasCause (N.faults disk.old) (N.faults disk.new) result }

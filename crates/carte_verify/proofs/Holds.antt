@@ -4,26 +4,29 @@ use Rattle.carte_value.specs.Lists.{Has}
 use Rattle.carte_value.specs.Truths.{Among}
 use Rattle.carte_book.specs.Book.{Book, clean}
 use Rattle.carte_book.specs.Needs.{needs}
+use Rattle.carte_book.specs.Task.{task_digest_of, task_now}
 use Rattle.carte_record.specs.declared.entry.Entry.{Entry}
 use Rattle.carte_record.specs.declared.trace.Trace.{Trace}
 use Rattle.carte_record.specs.declared.way.Way.TheVariants.{Verifying}
-use Rattle.carte_record.specs.Folds.{with_marks}
 use Rattle.carte_record.specs.Kept.{SomeKept}
 use Rattle.carte_sound.specs.Base.{IsBase}
+use Rattle.carte_sound.specs.Begun.{Beginning, IsBeginning, begin}
 use Rattle.carte_sound.specs.Held.{tracing, AreLinks, clean_digest, IsHeldBy, IsHeld}
 use Rattle.carte_sound.specs.Results.{HasResult, IsKeptNow}
-use Rattle.carte_sound.specs.Sound.{Stood}
 use Rattle.carte_sound.specs.True.{digest_or, links_to, IsTraceOf}
-use Rattle.carte_sound.proofs.Held.{need_has_value, link_agrees, same_rules, verifying_held}
+use Rattle.carte_sound.proofs.Held.{need_has_value, link_agrees, verifying_held}
+use Rattle.carte_sound.proofs.Tasks.{own_task, rule_of_task, same_task}
 use Rattle.carte_sound.proofs.Minimal.{links_hold, needs_known}
-use Rattle.carte_sound.proofs.Next.{marked_held}
+use Rattle.carte_sound.proofs.Next.{next_held}
+use Rattle.carte_rebuild.proofs.Tasked.{task_there}
 
 -- the needs have the values that they had where the trace was made, and the entry is of there too
-pub minimal : (K : SomeKept) (b c : Book) (k : List ℕ) (t : Trace) (e : Entry) → Has (K.traces Verifying k) t → IsTraceOf Verifying c k t → K.entries k ≡ Some e → e.result ≡ digest_or (clean c k) → ((j : List ℕ) → Among (needs c k) j → clean b j ≡ clean c j) → IsHeld (tracing Verifying) K b k
-minimal K b c k t e kept of at result same = (
+pub minimal : (K : SomeKept) (b c : Book) (k : List ℕ) (t : Trace) (e : Entry) → Has (K.traces Verifying k) t → IsTraceOf Verifying c k t → K.entries k ≡ Some e → e.result ≡ digest_or (clean c k) → task_now b k ≡ task_now c k → ((j : List ℕ) → Among (needs c k) j → clean b j ≡ clean c j) → IsHeld (tracing Verifying) K b k
+minimal K b c k t e kept of at result task same = (
   t,
   record {
     kept = kept;
+    task = task ∙ task_there Verifying c k t of;
     links = subst (λ (x : Trace). AreLinks (clean_digest b) x.links) (sym of.trace) (links_hold b c (needs c k) (need_has_value c k of.formula of.value of.is_rule of.clean) same);
     trusted = (e, at, result ∙ sym (ap (λ (x : Trace). x.result) of.trace));
   },
@@ -53,18 +56,22 @@ module _ (K : SomeKept) (b : Book) (H : List Book) (base : IsBase K b H) (k : Li
   }
 
   -- a key whose needs keep their values stays held, whatever has run beneath it
-  cutoff : (c : Book) → ((j : List ℕ) → Among (needs b k) j → clean c j ≡ clean b j) → IsHeld (tracing Verifying) K b k → IsHeld (tracing Verifying) K c k
-  cutoff c same held =
+  cutoff : (c : Book) → task_now c k ≡ task_now b k → ((j : List ℕ) → Among (needs b k) j → clean c j ≡ clean b j) → IsHeld (tracing Verifying) K b k → IsHeld (tracing Verifying) K c k
+  cutoff c task same held =
       let r = verifying_held K b H base k held.0 held.1 in
-      (held.0, record { kept = held.1.kept; links = subst (AreLinks (clean_digest c)) (sym r.1) (links_hold c b (needs b k) (needs_known b k r.0.value r.0.clean) same); trusted = held.1.trusted })
+      (held.0, record { kept = held.1.kept; task = task ∙ held.1.task; links = subst (AreLinks (clean_digest c)) (sym r.1) (links_hold c b (needs b k) (needs_known b k r.0.value r.0.clean) same); trusted = held.1.trusted })
 
-  -- with any marks
-  pub cutoff_marked : (c : Book) (marks : List (List ℕ)) → IsHeld (tracing Verifying) K b k → ((j : List ℕ) → Among (needs b k) j → clean c j ≡ clean b j) → IsHeld (tracing Verifying) (with_marks K marks) c k
-  cutoff_marked c marks held same = marked_held Verifying K c marks k (cutoff c same held)
+  -- and in the build of that book, of which it is a rule
+  pub cutoff_next : (c : Book) (x : Beginning) → IsHeld (tracing Verifying) K b k → task_now c k ≡ task_now b k → ((j : List ℕ) → Among (needs b k) j → clean c j ≡ clean b j) → IsBeginning K c x → IsHeld (tracing Verifying) (begin K x) c k
+  cutoff_next c x held task same begins =
+      let r = rule_of_task c k held.0.task (task ∙ held.1.task) in
+      next_held Verifying K H c x base.sound begins k (r.0, r.1) (cutoff c task same held)
 
   -- links that hold are to values that stayed
-  pub unchanged : (c : Book) (t : Trace) → Stood H K c → IsTraceOf Verifying c k t → IsHeldBy Verifying K b k t → (j : List ℕ) → Among (needs c k) j → clean b j ≡ clean c j
+  pub unchanged : (c : Book) (t : Trace) → Has H c → IsTraceOf Verifying c k t → IsHeldBy Verifying K b k t → (j : List ℕ) → Among (needs c k) j → clean b j ≡ clean c j
   unchanged c t stood of held j among =
       let w = need_has_value c k of.formula of.value of.is_rule of.clean j among in
       let then : AreLinks (clean_digest b) (links_to (clean c) (needs c k)) = subst (λ (x : Trace). AreLinks (clean_digest b) x.links) of.trace held.links in
-      link_agrees H base.distinct c b stood.stood base.present (same_rules K b H base c stood).kind (needs c k) then j among w.0 w.1 ∙ sym w.1
+      let task : t.task ≡ task_digest_of c.kind of.formula = ap (λ (x : Trace). x.task) of.trace ∙ own_task c k of.formula of.is_rule in
+      let same = same_task H base.distinct c b stood base.present k of.formula of.is_rule (held.task ∙ ap Some task) in
+      link_agrees H base.distinct c b stood base.present same.0 (needs c k) then j among w.0 w.1 ∙ sym w.1

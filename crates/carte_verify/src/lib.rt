@@ -1,4 +1,5 @@
-//! Verifying traces: a key's old result is given again where a trace of that result has the links that the needs have now.
+//! Verifying traces: a key's old result is given again where a trace of its task and of that result has the links that the
+//! needs have now.
 //!
 //! The job is that of all rebuilders which compare needs (`Tries`): here it gets the checks of those traces whose result
 //! is the one that the key's entry has. So at most one result comes into question, and a key that has no entry just runs
@@ -6,9 +7,10 @@
 //! task asked for them, and only as far as they are the same.
 //!
 //! What a build may rely on stands as laws, each the contract of a function that does nothing. A key is held exactly where
-//! its needs have the values of then and its entry the result of then (`unchanged_is_held`, `held_is_unchanged`), whatever
-//! has run beneath it (`early_cutoff`). The price: an old result that a later run has replaced doesn't come back
-//! (`held_has_its_last_result`), and a key that another rebuilder finished runs once (`untraced_is_not_held`).
+//! it has the task and its needs the values of then, and its entry the result of then (`unchanged_is_held`,
+//! `held_is_unchanged`), whatever has run beneath it (`early_cutoff`). The price: an old result that a later run has
+//! replaced doesn't come back (`held_has_its_last_result`), and a key that another rebuilder finished runs once
+//! (`untraced_is_not_held`).
 //!
 //! Turned down: looking through all traces for those of the key (they are found by the key), and comparing the links of a
 //! trace before it is known that its result is still kept.
@@ -17,6 +19,7 @@
 mod laws;
 
 ghost use Rattle.std.specs.Prelude.{◌≡◌, option_map, IfOk};
+ghost use Rattle.carte_book.specs.Book.{book_view};
 ghost use Rattle.carte_record.specs.Kept.{kept_view};
 ghost use Rattle.carte_record.specs.declared.way.Way.TheVariants.{Verifying};
 ghost use Rattle.carte_rebuild.specs.Traced.{AreTried};
@@ -36,13 +39,14 @@ use std::alloc::Global;
 #[derive(Clone, Copy, Debug)]
 pub struct Verify;
 
-// The checks of the key's traces with the result of its entry.
-fn kept_checks(alloc: Global, kept: &Kept, key: &Name) -> Result<Checks, NoMemory>
-    ensures { IfOk result (λ checks. AreTried Verifying (kept_view kept.now) key.now checks) }
+// The checks of the key's traces with its task and the result of its entry.
+fn kept_checks(alloc: Global, kept: &Kept, book: &Book, key: &Name) -> Result<Checks, NoMemory>
+    ensures { IfOk result (λ checks. AreTried Verifying (kept_view kept.now) (book_view book.now) key.now checks) }
 {
     match kept.entries.find(key) {
         Some(entry) => checks_of(
             alloc,
+            book,
             &kept.verifying,
             &kept.values,
             key,
@@ -71,7 +75,7 @@ impl Rebuilder for Verify {
         book: &Book,
         key: &Name,
     ) -> Result<Tries, NoMemory> {
-        let checks = kept_checks(alloc, kept, key)?;
+        let checks = kept_checks(alloc, kept, book, key)?;
         Tries::of(alloc, book, key, checks)
     }
 

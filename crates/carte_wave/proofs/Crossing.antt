@@ -8,6 +8,7 @@ use denote.Struct.Declared as fields
 use Rattle.std.proofs.Crossing.{crosses, Arc-sync}
 use Rattle.indexmap.proofs.map.IndexMap.TheSendSync as map
 use Rattle.carte_value.proofs.area.Area.TheSendSync as area
+use Rattle.carte_value.proofs.digest.Digest.TheSendSync as digest
 use Rattle.carte_name.proofs.kind.Kind.TheSendSync as kind
 use Rattle.carte_name.proofs.name.Name.TheSendSync as name
 use Rattle.carte_name.proofs.seeded.Seeded.TheSendSync as seeded
@@ -39,7 +40,7 @@ item_sync : IsSync (Item.the_field).row
 item_sync = enum_sync (choice.shape Item.the_type) ((value.the_field_sync, tt), ((search (sendable, Arc-sync, expr_send, expr_sync), tt), tt))
 
 book_field_sync : IsSync (Book.the_field).row
-book_field_sync = struct_sync (fields.shape Book.the_type) (search (sendable, crosses), (search (sendable, kind.the_field_sync), (search (sendable, crosses, map.the_sync, name.the_sync, item_sync, seeded.the_field_sync) depth 20, (search (sendable, value.the_field_sync), tt))))
+book_field_sync = struct_sync (fields.shape Book.the_type) (search (sendable, crosses), (search (sendable, kind.the_field_sync), (search (sendable, crosses, map.the_sync, name.the_sync, item_sync, seeded.the_field_sync) depth 20, (search (sendable, value.the_field_sync), (search (sendable, digest.the_sync) depth 20, tt)))))
 
 pub book_sync : IsSync Book.the_row
 book_sync = recorded_sync (Book.the_field).row _ _ (Book.the_type).to_one book_field_sync

@@ -12,18 +12,18 @@ use std::thread::Threads;
 /// What a file begins with, a batch that brings a number below 256, but for the number, and what is behind that.
 const HEADER: &[u8] = b"CARTE01\n";
 
-const FRONT: &[u8] = b"\x01\0\0\0\0\x01\x01\0\0\0\0\0\0\0";
+const FRONT: &[u8] = b"\x03\0\0\0\0\x01\x01\0\0\0\0\0\0\0";
 
-const BACK: &[u8] = b"\0\0\0\0\0\0\0\0\0\0\0\0\0\0\0\0\0\0\0\0\0\0\0\0\0";
+const BACK: &[u8] = b"\0\0\0\0\0\0\0\0\0\0\0\0\0\0\0\0\0\0\0\0\0\0\0\0\0\0\0\0\0";
 
-/// A file with a frame for each number: its batch in 45 bytes, or for 0 a body of one byte that is no batch, in 6.
+/// A file with a frame for each number: its batch in 49 bytes, or for 0 a body of one byte that is no batch, in 6.
 pub(crate) fn file_of(alloc: Global, numbers: &[u8]) -> Result<Vec<u8>, NoMemory> {
     let mut file = HEADER.to_vec(alloc)?;
     for number in numbers {
         if *number == 0 {
             file.extend_from_slice(b"\x01\0\0\0\x01\x07")?;
         } else {
-            file.extend_from_slice(b"\x01\0\0\0\x28")?;
+            file.extend_from_slice(b"\x01\0\0\0\x2c")?;
             file.extend_from_slice(FRONT)?;
             file.push(*number)?;
             file.extend_from_slice(BACK)?;
@@ -64,9 +64,9 @@ const FILES: [(&[u8], &str); 6] = [
     (&[], ""),
     (&[7], "7 "),
     (&[1, 2, 3, 4, 5, 6, 7, 8, 9], "1 2 3 4 5 6 7 8 9 "),
-    (&[1, 0, 0], "bad at 53"),
-    (&[1, 2, 3, 4, 5, 6, 0, 8, 9], "bad at 278"),
-    (&[1, 2, 0, 4, 5, 6, 0, 8, 0], "bad at 98"),
+    (&[1, 0, 0], "bad at 57"),
+    (&[1, 2, 3, 4, 5, 6, 0, 8, 9], "bad at 302"),
+    (&[1, 2, 0, 4, 5, 6, 0, 8, 0], "bad at 106"),
 ];
 
 #[test]

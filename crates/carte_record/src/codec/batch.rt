@@ -5,13 +5,13 @@ ghost use Rattle.carte_record.specs.Bodies.{spelled_kind, spelled_front, FitsFro
 ghost use Rattle.carte_record.specs.BodyLaws.{kind_one, batch_of};
 
 use crate::codec::lists::{write_links, write_values};
-use crate::codec::plain::Plain;
 use crate::{Batch, Entries, Entry, Seen, Start, Store, Trace, Traces};
 use carte_codec::{Spelled, Unread};
+use carte_table::Plain;
 use carte_value::{Link, Names, NoMemory, Seeded, Value};
 use std::alloc::Global;
 
-/// The kind of a body that is a batch of version 1 of the state file, spelled as 1.
+/// The kind of a body that is a batch of version 2 of the state file, spelled as 3.
 #[derive(Drop)]
 pub(crate) struct Kind;
 
@@ -23,13 +23,13 @@ impl Spelled for Kind {
     ghost may = { λ _. Unit {0} };
 
     fn write(&self, out: &mut Vec<u8>) -> Result<(), NoMemory> {
-        out.push(1)?;
+        out.push(3)?;
         Ok(())
     }
 
     fn read(_alloc: Global, bytes: &[u8]) -> Result<(Kind, &[u8]), Unread> {
         match bytes {
-            [1, rest @ ..] => Ok((Kind, rest)),
+            [3, rest @ ..] => Ok((Kind, rest)),
             _ => Err(Unread::NotThere),
         }
     }
@@ -37,7 +37,10 @@ impl Spelled for Kind {
     ghost one_spelling = { kind_one };
 }
 
-type Front = (Start, (Plain<Value>, (Plain<Link>, (Names, Plain<Entry>))));
+type Front = (
+    Start,
+    (Plain<Value>, (Names, (Plain<Link>, (Plain<Entry>, Names)))),
+);
 
 type Back = (Plain<Trace>, (Plain<Trace>, (Plain<Trace>, Option<Names>)));
 
@@ -49,9 +52,10 @@ fn write_front(batch: &Batch, out: &mut Vec<u8>) -> Result<(), NoMemory>
 {
     batch.start.write(out)?;
     write_values(&batch.values, out)?;
+    batch.gone.write(out)?;
     write_links(&batch.seen, out)?;
-    batch.stale.write(out)?;
-    batch.entries.write(out)
+    batch.entries.write(out)?;
+    batch.stale.write(out)
 }
 
 fn write_back(batch: &Batch, out: &mut Vec<u8>) -> Result<(), NoMemory>
@@ -69,14 +73,15 @@ fn of_parts(alloc: Global, parts: Parts, hasher: Seeded) -> Result<Batch, NoMemo
     ensures { IfOk result (λ batch. batch ≡ batch_of parts) }
 {
     let (_, (front, back)) = parts;
-    let (start, (values, (seen, (stale, entries)))) = front;
+    let (start, (values, (gone, (seen, (entries, stale))))) = front;
     let (verifying, (constructive, (deep, chain))) = back;
     Ok(Batch {
         start,
         values: Store::with_places(alloc, values.into_items(), hasher)?,
+        gone,
         seen: Seen::with_places(alloc, seen.into_items(), hasher)?,
-        stale,
         entries: Entries::of(alloc, entries, hasher)?,
+        stale,
         verifying: Traces::of(alloc, verifying, hasher)?,
         constructive: Traces::of(alloc, constructive, hasher)?,
         deep: Traces::of(alloc, deep, hasher)?,
@@ -84,7 +89,7 @@ fn of_parts(alloc: Global, parts: Parts, hasher: Seeded) -> Result<Batch, NoMemo
     })
 }
 
-/// The kind, and the nine parts in their order.
+/// The kind, and the ten parts in their order.
 impl Batch {
     fn write(&self, out: &mut Vec<u8>) -> Result<(), NoMemory>
         ensures bytes { OnOk result (out.new.items ≡ out.old.items ++ spelled_batch self.now) }
@@ -112,7 +117,7 @@ impl Batch {
     fn about_how_long(&self) -> usize {
         let traces = self.verifying.len() + self.constructive.len() + self.deep.len();
         let entries = self.entries.len() + self.seen.len();
-        traces * 128 + entries * 64 + self.values.len() * 16 + 64
+        traces * 160 + entries * 96 + self.values.len() * 16 + 64
     }
 
     /// The bytes of the batch, as the state file keeps it.

@@ -5,9 +5,9 @@ ghost use Rattle.carte_codec.specs.Each.{EachFits};
 ghost use Rattle.carte_codec.specs.Parts.{spelled_link, FitsLink, spelled_list, FitsList};
 ghost use Rattle.carte_record.specs.Bodies.{spelled_entry, FitsEntry, IsUnmarked, spelled_trace, FitsTrace};
 
-use crate::codec::plain::Plain;
 use crate::{Entries, Entry, Seen, Store, Trace, Traces};
 use carte_codec::write_list;
+use carte_table::Plain;
 use carte_value::{NoMemory, Seeded};
 use std::alloc::Global;
 

@@ -6,7 +6,7 @@ use carte_codec::{Spelled, Unread};
 use carte_value::{Digest, Links, Name, NoMemory, SharedLinks};
 use std::alloc::Global;
 
-/// The key, its links, and the digest of the result.
+/// The key, the digest of its task, its links, and the digest of the result.
 impl Spelled for Trace {
     ghost spelling = { spelled_trace };
 
@@ -16,15 +16,22 @@ impl Spelled for Trace {
 
     fn write(&self, out: &mut Vec<u8>) -> Result<(), NoMemory> {
         self.key.write(out)?;
+        self.task.write(out)?;
         self.links.list().write(out)?;
         self.result.write(out)
     }
 
     fn read(alloc: Global, bytes: &[u8]) -> Result<(Trace, &[u8]), Unread> {
-        match <(Name, (Links, Digest))>::read(alloc, bytes) {
-            Ok(((key, (links, result)), rest)) => {
+        match <(Name, (Digest, (Links, Digest)))>::read(alloc, bytes) {
+            Ok(((key, (task, (links, result))), rest)) => {
                 let links = SharedLinks::of(alloc, links)?;
-                Ok((Trace { key, links, result }, rest))
+                let trace = Trace {
+                    key,
+                    task,
+                    links,
+                    result,
+                };
+                Ok((trace, rest))
             }
             Err(unread) => Err(unread),
         }

@@ -1,9 +1,9 @@
 use Rattle.std.proofs.Common.{◌∙◌, length, ap, subst, arith}
 use Rattle.std.proofs.lemmas.Result.{IfOk-weaker}
-use Rattle.carte_record.specs.Kept.{nothing_kept}
-use Rattle.carte_state.specs.Folding.{IsFolded}
+use Rattle.carte_state.specs.Folding.{Makes}
+use Rattle.carte_state.specs.Versions.{InTwo}
 use Rattle.carte_compact.proofs.Alike.{one_live}
-use Rattle.carte_compact.proofs.Shut.{are_few, as_long, folded}
+use Rattle.carte_compact.proofs.Shut.{are_few, as_long, makes}
 use Rattle.carte_compact.specs.Lengths.{AreBodies, region_length}
 use Rattle.carte_compact.proofs.bodies.live_bodies.Goals as goal
 
@@ -21,7 +21,7 @@ pub returns-clause-kept : goal.returns-clause-kept
 returns-clause-kept c =
     let Bs = c.in_ok-batches.batches.items in
     IfOk-weaker c.bodies_of.result _ _
-    (λ bodies are. subst (IsFolded nothing_kept bodies) ((c.in_ok-batches.ensures {u = tt}).kept) (folded nothing_kept Bs bodies (subst (λ Cs. AreBodies Cs bodies) c.as_slice.ensures.value are)))
+    (λ bodies are. subst (λ K. Makes bodies (InTwo K)) ((c.in_ok-batches.ensures {u = tt}).kept) (makes Bs bodies (subst (λ Cs. AreBodies Cs bodies) c.as_slice.ensures.value are)))
     c.bodies_of.ensures.bodies
 
 pub returns-clause-length : goal.returns-clause-length

@@ -1,5 +1,5 @@
-use Rattle.carte_construct.proofs.Holds.{cutoff_marked}
+use Rattle.carte_construct.proofs.Holds.{cutoff_next}
 use Rattle.carte_construct.proofs.laws.early_cutoff.Goals as goal
 
 pub returns : goal.returns
-returns g = λ K b c H k marks base held same. cutoff_marked K b H base k c marks held same
+returns g = λ K b c H k x base held task same begins. cutoff_next K b H base k c x held task same begins

@@ -1,5 +1,5 @@
-use Rattle.carte_deep.proofs.Holds.{cutoff_marked}
+use Rattle.carte_deep.proofs.Holds.{cutoff_next}
 use Rattle.carte_deep.proofs.laws.stays_held.Goals as goal
 
 pub returns : goal.returns
-returns g = λ K b c H k marks base held same. cutoff_marked K b H base k c marks held same
+returns g = λ K b c H k x base held is_rule rules same begins. cutoff_next K b H base k c x held is_rule rules same begins

@@ -1,4 +1,4 @@
-use Rattle.std.proofs.Common.{ap, sym, subst}
+use Rattle.std.proofs.Common.{sym, subst}
 use Rattle.carte_value.specs.Truths.{Among}
 use Rattle.carte_explain.specs.Nodes.{keys_in, names_in}
 use Rattle.carte_explain.proofs.nodes.nodes.Goals as goal

@@ -1,4 +1,4 @@
-use Rattle.std.proofs.Common.{◌≡◌, sym, ◌∙◌, true, false}
+use Rattle.std.proofs.Common.{sym, ◌∙◌}
 use Rattle.carte_book.specs.Book.{book_view}
 use Rattle.carte_explain.specs.Found.{digest_found, is_apart}
 use Rattle.carte_explain.proofs.Finding.{found_here, missed_here}

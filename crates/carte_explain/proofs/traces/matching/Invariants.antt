@@ -6,4 +6,4 @@ use Rattle.carte_explain.specs.Found.{digest_found, is_match}
 use Rattle.carte_explain.proofs.traces.matching.Given as goal
 
 abbrev pub invariant-loop-trace : goal.invariant-loop-trace
-invariant-loop-trace l = find (is_match (digest_found Verifying (book_view l.book) l.finished) l.key) (take l.trace-index l.traces) ≡ None
+invariant-loop-trace l = find (is_match (digest_found Verifying (book_view l.book) l.finished) l.key l.task) (take l.trace-index l.traces) ≡ None

@@ -1,4 +1,4 @@
-use Rattle.std.proofs.Common.{◌≡◌, length, sym, ◌∙◌}
+use Rattle.std.proofs.Common.{sym, ◌∙◌}
 use Rattle.carte_note.proofs.Names.{unlike}
 use Rattle.carte_note.proofs.entry.same_names.Goals as goal
 

@@ -1,10 +1,10 @@
-use Rattle.std.proofs.Common.{◌≡◌, Result, Ok, Err, OnOk, ap, sym, ◌∙◌, subst}
+use Rattle.std.proofs.Common.{◌≡◌, Result, Ok, Err, OnOk, sym, subst}
 use Rattle.carte_book.specs.Book.{book_view}
 use Rattle.carte_record.specs.declared.batch.Batch.{Batch}
 use Rattle.carte_record.specs.Kept.{kept_view}
 use Rattle.carte_note.specs.Methods.{how_of}
 use Rattle.carte_note.specs.Notes.{Notes, AreUnmarked}
-use Rattle.carte_note.specs.Writes.{with_run, with_entry}
+use Rattle.carte_note.specs.Writes.{with_finished}
 use Rattle.carte_note.proofs.Noted.{noted, unmarked}
 use Rattle.carte_note.proofs.note.note_finished.Goals as goal
 
@@ -18,10 +18,9 @@ returns-clause-notes c =
     let b = book_view c.args.book.now in
     let K = c.args.kept.now in
     let f = c.args.finished.now in
-    on_ok c.note_entry.result
-    (λ (is : c.note_entry.new.batch ≡ with_entry h b K f c.note_run.new.batch).
-    subst (λ B. Notes h (kept_view K) b f c.args.batch.now B) (sym (is ∙ ap (with_entry h b K f) (c.in_ok-note_run.ensures {u = tt}))) (noted h K b f c.args.batch.now))
-    c.note_entry.ensures
+    on_ok c.note_items.result
+    (λ (is : c.note_items.new.batch ≡ with_finished h b K f c.args.batch.now). subst (λ B. Notes h (kept_view K) b f c.args.batch.now B) (sym is) (noted h K b f c.args.batch.now))
+    c.note_items.ensures
 
 pub returns-clause-unmarked : goal.returns-clause-unmarked
 returns-clause-unmarked c =
@@ -29,18 +28,7 @@ returns-clause-unmarked c =
     let b = book_view c.args.book.now in
     let K = c.args.kept.now in
     let f = c.args.finished.now in
-    on_ok c.note_entry.result
-    (λ (is : c.note_entry.new.batch ≡ with_entry h b K f c.note_run.new.batch).
-    subst (λ (B : Batch). AreUnmarked c.args.batch.now.entries → AreUnmarked B.entries) (sym (is ∙ ap (with_entry h b K f) (c.in_ok-note_run.ensures {u = tt}))) (unmarked h K f c.args.batch.now.entries))
-    c.note_entry.ensures
-
-pub returns-clause-items : goal.returns-clause-items
-returns-clause-items c =
-    let h = how_of c.args.method in
-    let b = book_view c.args.book.now in
-    let K = c.args.kept.now in
-    let f = c.args.finished.now in
-    on_ok c.note_entry.result
-    (λ (is : c.note_entry.new.batch ≡ with_entry h b K f c.note_run.new.batch).
-    is ∙ ap (with_entry h b K f) (c.in_ok-note_run.ensures {u = tt}))
-    c.note_entry.ensures
+    on_ok c.note_items.result
+    (λ (is : c.note_items.new.batch ≡ with_finished h b K f c.args.batch.now).
+    subst (λ (B : Batch). AreUnmarked c.args.batch.now.entries → AreUnmarked B.entries) (sym is) (unmarked h b K f c.args.batch.now.entries))
+    c.note_items.ensures

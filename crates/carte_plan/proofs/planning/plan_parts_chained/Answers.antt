@@ -8,6 +8,7 @@ use Rattle.carte_note.specs.Right.{finishes_of}
 use Rattle.carte_plan.specs.Cuts.{AllUnmarked}
 use Rattle.carte_plan.specs.Planned.{PutsChain}
 use Rattle.carte_plan.proofs.PartsLead.{last_unmarked, parts_chained}
+use Rattle.carte_mark.specs.Bases.{beginning_of}
 use Rattle.carte_plan.proofs.Pieces.{if_ok}
 use Rattle.carte_plan.proofs.planning.plan_parts_chained.Goals as goal
 
@@ -28,7 +29,7 @@ returns-clause-restarting g c K targets begins built is =
     let old = ap (λ (M : SomeKept). M.chain) begins.base in
     let puts = subst (λ (ks : List (List ℕ)). PutsChain ks c.args.chain.now cut.last c.put_chain.new.batch) old (c.in_ok-put_chain.ensures {u = tt}) in
     if_ok c.all.result
-    (λ all are. parts_chained h (λ (M : SomeKept) (k : List ℕ). IsDoneRestarting h M b targets k) K b x.marks fs c.args.chain.now all.items begins.marked
+    (λ all are. parts_chained h (λ (M : SomeKept) (k : List ℕ). IsDoneRestarting h M b targets k) K b (beginning_of x) fs c.args.chain.now all.items begins.begun
     (cut.full.items ++ cut.last ∷ [], (c.in_ok-cut.ensures {u = tt}).plans K begins, record { full = cut.full.items; last = cut.last; chained = c.put_chain.new.batch; before = refl; behind = are; puts = puts }) built (is ∙ ap (chain_behind (keys_of (finishes_of fs))) old))
     c.all.ensures
 

@@ -11,5 +11,5 @@ returns c =
     let K = kept_view c.args.kept.now in
     let b = book_view c.args.book.now in
     let told : Tells c.args.kind K b c.args.work.now c.args.key.now c.in_ok-why.why =
-    subst (λ q. Explains c.args.kind K b c.args.work.now c.args.key.now q) c.in_ok-why.was c.explain_under.ensures in
+    subst (λ q. Explains c.args.kind K b c.args.work.now c.args.key.now q) c.in_ok-why.was c.explain.ensures in
     lifted c.why_line.result _ _ c.why_line.ensures (λ text is. (c.in_ok-why.why, told, is))

@@ -1,20 +1,25 @@
-use Rattle.std.proofs.Common.{◌∙◌}
-use Rattle.carte_state.proofs.Reading.{parts_no_disk, together_bad, together_folded}
+use Rattle.std.proofs.Common.{◌∙◌, None, subst}
+use Rattle.carte_state.specs.Parts.{ReadsTo, made_view}
+use Rattle.carte_state.proofs.Reading.{reads_bad, reads_disk, reads_ok}
 use Rattle.carte_state.proofs.load.folded_by.Goals as goal
 
 pub returns-clause-folded : goal.returns-clause-folded
 returns-clause-folded g c =
     let told = c.in_ok-read.ensures {u = tt} in
-    together_folded c.args.bodies c.in_ok-parts.parts.items c.in_ok-read.read.items ((c.in_ok-parts.ensures {u = tt}).bodies ∙ c.into_vec.ensures) told.len told.each
-    c.put_together.result c.put_together.ensures.read c.put_together.ensures.kept
+    reads_ok made_view None c.args.bodies c.put_together.result
+    (subst (λ bs. ReadsTo made_view None bs c.put_together.result) ((c.in_ok-parts.ensures {u = tt}).bodies ∙ c.into_vec.ensures)
+    (c.put_together.ensures c.in_ok-parts.parts.items told.len told.each))
 
 pub returns-clause-bad : goal.returns-clause-bad
-returns-clause-bad g c offset is =
+returns-clause-bad g c =
     let told = c.in_ok-read.ensures {u = tt} in
-    together_bad c.args.bodies c.in_ok-parts.parts.items c.in_ok-read.read.items ((c.in_ok-parts.ensures {u = tt}).bodies ∙ c.into_vec.ensures) told.len told.each
-    offset (c.put_together.ensures.bad offset is)
+    reads_bad made_view None c.args.bodies c.put_together.result
+    (subst (λ bs. ReadsTo made_view None bs c.put_together.result) ((c.in_ok-parts.ensures {u = tt}).bodies ∙ c.into_vec.ensures)
+    (c.put_together.ensures c.in_ok-parts.parts.items told.len told.each))
 
 pub returns-clause-disk : goal.returns-clause-disk
-returns-clause-disk g c is =
+returns-clause-disk g c =
     let told = c.in_ok-read.ensures {u = tt} in
-    parts_no_disk c.in_ok-parts.parts.items c.in_ok-read.read.items told.len told.each (c.put_together.ensures.disk is)
+    reads_disk made_view None c.args.bodies c.put_together.result
+    (subst (λ bs. ReadsTo made_view None bs c.put_together.result) ((c.in_ok-parts.ensures {u = tt}).bodies ∙ c.into_vec.ensures)
+    (c.put_together.ensures c.in_ok-parts.parts.items told.len told.each))

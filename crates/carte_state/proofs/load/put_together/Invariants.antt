@@ -1,8 +1,9 @@
-use Rattle.std.proofs.Common.{◌≡◌}
-use Rattle.carte_record.specs.Kept.{kept_view, nothing_kept}
-use Rattle.carte_state.specs.Parts.{AllRead, batches_in}
-use Rattle.carte_state.specs.Runs.{applied}
+use Rattle.std.proofs.Common.{List, None}
+use Rattle.carte_state.specs.Folding.{IsFolded}
+use Rattle.carte_state.specs.Parts.{bodies_in, made_view}
+use Rattle.carte_state.specs.declared.parts.Part.{Part}
+use Rattle.carte_state.proofs.Reading.{AreParts}
 use Rattle.carte_state.proofs.load.put_together.Given as goal
 
 abbrev pub invariant-loop-part : goal.invariant-loop-part
-invariant-loop-part l = record { read : AllRead l.yielded; kept : kept_view l.kept ≡ applied nothing_kept (batches_in l.yielded) }
+invariant-loop-part l = (ps : List Part) → AreParts ps l.yielded → IsFolded None (bodies_in ps) (made_view l.made)

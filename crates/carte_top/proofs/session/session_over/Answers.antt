@@ -1,7 +1,7 @@
 use Rattle.std.proofs.Common.{ℕ, refl, ◌∙◌, subst}
 use Rattle.carte_book.specs.Book.{book_view}
 use Rattle.carte_state.specs.Folding.{Keeps}
-use Rattle.carte_state.specs.States.{kept_in}
+use Rattle.carte_state.specs.States.{any_in}
 use Rattle.carte_shell.specs.Scenes.{scene}
 use Rattle.carte_top.specs.Around.{over_source, over_disk, over_sink}
 use Rattle.carte_top.proofs.Lacking.{sits_no_state}
@@ -17,12 +17,12 @@ pub returns-in-Ok : goal.returns-in-Ok
 returns-in-Ok g c =
     let m = scene g.D.Disk.story g.D.Disk.faults (c.in-Ok.shell, c.open.new.state) in
     let reads = (g.D.Disk.story c.args.state.now).now.reads in
-    served 268435456 c.args.asked.now (book_view c.args.book) (kept_in m.stand)
+    served 268435456 c.args.asked.now (book_view c.args.book) (any_in m.stand)
     (over_source g.S.Source.tells g.S.Source.state c.args.script.now c.session_with.new.script)
     (over_disk g.D.Disk.tells g.D.Disk.story g.D.Disk.faults c.args.state.now c.session_with.new.state)
     (over_sink g.O.Sink.tells g.O.Sink.state c.args.out.now c.session_with.new.out)
     m (scene g.D.Disk.story g.D.Disk.faults (c.session_with.new.shell, c.session_with.new.state)) c.session_with.result
-    (λ told. subst (λ (l : ℕ). Keeps l (kept_in m.stand) reads) c.in-Ok.ensures.limit_is (keeps_loaded m.stand reads (c.in-Ok.ensures.loaded told)))
+    (λ told. subst (λ (l : ℕ). Keeps l (any_in m.stand) reads) c.in-Ok.ensures.limit_is (keeps_loaded m.stand reads (c.in-Ok.ensures.loaded told)))
     (record {
       choices = c.in-Ok.ensures.choices ∙ c.choices_of.ensures;
       book = c.in-Ok.ensures.book;

@@ -2,6 +2,7 @@ use Rattle.std.proofs.Common.{◌≡◌, refl, sym, subst, inl}
 use Rattle.std.specs.Prelude.{IfNone}
 use Rattle.carte_record.specs.Kept.{kept_view, nothing_kept}
 use Rattle.carte_state.specs.Folding.{Keeps}
+use Rattle.carte_state.specs.Versions.{InTwo}
 use Rattle.carte_trim.specs.Around.{over_part}
 use Rattle.carte_trim.proofs.Files.{new_keeps, new_leaves}
 use Rattle.carte_trim.proofs.Running.{made_length}
@@ -17,8 +18,8 @@ returns-in-Ok-None g c =
     (record {
       keeps =
           λ told new.
-          subst (λ t. Keeps 268435456 K t.now.reads) (sym (c.length_of.ensures.same told))
-          (subst (λ M. Keeps 268435456 M s.now.reads) (sym none) (new_keeps 268435456 s.now.reads new.short));
+          subst (λ t. Keeps 268435456 (InTwo K) t.now.reads) (sym (c.length_of.ensures.same told))
+          (subst (λ M. Keeps 268435456 (InTwo M) s.now.reads) (sym none) (new_keeps 268435456 s.now.reads new.short));
       room = inl (none, c.length_of.ensures.same);
     })
     c.length_of.ensures.length (λ told new. new_leaves 268435456 K s u new (c.length_of.ensures.same told))

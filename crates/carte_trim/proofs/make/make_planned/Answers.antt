@@ -1,6 +1,7 @@
 use Rattle.std.proofs.Common.{refl, sym, subst, inr, arith}
 use Rattle.carte_io.specs.Disk.{LeavesOnly}
 use Rattle.carte_state.specs.Folding.{Keeps}
+use Rattle.carte_state.specs.Versions.{InTwo}
 use Rattle.carte_trim.specs.Around.{over_part}
 use Rattle.carte_trim.specs.New.{KeepsEither}
 use Rattle.carte_trim.proofs.Files.{new_leaves}
@@ -27,7 +28,7 @@ returns-in-Ok g c L is =
     made_length 268435456 L (over_part g.N.Disk.tells g.N.Disk.story g.N.Disk.faults c.args.new.now c.length_of.new.new) (g.N.Disk.faults c.write.new.disk) c.length_of.result
     c.in-Ok.ensures.cause.passed
     (record {
-      keeps = λ told new. subst (λ u. Keeps 268435456 L u.now.reads) (sym (c.length_of.ensures.same told)) (c.in-Ok.ensures.keeps told new L is);
+      keeps = λ told new. subst (λ u. Keeps 268435456 (InTwo L) u.now.reads) (sym (c.length_of.ensures.same told)) (c.in-Ok.ensures.keeps told new L is);
       room =
           inr (
             c.needed-needed.result,

@@ -1,8 +1,8 @@
 use Rattle.std.proofs.Common.{◌≡◌, true, [], ◌∷◌, Result, Ok, Err, ap, ◌∙◌, subst}
 use Rattle.std.specs.Prelude.{OnOk}
 use Rattle.carte_state.specs.Around.{OverDisk, over_disk}
-use Rattle.carte_record.specs.Folds.{apply}
-use Rattle.carte_state.specs.States.{Stand, kept_in}
+use Rattle.carte_state.specs.States.{Stand, any_in}
+use Rattle.carte_state.specs.Versions.{InTwo, apply_to}
 use Rattle.carte_state.specs.declared.fault.ApplyFault.{ApplyFault}
 use Rattle.carte_record.specs.declared.batch.Batch.{Batch}
 use Rattle.carte_record.specs.Kept.{nothing_kept}
@@ -13,8 +13,8 @@ use Rattle.carte_engine.proofs.Emptying.{clearing_empties}
 use Rattle.carte_engine.proofs.Looping.{one_batch}
 use Rattle.carte_engine.proofs.engine.Engine.clean.Goals as goal
 
-cleaned : (d : OverDisk) (s t : Stand) (B : Batch) (r : Result (Unit {0}) ApplyFault) → B ≡ clearing s → Commits true d s t B r → OnOk r (kept_in t ≡ nothing_kept)
-cleaned d s t B (Ok done) is commits = (has_put true d s t B commits).kept ∙ ap (λ (C : Batch). apply C (kept_in s)) is ∙ clearing_empties s
+cleaned : (d : OverDisk) (s t : Stand) (B : Batch) (r : Result (Unit {0}) ApplyFault) → B ≡ clearing s → Commits true d s t B r → OnOk r (any_in t ≡ InTwo nothing_kept)
+cleaned d s t B (Ok done) is commits = (has_put true d s t B commits).any ∙ ap (λ (C : Batch). apply_to C (any_in s)) is ∙ clearing_empties s
 cleaned d s t B (Err fault) is commits = tt
 
 pub returns-clause-cleaned : goal.returns-clause-cleaned

@@ -3,10 +3,11 @@ use Rattle.std.proofs.lemmas.Iterator.Adapters.{YieldsList-from_vec}
 use Rattle.std.proofs.lemmas.Iterator.Consumers.{YieldsList-end, YieldsList-so_far, YieldsList-turn}
 use Rattle.std.proofs.lemmas.Result.{err_from_is_err_and}
 use Rattle.carte_state.specs.Around.{over_disk}
-use Rattle.carte_state.proofs.Runs.{cut_behind, unmarked_in}
+use Rattle.carte_state.specs.States.{any_in}
+use Rattle.carte_state.proofs.Runs.{begins_in, cut_behind, unmarked_in}
 use Rattle.carte_engine.specs.Committing.{Commits, CommitsAll, PutsAll, is_first}
 use Rattle.carte_engine.proofs.Committing.{has_put}
-use Rattle.carte_engine.proofs.Looping.{all_put, one_put, one_stopped, then_later}
+use Rattle.carte_engine.proofs.Looping.{all_put, one_put, one_stopped, so_far_kept, then_later}
 use Rattle.carte_engine.proofs.engine.Engine.commit.Goals as goal
 
 pub loop-batch-init : goal.loop-batch-init
@@ -21,6 +22,18 @@ commit_one-requires-clause-unmarked g c =
     let turn = YieldsList-turn road done c.loop-batch.batch-iterator c.loop-batch.yielded_by c.next.result c.next.new.self c.in-Some.batch c.in-Some.is c.next.ensures.steps in
     unmarked_in Bs done (drop (length done + 1) Bs) c.in-Some.batch
     (cut_behind Bs done c.in-Some.batch (YieldsList-so_far road done c.loop-batch.batch-iterator c.loop-batch.yielded_by) turn) c.requires.unmarked
+
+pub commit_one-requires-clause-begins : goal.commit_one-requires-clause-begins
+commit_one-requires-clause-begins g c =
+    let gives = c.into_iter-batch-iterator.ensures.into_iter_gives in
+    let Bs = c.args.batches.items in
+    let done = c.loop-batch.yielded in
+    let road = YieldsList-from_vec {s = c.into_iter-batch-iterator.result} Bs gives.0 (gives.1 ∙ c.args.batches.ok.0) in
+    let turn = YieldsList-turn road done c.loop-batch.batch-iterator c.loop-batch.yielded_by c.next.result c.next.new.self c.in-Some.batch c.in-Some.is c.next.ensures.steps in
+    begins_in (any_in c.args.self.now) (any_in c.loop-batch.self) Bs done (drop (length done + 1) Bs) c.in-Some.batch
+    (cut_behind Bs done c.in-Some.batch (YieldsList-so_far road done c.loop-batch.batch-iterator c.loop-batch.yielded_by) turn)
+    (so_far_kept g.D.Disk.tells (g.D.Disk.story c.args.disk.now) (g.D.Disk.story c.loop-batch.disk) (g.D.Disk.faults c.args.disk.now) (g.D.Disk.faults c.loop-batch.disk) c.args.self.now done c.loop-batch.self c.loop-batch.invariant.so_far)
+    c.requires.begins
 
 pub loop-batch-preserved : goal.loop-batch-preserved
 loop-batch-preserved g c =

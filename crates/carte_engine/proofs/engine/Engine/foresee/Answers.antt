@@ -1,40 +1,15 @@
-use Rattle.std.proofs.Common.{ap, ◌∙◌, subst, rules}
+use Rattle.std.proofs.Common.{subst}
 use Rattle.carte_book.specs.Book.{book_view}
-use Rattle.carte_record.specs.Folds.{with_marks}
 use Rattle.carte_record.specs.Kept.{kept_view}
-use Rattle.carte_record.specs.Marked.{lists_marked}
-use Rattle.carte_mark.specs.Bases.{IsBegun}
-use Rattle.carte_mark.proofs.Beginning.{begins_other, begins_same}
-use Rattle.carte_state.specs.States.{Stand, kept_in}
-use Rattle.carte_engine.proofs.Foreseeing.{foresees}
-use Rattle.carte_engine.proofs.Marking.{can_be_marked}
+use Rattle.carte_state.specs.States.{Stand}
+use Rattle.carte_engine.specs.Working.{StandsOn}
+use Rattle.carte_engine.proofs.Foreseeing.{foresees_on}
 use Rattle.carte_engine.proofs.engine.Engine.foresee.Goals as goal
-
-pub returns-then-not-begun-clause-foreseen : goal.returns-then-not-begun-clause-foreseen
-returns-then-not-begun-clause-foreseen g c H sound distinct =
-    let b = book_view c.args.book.now in
-    let h = g.R.Rebuilder.how c.args.rebuilder.now in
-    let x = c.in_ok-begun.begun in
-    let begun = subst (λ K. IsBegun (kept_view K) b x) (c.kept.ensures ∙ ap (λ (t : Stand). t.kept) c.self.view_is) (c.in_ok-begun.ensures {u = tt}) in
-    let K = kept_in c.args.self.now in
-    let M = kept_view c.empty-nothing.result in
-    foresees h K b c.args.targets.now x M (begins_other K b x M begun (search rules) c.empty-nothing.ensures) H sound distinct c.build.result c.build.ensures
-
-pub returns-clause-kept : goal.returns-clause-kept
-returns-clause-kept g c =
-    let b = book_view c.args.book.now in
-    let x = c.in_ok-begun.begun in
-    let begun = subst (λ K. IsBegun (kept_view K) b x) (c.kept.ensures ∙ ap (λ (t : Stand). t.kept) c.self.view_is) (c.in_ok-begun.ensures {u = tt}) in
-    let old = c.args.self.now in
-    c.unmark.ensures old (can_be_marked old.kept b x begun (search rules)) (c.mark.ensures.lists ∙ ap (λ (t : Stand). record t { kept = lists_marked t.kept x.marks }) c.self.view_is)
 
 pub returns-clause-foreseen : goal.returns-clause-foreseen
 returns-clause-foreseen g c H sound distinct =
     let b = book_view c.args.book.now in
     let h = g.R.Rebuilder.how c.args.rebuilder.now in
-    let x = c.in_ok-begun.begun in
-    let begun = subst (λ K. IsBegun (kept_view K) b x) (c.kept.ensures ∙ ap (λ (t : Stand). t.kept) c.self.view_is) (c.in_ok-begun.ensures {u = tt}) in
-    let K = kept_in c.args.self.now in
-    let M = kept_view c.kept-2.result.now in
-    let marked = ap kept_view c.kept-2.ensures ∙ (c.mark.ensures.view ∙ ap (λ (t : Stand). with_marks (kept_in t) x.marks) c.self.view_is) in
-    foresees h K b c.args.targets.now x M (begins_same K b x M begun (search rules) marked) H sound distinct c.build-end.result c.build-end.ensures
+    let marked = c.begin_on.new.state in
+    let on = subst (λ (s : Stand). StandsOn b s marked c.in_ok-basis.basis) c.self.view_is c.in_ok-basis.ensures.begins in
+    foresees_on h b c.args.targets.now c.args.self.now marked c.in_ok-basis.basis (kept_view c.base.result.now) on c.base.ensures H sound distinct c.build-end.result c.build-end.ensures

@@ -1,4 +1,4 @@
-use Rattle.std.proofs.Common.{◌≡◌, sym, ◌∙◌, ap, slice_get}
+use Rattle.std.proofs.Common.{sym, ◌∙◌, ap, slice_get}
 use Rattle.carte_table.proofs.FirstPlaces.{place_finds, place_misses}
 use Rattle.carte_note.specs.Lists.{is_of_key, finished_of}
 use Rattle.carte_note.proofs.list.FinishedList.find.Goals as goal

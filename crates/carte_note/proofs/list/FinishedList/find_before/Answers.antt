@@ -1,4 +1,4 @@
-use Rattle.std.proofs.Common.{◌≡◌, sym, ◌∙◌, ap, slice_get, take}
+use Rattle.std.proofs.Common.{sym, ◌∙◌, ap, slice_get, take}
 use Rattle.carte_table.proofs.FirstPlaces.{place_misses}
 use Rattle.carte_note.specs.Lists.{is_of_key, finished_of}
 use Rattle.carte_note.proofs.Before.{finds_before, misses_before}

@@ -14,7 +14,7 @@ returns-in-Err-clause-carried g c =
     let behind = see (c.commit.new.self, c.commit.new.disk) in
     let plan = c.in_ok-batches.field-0 in
     breaks g.D.Disk.tells before behind (line.Build c.args.targets.now) plan.batches.items c.in-Err.end (plan.answer, c.in_ok-batches.ensures.plans)
-    (subst (λ (S : Stand). Stops g.D.Disk.tells (record before { stand = S }) behind plan.batches.items c.in-Err.end) c.plan_under.ensures.kept
+    (subst (λ (S : Stand). Stops g.D.Disk.tells (record before { stand = S }) behind plan.batches.items c.in-Err.end) c.plan.ensures.kept
     (at_err c.commit.result c.in-Err.end _ _ c.in-Err.is c.commit.ensures.carried))
 
 pub returns-in-Ok-clause-carried : goal.returns-in-Ok-clause-carried
@@ -27,6 +27,6 @@ returns-in-Ok-clause-carried g c =
       plan.batches.items,
       c.in_ok-batches.ensures.plans,
       c.in_ok-reply.ensures,
-      subst (λ (S : Stand). Puts g.D.Disk.tells (record before { stand = S }) behind plan.batches.items) c.plan_under.ensures.kept
+      subst (λ (S : Stand). Puts g.D.Disk.tells (record before { stand = S }) behind plan.batches.items) c.plan.ensures.kept
           (at_done c.commit.result _ _ _ c.in-Ok.is c.commit.ensures.carried),
     )

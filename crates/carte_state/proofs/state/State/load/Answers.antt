@@ -1,14 +1,15 @@
 use Rattle.std.proofs.Common.{subst, sym}
-use Rattle.carte_state.specs.States.{IsLoaded}
+use Rattle.carte_journal.specs.Journals.{IsRead}
+use Rattle.carte_state.specs.Parts.{made_view}
 use Rattle.carte_state.proofs.state.State.load.Goals as goal
 
 pub returns-clause-read : goal.returns-clause-read
-returns-clause-read g c told =
-    subst (λ s. IsLoaded s (g.D.Disk.story c.args.disk.now).now.reads) (sym c.of.ensures) (record {
-      bodies = c.in_ok-journal.bodies;
-      read = c.in_ok-journal.ensures.read told;
-      folded = c.in_ok-kept.ensures.folded;
-    })
+returns-clause-read g c told = record {
+  bodies = c.in_ok-journal.bodies;
+  read = subst (λ j. IsRead j c.in_ok-journal.bodies (g.D.Disk.story c.args.disk.now).now.reads) (sym c.of.ensures.journal) (c.in_ok-journal.ensures.read told);
+  makes = record { phase = made_view c.in_ok-made.made; folded = c.in_ok-made.ensures.folded; kept = c.of.ensures.any };
+  bare = c.of.ensures.bare;
+}
 
 pub returns-clause-cause : goal.returns-clause-cause
 returns-clause-cause g c =

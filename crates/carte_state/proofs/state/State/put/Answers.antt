@@ -11,9 +11,11 @@ use Rattle.carte_record.specs.Folds.{apply}
 use Rattle.carte_record.specs.Kept.{kept_view}
 use Rattle.carte_record.specs.declared.kept.Kept.{Kept}
 use Rattle.carte_state.specs.Applying.{IsStill}
-use Rattle.carte_state.specs.States.{Stand}
+use Rattle.carte_state.specs.States.{Stand, kept_in}
+use Rattle.carte_state.specs.Versions.{InTwo}
 use Rattle.carte_state.specs.declared.fault.ApplyFault.TheVariants.{NoMemory}
 use Rattle.carte_state.proofs.Applies.{commit_kept, commit_steps}
+use Rattle.carte_state.proofs.Beginnings.{begun_alike}
 use Rattle.carte_state.proofs.Putting.{put_none, unframed, unmoved}
 use Rattle.carte_state.proofs.state.State.put.Goals as goal
 
@@ -21,7 +23,7 @@ pub returns-then-is_empty : goal.returns-then-is_empty
 returns-then-is_empty g c =
     let d = over_disk g.D.Disk.tells g.D.Disk.story g.D.Disk.faults c.args.disk.now c.args.disk.now in
     put_none d c.args.self.now _ c.args.batch.now (g.met.D.Disk.in_order c.args.disk.now) (record { stand = refl; disk = record { same = refl; story = refl; faults = refl } })
-    c.requires.whole (sym c.is_empty.ensures ∙ c.if-is_empty.true)
+    c.requires.whole c.requires.begins (sym c.is_empty.ensures ∙ c.if-is_empty.true)
 
 pub returns-in_err-frame : goal.returns-in_err-frame
 returns-in_err-frame g c =
@@ -38,8 +40,8 @@ returns-in_err-take_in g c =
     let d = over_disk g.D.Disk.tells g.D.Disk.story g.D.Disk.faults c.args.disk.now c.args.disk.now in
     let r = c.from_residual-in_err-take_in.result in
     let p = err_from_is_err_and r c.from_residual-in_err-take_in.ensures.1 in
-    let still : IsStill d c.args.self.now (record { journal = c.self.inside.journal; kept = c.take_in.new.kept }) = record {
-      stand = ap (λ (K : Kept). record { journal = c.self.inside.journal; kept = K }) (c.in_err-take_in.ensures {u = tt}).no_memory ∙ c.self.view_is;
+    let still : IsStill d c.args.self.now (record { journal = c.self.inside.journal; kept = c.take_in.new.kept; one = c.self.inside.one }) = record {
+      stand = ap (λ (K : Kept). record { journal = c.self.inside.journal; kept = K; one = c.self.inside.one }) (c.in_err-take_in.ensures {u = tt}).no_memory ∙ c.self.view_is;
       disk = record { same = refl; story = refl; faults = refl };
     } in
     rw (p.1 ∙ ap Err p.2)
@@ -56,23 +58,26 @@ returns-in-Ok g c =
     let filled : is_empty B ≡ false = sym c.is_empty.ensures ∙ c.if-is_empty.false in
     let place = c.in-Ok.ensures.place in
     let kept = c.in_ok-take_in.ensures.ok ∙ ap (λ kept. apply B (kept_view kept)) kept_is in
+    let alike = kept ∙ begun_alike c.args.self.now.one (kept_in c.args.self.now) B c.requires.begins in
     record {
       comes = record {
         room = inr c.in_ok-frame.ensures.room;
         after = record {
           journal = rw filled (place ∙ ap (λ (j : Standing). committed j frame) journal_is ∙ ap (committed c.args.self.now.journal) c.in_ok-frame.ensures.frame);
           kept = kept;
+          any = rw filled (ap InTwo alike);
+          one = refl;
         };
         whole = ap (λ (j : Standing). j.broken) place;
         faults = c.in-Ok.ensures.cause.passed (λ is. cc);
         still = λ empty. absurd (cc);
         calls = λ told. rw filled (c.in-Ok.ensures.calls told ∙ ap (λ (j : Standing). s.now.passed + calls_of j) journal_is);
-        rest = λ told on. commit_kept c.args.self.now s on B frame c.in_ok-frame.ensures.fits u _ kept
+        rest = λ told on. commit_kept c.args.self.now s on B c.requires.begins frame c.in_ok-frame.ensures.fits u _ (ap InTwo alike)
             (subst (λ (j : Standing). IsAtRest c.commit.new.self (on.bodies ++ (j.gate, frame) ∷ []) u) journal_is
             (c.in-Ok.ensures.ok told on.bodies (subst (λ j. IsAtRest j on.bodies s) (sym journal_is) on.rest)));
       };
       limit = ap (λ (j : Standing). j.limit) place ∙ ap (λ (j : Standing). j.limit) journal_is;
-      steps = λ told on. commit_steps c.args.self.now s on B frame c.in_ok-frame.ensures.fits u filled
+      steps = λ told on. commit_steps c.args.self.now s on B c.requires.begins frame c.in_ok-frame.ensures.fits u filled
           (subst (λ (j : Standing). StepsThrough (IsReadAs j.limit) (Ends j.gate on.bodies) (step_of j on.bodies frame ∷ []) s u) journal_is
           (c.commit.ensures.any_moment told on.bodies (subst (λ j. IsAtRest j on.bodies s) (sym journal_is) on.rest)));
       ordered = g.met.D.Disk.in_order c.commit.new.disk;
@@ -101,7 +106,7 @@ returns g c =
             (few.0, rw filled (subst (λ (j : Standing). u.now.passed < s.now.passed + calls_of j) journal_is few.1));
       };
       limit = ap (λ (j : Standing). j.limit) broke ∙ ap (λ (j : Standing). j.limit) journal_is;
-      steps = λ told on. commit_steps c.args.self.now s on B frame c.in_ok-frame.ensures.fits u filled
+      steps = λ told on. commit_steps c.args.self.now s on B c.requires.begins frame c.in_ok-frame.ensures.fits u filled
           (subst (λ (j : Standing). StepsThrough (IsReadAs j.limit) (Ends j.gate on.bodies) (step_of j on.bodies frame ∷ []) s u) journal_is
           (c.commit.ensures.any_moment told on.bodies (subst (λ j. IsAtRest j on.bodies s) (sym journal_is) on.rest)));
       ordered = g.met.D.Disk.in_order c.commit.new.disk;

@@ -1,4 +1,4 @@
-use Rattle.std.proofs.Common.{◌≡◌, ◌∙◌, [], ◌∷◌, length, subst, sym, ap, rules, arith, length-append}
+use Rattle.std.proofs.Common.{◌≡◌, [], ◌∷◌, length, subst, ap, rules, arith, length-append}
 use Rattle.std.specs.HashMap.{get}
 use Rattle.carte_name.specs.Names.{name_eq}
 use Rattle.carte_codec.specs.Lengths.{IsLengthOf}

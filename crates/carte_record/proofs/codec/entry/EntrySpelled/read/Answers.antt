@@ -5,4 +5,4 @@ use Rattle.carte_record.specs.BodyLaws.{names_one, entry_parts}
 use Rattle.carte_record.proofs.codec.entry.EntrySpelled.read.Goals as goal
 
 pub returns-in-Err : goal.returns-in-Err
-returns-in-Err c = as_fails entry_parts (pair_one name_one (pair_one digest_one (pair_one bool_one names_one))) FitsEntry (λ e fit. (fit.0, (fit.1, (tt, fit.2)))) c.args.bytes.now c.in-Err.unread c.in-Err.ensures
+returns-in-Err c = as_fails entry_parts (pair_one name_one (pair_one digest_one (pair_one digest_one (pair_one bool_one names_one)))) FitsEntry (λ e fit. (fit.0, (fit.1, (fit.2, (tt, fit.3))))) c.args.bytes.now c.in-Err.unread c.in-Err.ensures

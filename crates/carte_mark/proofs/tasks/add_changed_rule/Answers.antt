@@ -1,0 +1,15 @@
+use Rattle.std.proofs.Common.{Result, Ok, Err, sym, ◌∙◌}
+use Rattle.std.specs.Prelude.{OnOk}
+use Rattle.carte_book.specs.Book.{book_view}
+use Rattle.carte_record.specs.Kept.{kept_view}
+use Rattle.carte_mark.proofs.OtherTasks.{adds_key}
+use Rattle.carte_mark.proofs.tasks.add_changed_rule.Goals as goal
+
+on_ok : {A E : Type 0} {P Q : Type 0} (r : Result A E) → (P → Q) → OnOk r P → OnOk r Q
+on_ok (Ok x) f p = f p
+on_ok (Err e) f p = p
+
+pub returns : goal.returns
+returns c =
+    on_ok c.put.result (adds_key (kept_view c.args.kept.now) (book_view c.args.book.now) c.args.entry.now c.in_ok-task.task c.args.names.now.keys c.put.new.names.keys
+    (c.in_ok-task.ensures {u = tt}) (sym c.is_other.ensures ∙ c.if-not-is_other.false)) c.put.ensures

@@ -1,0 +1,4 @@
+pub mod Raising
+pub mod Firsts
+pub mod Once
+pub mod Migrated

@@ -1,0 +1,58 @@
+ghost use Rattle.std.specs.Prelude.{◌≡◌, IfOk};
+ghost use Rattle.carte_book.specs.Book.{book_view};
+ghost use Rattle.carte_book.specs.Task.{task_now};
+ghost use Rattle.carte_sound.specs.True.{or_none};
+ghost use Rattle.carte_note.specs.Writes.{digest_made, named_task, task_made};
+
+use crate::Finished;
+use carte_book::Book;
+use carte_record::Way;
+use carte_value::{Digest, Name, NoMemory};
+use std::alloc::Global;
+
+/// What a finished key's entry and trace name: the digest of its value and that of its task.
+#[derive(Clone, Copy)]
+pub(crate) struct Digests {
+    pub result: Digest,
+    pub task: Digest,
+}
+
+impl Digests {
+    /// That of the value is taken already; that of the task is the book's.
+    pub(crate) fn of(alloc: Global, book: &Book, finished: &Finished) -> Result<Digests, NoMemory>
+        ensures made { IfOk result (λ d. d.result ≡ digest_made finished.now) }
+        ensures task { IfOk result (λ d. d.task ≡ task_made (book_view book.now) finished.now) }
+    {
+        let task = task(alloc, book, finished.made.key())?;
+        Ok(Digests {
+            result: finished.made.hashed().digest(),
+            task,
+        })
+    }
+}
+
+// No build finishes a key that is no rule of its book: such a one has no task, and is refused as if there were no memory.
+fn task(alloc: Global, book: &Book, key: &Name) -> Result<Digest, NoMemory>
+    ensures { IfOk result (λ d. d ≡ or_none (task_now (book_view book.now) key.now)) }
+{
+    match book.task_digest(alloc, key)? {
+        Some(digest) => Ok(digest),
+        None => Err(NoMemory),
+    }
+}
+
+/// The digest that a trace of this kind names as its task.
+pub(crate) fn named_task(
+    alloc: Global,
+    way: Way,
+    book: &Book,
+    task: Digest,
+) -> Result<Digest, NoMemory>
+    ensures { IfOk result (λ d. d ≡ named_task way (book_view book.now) task) }
+{
+    match way {
+        Way::Verifying => Ok(task),
+        Way::Constructive => Ok(task),
+        Way::Deep => book.rules_digest(alloc),
+    }
+}

@@ -1,7 +1,0 @@
-use Rattle.std.proofs.Common.{◌≡◌, take}
-use Rattle.carte_sound.specs.LeadsTo.{marks_left}
-use Rattle.carte_note.specs.Right.{finishes_of}
-use Rattle.carte_plan.proofs.planning.marks_left.Given as goal
-
-abbrev pub invariant-loop-mark : goal.invariant-loop-mark
-invariant-loop-mark l = l.left ≡ marks_left (finishes_of (take l.count l.finished)) (take l.mark-index l.mark-items)

@@ -1,0 +1,4 @@
+pub mod Marks
+pub mod True
+pub mod Sound
+pub mod Up

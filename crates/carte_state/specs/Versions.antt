@@ -1,0 +1,85 @@
+-- Both versions side by side: what is kept is of one of them, and so is each body's batch.
+use Rattle.std.specs.Prelude.{◌≡◌, ℕ, if◌then◌else◌, List, [], ◌∷◌, Option, Some, None, Result, Ok, Err}
+use Rattle.carte_name.specs.declared.NoMemory.{NoMemory}
+use Rattle.carte_record.specs.Bodies.{IsBody}
+use Rattle.carte_record.specs.Empty.{is_empty}
+use Rattle.carte_record.specs.Folds.{apply}
+use Rattle.carte_record.specs.Kept.{SomeKept, nothing_kept}
+use Rattle.carte_record.specs.declared.batch.Batch.{Batch}
+use Rattle.carte_record.specs.declared.start.Start.TheVariants.{Cleared}
+use Rattle.carte_record_one.specs.Bodies.{IsBodyOne}
+use Rattle.carte_record_one.specs.Folds.{apply_one}
+use Rattle.carte_record_one.specs.Kept.{SomeKeptOne, nothing_kept_one}
+use Rattle.carte_state.specs.declared.any.AnyBatch.{AnyBatch}
+use Rattle.carte_state.specs.declared.any.AnyBatch.TheVariants.{One, Two}
+
+-- what is kept, in the version that it is of
+pub data AnyKept : Type 0 where
+  InOne : SomeKeptOne → AnyKept
+  InTwo : SomeKept → AnyKept
+
+-- the bytes are the batch's of its version
+abbrev pub IsBodyOf : AnyBatch → List ℕ → Type 0
+IsBodyOf (One B) body = IsBodyOne B body
+IsBodyOf (Two B) body = IsBody B body
+
+-- what bytes were read as: the batch of either version that they are, or none exactly where they are no batch's
+abbrev pub IsBatchOf : List ℕ → Option AnyBatch → Type 0
+IsBatchOf body None = (A : AnyBatch) → ¬ (IsBodyOf A body)
+IsBatchOf body (Some A) = IsBodyOf A body
+
+abbrev pub IsDecodedAny : List ℕ → Result (Option AnyBatch) NoMemory → Type 0
+IsDecodedAny body (Ok o) = IsBatchOf body o
+IsDecodedAny body (Err e) = Unit {0}
+
+-- the first byte, by which versions differ; of no bytes 0, which is no version's
+abbrev pub first_byte : List ℕ → ℕ
+first_byte [] = 0
+first_byte (byte ∷ bytes) = byte
+
+-- a batch of one version as one of either
+abbrev pub as_any : {B : Type 0} → (B → AnyBatch) → Result (Option B) NoMemory → Result (Option AnyBatch) NoMemory
+as_any f (Ok None) = Ok None
+as_any f (Ok (Some B)) = Ok (Some (f B))
+as_any f (Err e) = Err e
+
+-- what some bodies have made: nothing, where there was none yet
+abbrev pub Phase : Type 0
+Phase = Option AnyKept
+
+-- so far nothing is kept, as in version 2
+abbrev pub kept_of : Phase → AnyKept
+kept_of None = InTwo nothing_kept
+kept_of (Some K) = K
+
+-- A batch of version 1 comes first or behind others of version 1. One of version 2 may come anywhere, but behind those of version 1 it begins with nothing kept.
+abbrev pub Takes : Phase → AnyBatch → Type 0
+Takes None A = Unit {0}
+Takes (Some (InOne K)) (One B) = Unit {0}
+Takes (Some (InOne K)) (Two B) = B.start ≡ Cleared
+Takes (Some (InTwo K)) (One B) = ⊥
+Takes (Some (InTwo K)) (Two B) = Unit {0}
+
+-- what a batch of each version finds
+abbrev pub one_of : Phase → SomeKeptOne
+one_of None = nothing_kept_one
+one_of (Some (InOne K)) = K
+one_of (Some (InTwo K)) = nothing_kept_one
+
+abbrev pub two_of : AnyKept → SomeKept
+two_of (InOne K) = nothing_kept
+two_of (InTwo K) = K
+
+-- with a batch more
+abbrev pub taken : AnyBatch → Phase → Phase
+taken (One B) p = Some (InOne (apply_one B (one_of p)))
+taken (Two B) p = Some (InTwo (apply B (two_of (kept_of p))))
+
+-- a batch that is applied to what is kept in version 1 begins with nothing kept
+abbrev pub Begins : AnyKept → Batch → Type 0
+Begins (InOne K) B = B.start ≡ Cleared
+Begins (InTwo K) B = Unit {0}
+
+-- what applying it makes, which is of version 2; an empty one isn't applied
+abbrev pub apply_to : Batch → AnyKept → AnyKept
+apply_to B K = if is_empty B then K else InTwo (apply B (two_of K))
