@@ -22,8 +22,10 @@ class NoBatch(Exception):
     pass
 
 
-# A value is None, a number, bytes that are UTF-8, or ("bad", 1 to 5). A batch is a tuple of the nine parts: start is
-# ("go on",), ("anew", digest) or ("cleared",), and chain is None or a list of names.
+# A value is None, a number, bytes that are UTF-8, or ("bad", 1 to 5). A batch is a tuple of the ten parts: start is
+# "go on" or "cleared", and chain is None or a list of names.
+
+PARTS = ("start", "values", "gone", "seen", "entries", "stale", "verifying", "constructive", "deep", "chain")
 
 
 def count(items):
@@ -53,38 +55,40 @@ def spell_value(value):
 
 
 def spell_start(start):
-    return {"go on": b"\x00", "anew": b"\x01", "cleared": b"\x02"}[start[0]] + b"".join(start[1:])
+    return {"go on": b"\x00", "cleared": b"\x02"}[start]
 
 
 def spell_entry(entry):
-    name, result, shallow, needs = entry
-    return spell_name(name) + result + bytes([shallow]) + spell_names(needs)
+    name, task, result, shallow, needs = entry
+    return spell_name(name) + task + result + bytes([shallow]) + spell_names(needs)
 
 
 def spell_trace(trace):
-    name, links, result = trace
-    return spell_name(name) + spell_links(links) + result
+    name, task, links, result = trace
+    return spell_name(name) + task + spell_links(links) + result
 
 
 def spell_chain(chain):
     return b"\x00" if chain is None else b"\x01" + spell_names(chain)
 
 
+def spell_values(values):
+    return count(values) + b"".join(map(spell_value, values))
+
+
+def spell_entries(entries):
+    return count(entries) + b"".join(map(spell_entry, entries))
+
+
+def spell_traces(traces):
+    return count(traces) + b"".join(map(spell_trace, traces))
+
+
+SPELLINGS = (spell_start, spell_values, spell_names, spell_links, spell_entries, spell_names, *[spell_traces] * 3, spell_chain)
+
+
 def spell_parts(batch):
-    start, values, seen, stale, entries, verifying, constructive, deep, chain = batch
-    traces = [count(ts) + b"".join(map(spell_trace, ts)) for ts in (verifying, constructive, deep)]
-    return [
-        ("kind", b"\x01"),
-        ("start", spell_start(start)),
-        ("values", count(values) + b"".join(map(spell_value, values))),
-        ("seen", spell_links(seen)),
-        ("stale", spell_names(stale)),
-        ("entries", count(entries) + b"".join(map(spell_entry, entries))),
-        ("verifying", traces[0]),
-        ("constructive", traces[1]),
-        ("deep", traces[2]),
-        ("chain", spell_chain(chain)),
-    ]
+    return [("kind", b"\x03")] + [(part, spelled(piece)) for part, spelled, piece in zip(PARTS, SPELLINGS, batch)]
 
 
 def spell(batch):
@@ -146,30 +150,30 @@ class Reader:
 
     def start(self):
         kind = self.byte(2)
-        return [("go on",), ("anew", None), ("cleared",)][kind] if kind != 1 else ("anew", self.digest())
+        if kind == 1:
+            raise NoBatch
+        return ["go on", None, "cleared"][kind]
 
     def link(self):
         return (self.name(), self.digest())
 
     def entry(self):
-        return (self.name(), self.digest(), self.byte(1), self.list(self.name))
+        return (self.name(), self.digest(), self.digest(), self.byte(1), self.list(self.name))
 
     def trace(self):
-        return (self.name(), self.list(self.link), self.digest())
+        return (self.name(), self.digest(), self.list(self.link), self.digest())
+
+    def chain(self):
+        return self.list(self.name) if self.byte(1) else None
 
     def batch(self):
-        if self.byte() != 1:
+        if self.byte() != 3:
             raise NoBatch
-        start = self.start()
-        values = self.list(self.value)
-        seen = self.list(self.link)
-        stale = self.list(self.name)
-        entries = self.list(self.entry)
-        traces = [self.list(self.trace) for _ in range(3)]
-        chain = self.list(self.name) if self.byte(1) else None
+        front = (self.start(), *[self.list(item) for item in (self.value, self.name, self.link, self.entry, self.name)])
+        found = (*front, *[self.list(self.trace) for _ in range(3)], self.chain())
         if self.at != len(self.body):
             raise NoBatch
-        return (start, values, seen, stale, entries, *traces, chain)
+        return found
 
 
 def read(body):
@@ -183,25 +187,24 @@ def digest(value):
     return hashlib.sha256(spell_value(value)).digest()
 
 
-def rules_digest(rules):
-    """Of a rule file: 0, and for each rule its name behind its length and its formula behind its length."""
-    data = b"\x00"
-    for name, formula in sorted(rules.items()):
-        data += spell_name(name) + count(formula) + formula
-    return hashlib.sha256(data).digest()
+def task(formula):
+    """Of a rule of a rule file: 2, and its formula."""
+    return hashlib.sha256(b"\x02" + formula).digest()
 
 
 def small():
     """What a build of b2 leaves, with a1 = 10, a2 = 20, b1 = "a1+a2" and b2 = "b1*2"."""
     a1, a2 = (b"a1", digest(10)), (b"a2", digest(20))
     b1, b2 = digest(30), digest(60)
+    of_b1, of_b2 = task(b"a1+a2"), task(b"b1*2")
     return (
-        ("anew", rules_digest({b"b1": b"a1+a2", b"b2": b"b1*2"})),
+        "go on",
         [30, 60],
-        [a1, a2],
         [],
-        [(b"b1", b1, 0, [b"a1", b"a2"]), (b"b2", b2, 0, [b"b1"])],
-        [(b"b1", [a1, a2], b1), (b"b2", [(b"b1", b1)], b2)],
+        [a1, a2],
+        [(b"b1", of_b1, b1, 0, [b"a1", b"a2"]), (b"b2", of_b2, b2, 0, [b"b1"])],
+        [],
+        [(b"b1", of_b1, [a1, a2], b1), (b"b2", of_b2, [(b"b1", b1)], b2)],
         [],
         [],
         None,
@@ -261,14 +264,14 @@ def some_batch(dice, most=3):
         return (name(), some_digest(dice))
 
     def entry():
-        return (name(), some_digest(dice), dice.randrange(2), some(name))
+        return (name(), some_digest(dice), some_digest(dice), dice.randrange(2), some(name))
 
     def trace():
-        return (name(), some(link), some_digest(dice))
+        return (name(), some_digest(dice), some(link), some_digest(dice))
 
-    start = dice.choice([("go on",), ("anew", some_digest(dice)), ("cleared",)])
-    chain = None if dice.random() < 0.5 else some(name)
-    return (start, some(lambda: some_value(dice)), some(link), some(name), some(entry), some(trace), some(trace), some(trace), chain)
+    start = dice.choice(["go on", "cleared"])
+    front = (start, some(lambda: some_value(dice)), some(name), some(link), some(entry), some(name))
+    return (*front, some(trace), some(trace), some(trace), None if dice.random() < 0.5 else some(name))
 
 
 def changed(dice, body):

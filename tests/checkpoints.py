@@ -47,7 +47,7 @@ def entries(body):
 
 
 def chained(body):
-    return batches.read(body)[8] is not None
+    return batches.read(body)[9] is not None
 
 
 def keeps_alike(one, other):
@@ -113,9 +113,9 @@ def edited(runs, rebuilder, keys=2_000, seed=1):
     after = (runs.folder / state).read_bytes()
     runs.same(f"{rebuilder}, edited", (status, out.splitlines()[0], err), (0, b"%s = %d" % (target.encode(), value), b""))
     new = [body for _, body in frames(after)[len(frames(before)) :]]
-    stale = [len(batches.read(body)[3]) for body in new]
+    stale = [len(batches.read(body)[5]) for body in new]
     runs.same(f"{rebuilder}: marks in the first alone", (len(new) > 1, stale[0] > 0, sum(stale[1:])), (True, True, 0))
-    runs.same(f"{rebuilder}: none of a key that it finishes", set(batches.read(new[0])[3]) & {it[0] for it in batches.read(new[0])[4]}, set())
+    runs.same(f"{rebuilder}: none of a key that it finishes", set(batches.read(new[0])[5]) & {it[0] for it in batches.read(new[0])[4]}, set())
     for count in range(len(new)):
         runs.put(state, cut(after, len(frames(before)) + count))
         status, out, err = run(runs, words, b"")

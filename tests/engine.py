@@ -33,6 +33,7 @@ def digest(value):
 
 @dataclass
 class Entry:
+    task: object
     result: bytes
     needs: tuple
     stale: bool = False
@@ -45,7 +46,6 @@ class Entry:
 
 @dataclass
 class Kept:
-    rules: object = None
     seen: dict = field(default_factory=dict)
     entries: dict = field(default_factory=dict)
     traces: dict = field(default_factory=lambda: {way: {} for way in WAYS})
@@ -91,6 +91,12 @@ class Book:
         self.needs[name] = tuple(needs)
         return self.values[name]
 
+    def task(self, name, way=None):
+        """What a rule's task is, in the place of its digest: the kind of the book with its formula, and of a deep trace all rules."""
+        if way == "deep":
+            return self.is_sheet, self.rules
+        return (self.is_sheet, self.rules[name]) if name in self.rules else None
+
     def needs_of(self, name):
         self.clean(name)
         return self.needs.get(name, ())
@@ -120,15 +126,23 @@ class Book:
         return None
 
 
-def changed_names(kept, book):
+def changed_inputs(kept, book):
     """The names that were seen with a value that they haven't now."""
     return {name for name, seen in kept.seen.items() if book.input(name) is None or digest(book.input(name)) != seen}
 
 
+def changed_names(kept, book):
+    """These, and the keys whose entries have another task than their rule has now."""
+    return changed_inputs(kept, book) | {key for key, entry in kept.entries.items() if book.task(key) != entry.task}
+
+
+def gone_names(kept, book):
+    """The names that are kept as inputs and are none, or as rules and are none."""
+    return {name for name in kept.seen if book.input(name) is None} | {key for key in kept.entries if key not in book.rules}
+
+
 def begin(kept, book):
-    """What a build begins with: nothing under other rules, and else the stale entries marked."""
-    if kept.rules != (book.is_sheet, book.rules):
-        return Kept()
+    """What a build begins with: the stale entries marked, and nothing of names that became something else."""
     begun = copy.deepcopy(kept)
     changed = changed_names(kept, book)
     while True:
@@ -138,6 +152,9 @@ def begin(kept, book):
         changed |= more
     for key in changed & kept.entries.keys():
         begun.entries[key].stale = True
+    for name in gone_names(kept, book):
+        for kind in (begun.seen, begun.entries, *begun.traces.values()):
+            kind.pop(name, None)
     return begun
 
 
@@ -151,9 +168,9 @@ def is_held(rebuilder, begun, book, key):
     entry = begun.entries.get(key)
     if rebuilder == "dirty":
         return entry is not None and entry.fresh
-    return any(all(now(book, rebuilder, name) == seen for name, seen in links)
+    return any(task == book.task(key, rebuilder) and all(now(book, rebuilder, name) == seen for name, seen in links)
                and (rebuilder != "verifying" or entry.result == result)
-               for links, result in begun.traces[rebuilder].get(key, ()))
+               for task, links, result in begun.traces[rebuilder].get(key, ()))
 
 
 def led_to(begun, book, targets):
@@ -180,13 +197,14 @@ class Restarting:
 
     def traces(self, key):
         entry, found = self.begun.entries.get(key), self.begun.traces.get(self.rebuilder, {}).get(key, [])
-        return [trace for trace in found if self.rebuilder != "verifying" or entry and entry.result == trace[1]]
+        found = [trace for trace in found if trace[0] == self.book.task(key, self.rebuilder)]
+        return [trace for trace in found if self.rebuilder != "verifying" or entry and entry.result == trace[2]]
 
     def checked(self, key):
         """Whether it is held, and the name that a check asked for in vain."""
         if self.rebuilder == "dirty":
             return is_held("dirty", self.begun, self.book, key), None
-        for links, _ in self.traces(key):
+        for _, links, _ in self.traces(key):
             for name, seen in links:
                 if not self.is_there(name):
                     return False, name
@@ -238,11 +256,11 @@ def finish(rebuilder, left, begun, book, key, ran):
     result = digest(book.clean(key))
     entry = left.entries.get(key)
     if rebuilder != "deep":
-        new = Entry(result, book.needs_of(key))
+        new = Entry(book.task(key), result, book.needs_of(key))
     elif entry is not None and entry.fresh:
         new = entry
     else:
-        new = Entry(result, book.beneath(key), shallow=True)
+        new = Entry(book.task(key), result, book.beneath(key), shallow=True)
     if new != entry:
         left.entries[key] = new
         left.seen.update((name, digest(book.input(name))) for name in new.needs if book.input(name) is not None)
@@ -250,8 +268,8 @@ def finish(rebuilder, left, begun, book, key, ran):
         left.store.setdefault(result, book.clean(key))
     if ran and rebuilder in WAYS:
         links = book.links(book.beneath(key) if rebuilder == "deep" else book.needs_of(key))
-        older = [trace for trace in left.traces[rebuilder].get(key, []) if trace != (links, result)]
-        left.traces[rebuilder][key] = [(links, result)] + older
+        trace = book.task(key, rebuilder), links, result
+        left.traces[rebuilder][key] = [trace] + [it for it in left.traces[rebuilder].get(key, []) if it != trace]
 
 
 def build(kept, inputs, rules, targets, scheduler="suspending", rebuilder="verifying", listed=False, is_sheet=False):
@@ -278,10 +296,6 @@ def build(kept, inputs, rules, targets, scheduler="suspending", rebuilder="verif
         left.chain = (*work.order, *(name for name in begun.chain if name not in work.order))
     for key in done:
         finish(rebuilder, left, begun, book, key, key in ran)
-    if done:
-        left.rules = (is_sheet, rules)
-    elif kept.rules != (is_sheet, rules):
-        left = kept
     if reason:
         return reason, sorted(ran), left
     lines = [target + b" = " + printed(book.clean(target)) + b"\n" for target in targets]
@@ -310,7 +324,7 @@ def first_path(kept, key, goals):
             met.update(nexts)
             longer += [(*path, name) for name in nexts]
         paths = longer
-    raise AssertionError("an entry was marked, and no input has changed")
+    raise AssertionError("an entry was marked, and nothing has changed")
 
 
 def entry_cause(kept, begun, book, name):
@@ -319,16 +333,20 @@ def entry_cause(kept, begun, book, name):
     entry = kept.entries[name]
     if entry.stale or entry.shallow:
         return b"entry marked stale" if entry.stale else b"entry is shallow"
-    return b"input changed: " + b" -> ".join(first_path(kept, name, changed_names(kept, book)))
+    path = first_path(kept, name, changed_names(kept, book))
+    return (b"input changed: " if path[-1] in kept.seen else b"rule changed: ") + b" -> ".join(path)
 
 
 def trace_cause(rebuilder, begun, book, name):
     traces = begun.traces[rebuilder].get(name)
     if not traces:
         return b"no record"
-    if rebuilder == "verifying" and any(all(now(book, rebuilder, need) == seen for need, seen in links) for links, _ in traces):
+    traces = [trace for trace in traces if trace[0] == book.task(name, rebuilder)]
+    if not traces:
+        return b"rule changed"
+    if rebuilder == "verifying" and any(all(now(book, rebuilder, need) == seen for need, seen in links) for _, links, _ in traces):
         return b"stored value differs"
-    need, seen = next((need, seen) for need, seen in traces[0][0] if now(book, rebuilder, need) != seen)
+    need, seen = next((need, seen) for need, seen in traces[0][1] if now(book, rebuilder, need) != seen)
     present = now(book, rebuilder, need) or digest(EMPTY)
     return b"%s was %s, is %s" % (need, seen.hex().encode(), present.hex().encode())
 

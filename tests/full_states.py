@@ -23,7 +23,7 @@ EDITED = (0, b"b2 = 62\nran 2, given up 0, reused 0\n", b"")
 BUILD = ["build", "small.toml", "state", "b2"]
 CLEAN = ["clean", "small.toml", "state"]
 # What `clean` commits.
-CLEARING = batches.spell((("cleared",), [], [], [], [], [], [], [], None))
+CLEARING = batches.spell(("cleared", *[[]] * 8, None))
 # Names that no turned bit makes of one another, and values that all differ.
 RULES = '[rules]\nup = "left + mid"\ndown = "mid + rights"\nmiddles = "up * down"\n'
 FIRST, NOW, LATER = dict(left=2, mid=30, rights=500), dict(left=4, mid=30, rights=500), dict(left=4, mid=31, rights=500)
@@ -77,11 +77,10 @@ def outcome(runs, what, before, words, body, reply):
 
 
 def dead_and_live(size, live, start):
-    """A bank of so many bytes from an offset on, of which what an earlier book left no longer counts."""
+    """A bank of so many bytes from an offset on, of which what was there before it was cleared no longer counts."""
     small = batches.small()
-    other = (("anew", bytes(32)), [], *small[2:])
-    dead = size - live - 5 - len(batches.spell(other))
-    bodies = [with_values(other, texts(dead, b"dead")), with_values(small, texts(live - 6 - len(batches.spell(small)), b"live"))]
+    length = len(batches.spell(small))
+    bodies = [with_values(small, texts(size - live - 5 - length, b"dead")), with_values(("cleared", *small[1:]), texts(live - 6 - length, b"live"))]
     data = bank(start, bodies)
     assert len(data) == start + size
     return data
@@ -127,11 +126,10 @@ def full_list(runs):
     runs.same("a build", outcome(runs, "a full list", data, BUILD, body, None)[:2], (False, True))
     due, is_over, data = outcome(runs, "a full list, cleared", data, CLEAN, CLEARING, (0, b"cleaned\n", b""))
     runs.same("a clearing", (due, is_over), (False, False))
-    anew = batches.spell(batches.small()).replace(batches.digest(10), batches.digest(11))
     runs.put("state", data)
     status, out, err = run(runs, BUILD, b"")
     runs.same("a build behind it", (status, out, err.startswith(b"carte: state full: ")), (8, b"", True))
-    runs.same("an anew batch is longer than the room", len(anew) > 100, True)
+    runs.same("the build's batch is longer than the room", len(batches.spell(batches.small())) > 100, True)
 
 
 # Turned bits

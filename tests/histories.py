@@ -2,7 +2,8 @@
 """Compares a program with the second reading over random histories: histories.py PROGRAM COUNT SEED [OPTIONS]
 
 A history is one state file and some runs over it, with random edits of the book between them: inputs changed, put
-back and deleted, rules changed, added and deleted, other targets, now and then a `clean`. OPTIONS is any of the words
+back and deleted, rules changed, put back, added and deleted, inputs that become rules and rules that become inputs, other
+targets, now and then a `clean`. OPTIONS is any of the words
 `rebuilders` and `schedulers`: each run then chooses one at random and names it by its option, and with a suspending scheduler
 a number of workers, with `--list` now and then; without them the runs have no option, and are those of the suspending scheduler and of verifying traces. With the
 word `topological` each run names that scheduler. With `sheets` every second history is one of sheets. A run in which nothing changes must
@@ -37,27 +38,47 @@ class History:
         self.maker.broken = self.maker.fault = False
         self.inputs = {self.maker.key(key): self.random.choice(VALUES) for key in range(self.maker.inputs)}
         self.rules = dict(self.maker.rules())
-        self.first = dict(self.inputs)
+        self.first, self.original = dict(self.inputs), dict(self.rules)
 
     def edit(self):
         for _ in range(self.random.choice([0, 1, 1, 2])):
             kind = self.random.random()
             key = self.random.choice(list(self.first))
-            if kind < 0.5:
-                self.inputs[key] = self.random.choice(VALUES)
-            elif kind < 0.75:
-                self.inputs[key] = self.first[key]
-            elif kind < 0.85:
+            if kind < 0.4:
+                self.put(key, self.inputs, self.random.choice(VALUES))
+            elif kind < 0.6:
+                self.put(key, self.inputs, self.first[key])
+            elif kind < 0.7:
                 self.inputs.pop(key, None)
-            else:
+            elif kind < 0.95:
                 self.edit_rule()
+            else:
+                self.change_role()
+
+    def put(self, key, table, item):
+        """A name is an input or a rule, and not both."""
+        self.inputs.pop(key, None)
+        self.rules.pop(key, None)
+        table[key] = item
 
     def edit_rule(self):
         number = self.random.randrange(self.maker.inputs, self.maker.count)
-        if self.random.random() < 0.2:
-            self.rules.pop(self.maker.key(number), None)
+        key, kind = self.maker.key(number), self.random.random()
+        if kind < 0.2:
+            self.rules.pop(key, None)
+        elif kind < 0.4 and key in self.original:
+            self.put(key, self.rules, self.original[key])
         else:
-            self.rules[self.maker.key(number)] = self.maker.formula(number, 2)
+            self.put(key, self.rules, self.maker.formula(number, 2))
+
+    def change_role(self):
+        """An input becomes a rule, or a rule an input."""
+        number = self.random.randrange(self.maker.count)
+        key = self.maker.key(number)
+        if key in self.rules:
+            self.put(key, self.inputs, self.random.choice(VALUES))
+        else:
+            self.put(key, self.rules, self.maker.formula(number, 2))
 
     def book(self):
         rows = lambda table: "".join(f"{key} = {toml(item)}\n" for key, item in table.items())

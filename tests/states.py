@@ -1,10 +1,11 @@
 """State files, read and rewritten a second time: frames, moves, roots and banks, what is kept, and what of it is live.
 
 Written from docs/STATE.md and docs/STATE-BATCHES.md alone; it shares no code with the program. `read` gives where the bodies of a
-file stand, or raises BadState with an offset; `fold` what they keep; `live` the batches that say the same. `committed` and `rewritten`
+file stand, or raises BadState with an offset; `fold` what they keep; `live` the batch that says the same. `committed` and `rewritten`
 give the bytes of the file behind a commit of a body and behind a rewriting, `predicted` those behind both, where a rewriting is due, and
 `predicted_all` those behind all commits of a build.
 """
+import itertools
 from dataclasses import dataclass, field
 
 import batches
@@ -102,7 +103,6 @@ def read(data, limit=LIMIT):
 
 @dataclass
 class Kept:
-    rules: bytes = None
     values: list = field(default_factory=list)
     seen: dict = field(default_factory=dict)
     entries: dict = field(default_factory=dict)
@@ -110,23 +110,37 @@ class Kept:
     traces: dict = field(default_factory=lambda: {way: [] for way in WAYS})
     chain: list = field(default_factory=list)
 
+    def drop(self, gone):
+        self.seen = {name: digest for name, digest in self.seen.items() if name not in gone}
+        self.entries = {name: entry for name, entry in self.entries.items() if name not in gone}
+        self.stale -= gone
+        self.traces = {way: [trace for trace in traces if trace[0] not in gone] for way, traces in self.traces.items()}
+
     def add(self, batch):
-        start, values, seen, stale, entries, *traces, chain = batch
-        if start[0] != "go on":
-            self.__init__(start[1] if start[0] == "anew" else None)
+        start, values, gone, seen, entries, stale, *traces, chain = batch
+        if start == "cleared":
+            self.__init__()
+        self.drop(set(gone))
         self.values += values
         self.seen.update(seen)
-        self.stale |= {name for name in stale if name in self.entries}
         self.entries.update((entry[0], entry) for entry in entries)
         self.stale -= {entry[0] for entry in entries}
+        self.stale |= {name for name in stale if name in self.entries}
         for way, more in zip(WAYS, traces):
-            self.traces[way] += [(name, tuple(links), result) for name, links, result in more]
+            self.traces[way] += [(name, task, tuple(links), result) for name, task, links, result in more]
         self.chain = self.chain if chain is None else chain
 
 
+def counting(bodies):
+    """Without those of version 1 in front, of which nothing counts any more behind one of version 2 that begins cleared."""
+    behind = list(itertools.dropwhile(lambda it: it[1][:1] == b"\1", bodies))
+    return behind if behind and behind[0][1][:2] == b"\3\2" else bodies
+
+
 def fold(layout):
+    """What bodies of version 2 keep."""
     kept = Kept()
-    for at, body in layout.bodies:
+    for at, body in counting(layout.bodies):
         batch = batches.read(body)
         if batch is None:
             raise BadState(at)
@@ -140,17 +154,13 @@ def last_ones(traces):
 
 
 def live(kept):
-    """The bodies that say all that is kept, and nothing else."""
-    start = ("go on",) if kept.rules is None else ("anew", kept.rules)
+    """The body that says all that is kept, and nothing else, or none where that is nothing."""
+    if kept == Kept():
+        return []
     traces = [last_ones(kept.traces[way]) for way in WAYS]
     values, seen = sorted(kept.values, key=batches.digest), sorted(kept.seen.items())
     entries = [kept.entries[name] for name in sorted(kept.entries)]
-    if kept == Kept():
-        return []
-    found = [(start, values, seen, [], entries, *traces, kept.chain or None)]
-    if kept.stale:
-        found.append((("go on",), [], [], sorted(kept.stale), [], [], [], [], None))
-    return [batches.spell(batch) for batch in found]
+    return [batches.spell(("go on", values, [], seen, entries, sorted(kept.stale), *traces, kept.chain or None))]
 
 
 def region(bodies):

@@ -38,7 +38,7 @@ USAGE = (2, b"", b"carte_trim: usage: carte_trim STATE NEW COUNT, with a count f
 STATE_FAULT = (6, b"", b"carte_trim: the state's device failed\n")
 NOT_NEW = (17, b"", b"carte_trim: NEW isn't new\n")
 NEW_FAULT = (18, b"", b"carte_trim: NEW's device failed\n")
-EMPTY = batches.spell((("go on",), [], [], [], [], [], [], [], None))
+EMPTY = batches.spell(("go on", *[[]] * 8, None))
 # Deep traces of 8,192 keys take 76 MB a build, so under that rebuilder the book is smaller.
 KEYS, COUNT = {"deep": 1_024}, 4
 
@@ -58,11 +58,11 @@ def newest(traces, count):
 def trimmed(kept, count):
     """What is left of what is kept."""
     traces = {way: newest(kept.traces[way], count) for way in states.WAYS}
-    named = {entry[1] for entry in kept.entries.values()} | {trace[2] for way in states.WAYS for trace in traces[way]}
+    named = {entry[2] for entry in kept.entries.values()} | {trace[3] for way in states.WAYS for trace in traces[way]}
     store = {}
     for value in kept.values:
         store.setdefault(batches.digest(value), value)
-    return states.Kept(kept.rules, [value for digest, value in store.items() if digest in named], kept.seen, kept.entries, kept.stale, traces, kept.chain)
+    return states.Kept([value for digest, value in store.items() if digest in named], kept.seen, kept.entries, kept.stale, traces, kept.chain)
 
 
 def made(kept):
@@ -147,16 +147,16 @@ def by_hand(trims):
     for state in ("stale", "chained", "unnamed", "bare"):
         trims.runs.put(state, odd_state(state))
         trims.checked(state, 2, state)
-    trims.runs.same("nothing is kept", (trims.read("new"), trims.trim("bare", "new", 1)), (b"", (0, b"kept 0 of 0 traces, 0 of 45 bytes\n", b"")))
+    trims.runs.same("nothing is kept", (trims.read("new"), trims.trim("bare", "new", 1)), (b"", (0, b"kept 0 of 0 traces, 0 of 49 bytes\n", b"")))
 
 
 def odd_state(kind):
     """The small state with a batch behind it: a stale entry, a chain, values without a name, or nothing any more."""
     batch = {
-        "stale": (("go on",), [], [], [b"b2"], [], [], [], [], None),
-        "chained": (("go on",), [], [], [], [], [], [], [], [b"b2", b"b1"]),
-        "unnamed": (("go on",), [7, b"text", 7], [], [], [], [], [], [], None),
-        "bare": (("cleared",), [], [], [], [], [], [], [], None),
+        "stale": ("go on", [], [], [], [], [b"b2"], [], [], [], None),
+        "chained": ("go on", *[[]] * 8, [b"b2", b"b1"]),
+        "unnamed": ("go on", [7, b"text", 7], *[[]] * 7, None),
+        "bare": ("cleared", *[[]] * 8, None),
     }[kind]
     front = b"" if kind == "bare" else states.committed(b"", batches.spell(batches.small()))
     return states.committed(front, batches.spell(batch))
@@ -182,7 +182,7 @@ def files(trims):
     trims.runs.same("no state", trims.trim("nowhere", "new", 1), STATE_FAULT)
     trims.runs.same("a folder", trims.trim("folder", "new", 1), STATE_FAULT)
     trims.runs.same("no state was made", (trims.folder / "nowhere").exists(), False)
-    for what, bad, at in (("no header", b"no state file", 0), ("a cut one", data[:-20], 437 - 1), ("no batch", states.committed(b"", b"\1\0"), 8)):
+    for what, bad, at in (("no header", b"no state file", 0), ("a cut one", data[:-20], 537 - 1), ("no batch", states.committed(b"", b"\1\0"), 8)):
         trims.runs.put("bad", bad)
         trims.runs.same(what, trims.trim("bad", "new", 1), (7, b"", b"carte_trim: bad state at byte %d\n" % at))
         trims.runs.same(f"{what} stays", trims.read("bad"), bad)
