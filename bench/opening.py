@@ -26,7 +26,7 @@ import tempfile
 import time
 
 TOP = pathlib.Path(__file__).resolve().parents[1]
-CRATES = ("carte_name", "carte_value", "carte_io", "carte_bank", "carte_journal", "carte_codec", "carte_table", "carte_record", "carte_state")
+CRATES = ("carte_name", "carte_value", "carte_io", "carte_bank", "carte_journal", "carte_codec", "carte_table", "carte_record", "carte_record_one", "carte_state")
 ROUNDS = 5
 SIZE = 256 * 1024 * 1024
 SHAPES = {"new": (1000, False), "again": (1000, True), "large": (16, False)}
@@ -104,10 +104,11 @@ def body(turn, keys, same):
         value = struct.pack(">Bq", 1, turn * keys + at)
         digest = hashlib.sha256(value).digest()
         values.append(value)
-        entries.append(name + digest + b"\0" + listed(needs))
-        traces.append(name + links + digest)
+        task = hashlib.sha256(b"\2i1+i2+%d" % (turn * keys + at)).digest()
+        entries.append(name + task + digest + b"\0" + listed(needs))
+        traces.append(name + task + links + digest)
     nothing = listed([])
-    return b"\x01\0" + listed(values) + nothing + nothing + listed(entries) + listed(traces) + nothing + nothing + b"\0"
+    return b"\x03\0" + listed(values) + nothing + nothing + listed(entries) + nothing + listed(traces) + nothing + nothing + b"\0"
 
 
 def state(path, bodies, same):

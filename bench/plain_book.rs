@@ -1,6 +1,5 @@
 // Reading the books of bench/generated.py, and no other TOML, as the plain programs of the measurements do: names are slices
-// of the book's bytes, and numbers by one hash map with a fast hash; the rules digest is streamed over one small buffer.
-use crate::plain_sha256::{Digest, START, compress_all, finished};
+// of the book's bytes, and numbers by one hash map with a fast hash.
 use std::collections::HashMap as Map;
 use std::hash::{BuildHasherDefault, Hasher};
 
@@ -48,14 +47,14 @@ pub type HashMap<K, V> = Map<K, V, BuildHasherDefault<Fast>>;
 #[derive(Clone, Copy)]
 pub enum Item {
     Input(i64),
-    Rule(u32, u32), // MAX(near,far)-MIN(near,far)
+    Rule([u32; 2]), // of near and far MAX(near,far)-MIN(near,far)
 }
 
 pub struct Book<'a> {
     pub names: Vec<&'a [u8]>,
     pub items: Vec<Item>,
     pub numbers: HashMap<&'a [u8], u32>,
-    pub rules: Digest,
+    pub formulas: Vec<&'a [u8]>, // of an input no bytes
 }
 
 /// A text before the first such byte, and behind it.
@@ -97,37 +96,18 @@ pub fn read(text: &[u8]) -> Book<'_> {
     for (at, name) in names.iter().enumerate() {
         assert!(numbers.insert(*name, at as u32).is_none(), "a key twice");
     }
-    let mut rules = Vec::with_capacity(names.len());
-    let items = lines.iter().enumerate().map(|(at, (name, value))| match value {
+    let mut formulas = Vec::with_capacity(names.len());
+    let items = lines.iter().map(|(_, value)| match value {
         [b'"', formula @ .., b'"'] => {
-            rules.push((front(name), at as u32));
+            formulas.push(formula);
             let (near, far) = names_of(formula);
-            Item::Rule(numbers[near], numbers[far])
+            Item::Rule([numbers[near], numbers[far]])
         }
-        _ => Item::Input(number(value)),
+        _ => {
+            formulas.push(&[]);
+            Item::Input(number(value))
+        }
     });
     let items = items.collect();
-    rules.sort_unstable_by(|a, b| a.0.cmp(&b.0).then_with(|| names[a.1 as usize].cmp(names[b.1 as usize])));
-    let rules = rules_digest(&lines, &rules);
-    Book { names, items, numbers, rules }
-}
-
-fn rules_digest(lines: &[(&[u8], &[u8])], sorted: &[(u64, u32)]) -> Digest {
-    let (mut state, mut text, mut length) = (START, Vec::with_capacity(16_384), 0);
-    text.push(0);
-    for (_, at) in sorted {
-        let (name, value) = lines[*at as usize];
-        let formula = &value[1..value.len() - 1];
-        text.push(name.len() as u8);
-        text.extend_from_slice(name);
-        text.extend_from_slice(&(formula.len() as u32).to_be_bytes());
-        text.extend_from_slice(formula);
-        if text.len() >= 8192 {
-            length += text.len() / 64 * 64;
-            compress_all(&mut state, &mut text);
-        }
-    }
-    length += text.len();
-    compress_all(&mut state, &mut text);
-    finished(state, &text, length as u64)
+    Book { names, items, numbers, formulas }
 }

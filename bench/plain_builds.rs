@@ -1,399 +1,68 @@
 // An incremental build of a generated book as a plain Rust program without contracts, to measure `carte` beside it:
 //     rustc -O --edition 2021 -o /tmp/plain_builds bench/plain_builds.rs; /tmp/plain_builds book.toml state k65535
 // It reads the books of bench/generated.py and no other TOML. Names are slices of the book's bytes and numbers by one hash
-// map with a fast hash; the rules digest is streamed over one small buffer; the state is read in place, in the program's own
-// format, and kept with the program's own syncs. It checks verifying traces, runs what isn't held, and prints the same
-// reply. It checks neither names, nor states that another program wrote.
+// map with a fast hash; the state is read in place, in the program's own format, and kept with the program's own syncs
+// (plain_build.rs, plain_state.rs). It prints the same reply. It checks neither names, nor states that another program wrote.
 mod plain_book;
+mod plain_build;
 mod plain_sha256;
+mod plain_state;
 
-use plain_book::{Book, HashMap, Item, read};
-use plain_sha256::{Digest, START, digest, finished, spelled};
-use std::fs::{File, OpenOptions};
+use plain_book::{Book, Item, read};
+use plain_build::build;
+use plain_sha256::{Digest, digest, spelled};
+use plain_state::Bytes;
 use std::io::Write;
-use std::os::unix::fs::FileExt;
 
-const HEADER: &[u8] = b"CARTE01\n";
-const NONE: u32 = u32::MAX;
-
-// The state
-
-/// What is kept, in slices of the state's bytes. Traces of a key are a chain, the newest first.
-struct Kept<'s> {
-    rules: Option<&'s Digest>,
-    seen: Vec<Option<&'s Digest>>,
-    entries: Vec<Option<Entry<'s>>>,
-    needs: Vec<u32>,
-    newest: Vec<u32>,
-    traces: Vec<Trace<'s>>,
-    links: Vec<(u32, &'s Digest)>,
-    values: HashMap<&'s [u8], i64>,
-}
-
-#[derive(Clone, Copy)]
-struct Entry<'s> {
-    result: &'s Digest,
-    from: u32,
-    end: u32,
-}
-
-struct Trace<'s> {
-    older: u32,
-    from: u32,
-    end: u32,
-    result: &'s Digest,
-}
-
-impl<'s> Kept<'s> {
-    fn new(count: usize) -> Kept<'s> {
-        Kept {
-            rules: None,
-            seen: vec![None; count],
-            entries: vec![None; count],
-            needs: Vec::new(),
-            newest: vec![NONE; count],
-            traces: Vec::new(),
-            links: Vec::new(),
-            values: HashMap::default(),
+impl<'a> plain_state::Book<'a> for Book<'a> {
+    type Value = i64;
+    fn kind(&self) -> u8 {
+        2
+    }
+    fn count(&self) -> usize {
+        self.names.len()
+    }
+    fn number(&self, name: &[u8]) -> u32 {
+        self.numbers[name]
+    }
+    fn name(&self, key: u32) -> &'a [u8] {
+        self.names[key as usize]
+    }
+    fn input(&self, key: u32) -> Option<i64> {
+        if let Item::Input(number) = self.items[key as usize] { Some(number) } else { None }
+    }
+    fn formula(&self, key: u32) -> &'a [u8] {
+        self.formulas[key as usize]
+    }
+    fn needs(&self, key: u32) -> &[u32] {
+        match &self.items[key as usize] {
+            Item::Rule(names) => if names[0] == names[1] { &names[..1] } else { names },
+            Item::Input(_) => &[],
         }
     }
-
-    fn needs(&self, entry: &Entry) -> &[u32] {
-        &self.needs[entry.from as usize..entry.end as usize]
+    fn worked_out(&self, key: u32, values: &[i64], _: &mut Vec<i64>) -> i64 {
+        let Item::Rule(names) = self.items[key as usize] else { panic!("a rule") };
+        let [a, b] = names.map(|name| values[name as usize]);
+        a.max(b).checked_sub(a.min(b)).expect("no overflow")
     }
-
-    fn value(&self, digest: &Digest) -> Option<i64> {
-        self.values.get(&digest[..]).copied()
+    fn read(bytes: &mut Bytes<'a>) -> i64 {
+        assert_eq!(bytes.byte(), 1, "a number");
+        i64::from_be_bytes(*bytes.take())
     }
-}
-
-struct Bytes<'s>(&'s [u8]);
-
-impl<'s> Bytes<'s> {
-    fn take<const N: usize>(&mut self) -> &'s [u8; N] {
-        let (front, rest) = self.0.split_first_chunk().expect("a whole state");
-        self.0 = rest;
-        front
+    fn spell(value: i64, bytes: &mut Vec<u8>) {
+        bytes.extend_from_slice(&spelled(value));
     }
-    fn byte(&mut self) -> u8 {
-        self.take::<1>()[0]
-    }
-    fn count(&mut self) -> usize {
-        u32::from_be_bytes(*self.take()) as usize
-    }
-    fn name(&mut self, book: &Book) -> u32 {
-        let (name, rest) = self.0[1..].split_at(self.0[0] as usize);
-        self.0 = rest;
-        book.numbers[name]
-    }
-}
-
-fn apply<'s>(kept: &mut Kept<'s>, digests: &'s [Digest], book: &Book, mut body: Bytes<'s>) {
-    body.byte();
-    if body.byte() == 1 {
-        *kept = Kept::new(book.names.len());
-        kept.rules = Some(body.take());
-    }
-    let count = body.count();
-    kept.values.reserve(count);
-    for digest in digests {
-        body.byte();
-        kept.values.insert(digest, i64::from_be_bytes(*body.take()));
-    }
-    for _ in 0..body.count() {
-        let name = body.name(book);
-        kept.seen[name as usize] = Some(body.take());
-    }
-    for _ in 0..body.count() {
-        body.name(book); // marks matter under dirty bits alone
-    }
-    for _ in 0..body.count() {
-        let (key, result) = (body.name(book), body.take());
-        body.byte();
-        let from = kept.needs.len() as u32;
-        for _ in 0..body.count() {
-            kept.needs.push(body.name(book));
-        }
-        kept.entries[key as usize] = Some(Entry { result, from, end: kept.needs.len() as u32 });
-    }
-    for _ in 0..body.count() {
-        let (key, from) = (body.name(book), kept.links.len() as u32);
-        for _ in 0..body.count() {
-            kept.links.push((body.name(book), body.take()));
-        }
-        let (older, end) = (kept.newest[key as usize], kept.links.len() as u32);
-        kept.newest[key as usize] = kept.traces.len() as u32;
-        kept.traces.push(Trace { older, from, end, result: body.take() });
-    }
-}
-
-/// The bodies of a state and the offset of the gate behind them.
-fn bodies(bytes: &[u8]) -> (Vec<&[u8]>, u64) {
-    let (mut bodies, mut gate) = (Vec::new(), 8);
-    while bytes.len() > 9 && bytes[gate] == 1 {
-        let length = u32::from_be_bytes(bytes[gate + 1..gate + 5].try_into().unwrap()) as usize;
-        bodies.push(&bytes[gate + 5..gate + 5 + length]);
-        gate += 5 + length;
-    }
-    (bodies, gate as u64)
-}
-
-/// The digests of a body's values.
-fn digests_in(body: &[u8]) -> Vec<Digest> {
-    let mut body = Bytes(body);
-    body.byte();
-    if body.byte() == 1 {
-        body.take::<32>();
-    }
-    let values = body.count();
-    (0..values).map(|_| finished(START, body.take::<9>(), 9)).collect()
-}
-
-fn commit(file: &File, gate: u64, frame: &[u8]) {
-    if gate == 8 {
-        file.write_all_at(&[HEADER, &[0]].concat(), 0).unwrap();
-        file.sync_all().unwrap();
-    }
-    file.write_all_at(frame, gate + 1).unwrap();
-    file.sync_all().unwrap();
-    file.write_all_at(&[1], gate).unwrap();
-    file.sync_all().unwrap();
-}
-
-// Builds
-
-/// What the names have now.
-struct Now {
-    values: Vec<i64>,
-    digests: Vec<Digest>,
-    known: Vec<bool>,
-}
-
-impl Now {
-    /// Takes an input in, once.
-    fn take_in(&mut self, book: &Book, at: usize) {
-        if let (Item::Input(number), false) = (book.items[at], self.known[at]) {
-            (self.values[at], self.digests[at], self.known[at]) = (number, digest(number), true);
-        }
-    }
-}
-
-/// The inputs that were seen with another digest than they have now. Digests that are made for it stay.
-fn changed(book: &Book, kept: &Kept, now: &mut Now) -> Vec<u32> {
-    let mut changed = Vec::new();
-    for (at, seen) in kept.seen.iter().enumerate() {
-        let Some(seen) = seen else { continue };
-        now.take_in(book, at);
-        if !now.known[at] || now.digests[at] != **seen {
-            changed.push(at as u32);
-        }
-    }
-    changed
-}
-
-/// The keys whose entries lead to one of these names.
-fn marked(kept: &Kept, mut ahead: Vec<u32>) -> Vec<bool> {
-    let count = kept.entries.len();
-    let mut marks = vec![false; count];
-    if ahead.is_empty() {
-        return marks;
-    }
-    let mut starts = vec![0u32; count + 1];
-    for need in kept.entries.iter().flatten().flat_map(|entry| kept.needs(entry)) {
-        starts[*need as usize] += 1;
-    }
-    for at in 0..count {
-        starts[at + 1] += starts[at];
-    }
-    let mut users = vec![0; starts[count] as usize];
-    for (key, entry) in kept.entries.iter().enumerate() {
-        for need in entry.iter().flat_map(|entry| kept.needs(entry)) {
-            starts[*need as usize] -= 1;
-            users[starts[*need as usize] as usize] = key as u32;
-        }
-    }
-    while let Some(name) = ahead.pop() {
-        for user in &users[starts[name as usize] as usize..starts[name as usize + 1] as usize] {
-            if !std::mem::replace(&mut marks[*user as usize], true) {
-                ahead.push(*user);
-            }
-        }
-    }
-    marks
-}
-
-/// The reached rules, each behind those that it names.
-fn order(book: &Book, target: u32) -> Vec<u32> {
-    let (mut order, mut stack, mut met) = (Vec::new(), vec![(target, 0)], vec![false; book.names.len()]);
-    met[target as usize] = true;
-    while let Some((key, at)) = stack.last_mut() {
-        let Item::Rule(near, far) = book.items[*key as usize] else {
-            stack.pop();
-            continue;
-        };
-        *at += 1;
-        let need = match *at {
-            1 => near,
-            2 => far,
-            _ => {
-                order.push(*key);
-                stack.pop();
-                continue;
-            }
-        };
-        if !std::mem::replace(&mut met[need as usize], true) {
-            stack.push((need, 0));
-        }
-    }
-    order
-}
-
-#[derive(Default)]
-struct Part {
-    count: u32,
-    bytes: Vec<u8>,
-}
-
-impl Part {
-    fn name(&mut self, name: &[u8]) {
-        self.bytes.push(name.len() as u8);
-        self.bytes.extend_from_slice(name);
-    }
-
-    fn count(&mut self, count: usize) {
-        self.bytes.extend_from_slice(&(count as u32).to_be_bytes());
-    }
-}
-
-#[derive(Default)]
-struct Batch {
-    values: Part,
-    seen: Part,
-    stale: Part,
-    entries: Part,
-    traces: Part,
-}
-
-impl Batch {
-    fn trace(&mut self, book: &Book, key: u32, needs: &[u32], digests: &[Digest]) {
-        self.traces.count += 1;
-        self.traces.name(book.names[key as usize]);
-        self.traces.count(needs.len());
-        for need in needs {
-            self.traces.name(book.names[*need as usize]);
-            self.traces.bytes.extend_from_slice(&digests[*need as usize]);
-        }
-        self.traces.bytes.extend_from_slice(&digests[key as usize]);
-    }
-
-    fn entry(&mut self, book: &Book, key: u32, needs: &[u32], digests: &[Digest]) {
-        self.entries.count += 1;
-        self.entries.name(book.names[key as usize]);
-        self.entries.bytes.extend_from_slice(&digests[key as usize]);
-        self.entries.bytes.push(0);
-        self.entries.count(needs.len());
-        for need in needs {
-            self.entries.name(book.names[*need as usize]);
-        }
-    }
-
-    /// The frame of this batch behind its gate; none where it is empty.
-    fn frame(&self, rules: Option<&Digest>) -> Option<Vec<u8>> {
-        let none = Part::default();
-        let parts = [&self.values, &self.seen, &self.stale, &self.entries, &self.traces, &none, &none];
-        if parts.iter().all(|part| part.count == 0) {
-            return None;
-        }
-        let length = parts.iter().map(|part| 4 + part.bytes.len()).sum::<usize>() + 3 + 32 * usize::from(rules.is_some());
-        let mut frame = Vec::with_capacity(length + 5);
-        frame.extend_from_slice(&(length as u32).to_be_bytes());
-        frame.extend_from_slice(&[1, u8::from(rules.is_some())]);
-        frame.extend_from_slice(rules.map_or(&[], |digest| &digest[..]));
-        for part in parts {
-            frame.extend_from_slice(&part.count.to_be_bytes());
-            frame.extend_from_slice(&part.bytes);
-        }
-        frame.extend_from_slice(&[0, 0]); // the chain stays, and the next gate is shut
-        Some(frame)
+    fn digest(value: i64) -> Digest {
+        digest(value)
     }
 }
 
 fn main() {
     let words: Vec<String> = std::env::args().collect();
-    let text = std::fs::read(&words[1]).expect("a readable book");
+    let (text, mut bytes) = (std::fs::read(&words[1]).expect("a readable book"), Vec::new());
     let book = read(&text);
-    let file = OpenOptions::new().read(true).write(true).create(true).truncate(false).open(&words[2]).expect("a state");
-    file.sync_all().unwrap();
-    let bytes = std::fs::read(&words[2]).expect("a readable state");
-    let (bodies, gate) = bodies(&bytes);
-    let kept_digests: Vec<Vec<Digest>> = bodies.iter().map(|body| digests_in(body)).collect();
-    let count = book.names.len();
-    let mut kept = Kept::new(count);
-    for (body, digests) in bodies.into_iter().zip(&kept_digests) {
-        apply(&mut kept, digests, &book, Bytes(body));
-    }
-    let anew = kept.rules != Some(&book.rules);
-    if anew {
-        kept = Kept::new(count);
-    }
-    let mut now = Now { values: vec![0; count], digests: vec![[0; 32]; count], known: vec![false; count] };
-    let mut stale = marked(&kept, changed(&book, &kept, &mut now));
     let target = book.numbers[words[3].as_bytes()];
-    let (mut batch, mut new_values, mut is_seen) = (Batch::default(), HashMap::<i64, ()>::default(), vec![false; count]);
-    let (mut ran, mut reused) = (0, 0);
-    for key in order(&book, target) {
-        let Item::Rule(near, far) = book.items[key as usize] else { continue };
-        let at = key as usize;
-        let needs: &[u32] = if near == far { &[near] } else { &[near, far] };
-        for need in needs {
-            now.take_in(&book, *need as usize);
-        }
-        let mut held = kept.newest[at];
-        while held != NONE {
-            let trace = &kept.traces[held as usize];
-            let links = &kept.links[trace.from as usize..trace.end as usize];
-            if kept.entries[at].is_some_and(|entry| entry.result == trace.result) && links.iter().all(|(name, seen)| now.known[*name as usize] && now.digests[*name as usize] == **seen) {
-                break;
-            }
-            held = trace.older;
-        }
-        if held != NONE {
-            let result = kept.traces[held as usize].result;
-            reused += 1;
-            (now.values[at], now.digests[at]) = (kept.value(result).expect("a kept value"), *result);
-        } else {
-            ran += 1;
-            let (a, b) = (now.values[near as usize], now.values[far as usize]);
-            now.values[at] = a.max(b).checked_sub(a.min(b)).expect("no overflow");
-            now.digests[at] = digest(now.values[at]);
-            if kept.value(&now.digests[at]).is_none() && new_values.insert(now.values[at], ()).is_none() {
-                batch.values.count += 1;
-                batch.values.bytes.extend_from_slice(&spelled(now.values[at]));
-            }
-            batch.trace(&book, key, needs, &now.digests);
-        }
-        now.known[at] = true;
-        if !stale[at] && kept.entries[at].is_some_and(|entry| *entry.result == now.digests[at] && kept.needs(&entry) == needs) {
-            continue;
-        }
-        stale[at] = false;
-        batch.entry(&book, key, needs, &now.digests);
-        for need in needs {
-            let is_input = matches!(book.items[*need as usize], Item::Input(_));
-            if is_input && kept.seen[*need as usize] != Some(&now.digests[*need as usize]) && !std::mem::replace(&mut is_seen[*need as usize], true) {
-                batch.seen.count += 1;
-                batch.seen.name(book.names[*need as usize]);
-                batch.seen.bytes.extend_from_slice(&now.digests[*need as usize]);
-            }
-        }
-    }
-    for key in (0..count).filter(|key| stale[*key]) {
-        batch.stale.count += 1;
-        batch.stale.name(book.names[key]);
-    }
-    if let Some(frame) = batch.frame(anew.then_some(&book.rules)) {
-        commit(&file, gate, &frame);
-    }
-    let reply = format!("{} = {}\nran {ran}, given up 0, reused {reused}\n", words[3], now.values[target as usize]);
+    let (values, ran, reused) = build(&book, &words[2], &mut bytes, &[target], 0);
+    let reply = format!("{} = {}\nran {ran}, given up 0, reused {reused}\n", words[3], values[0]);
     std::io::stdout().write_all(reply.as_bytes()).unwrap();
 }

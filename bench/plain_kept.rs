@@ -7,7 +7,7 @@ mod plain_book;
 mod plain_sha256;
 
 use plain_book::{Book, HashMap, Item, read};
-use plain_sha256::{Digest, digest, spelled};
+use plain_sha256::{Digest, digest, spelled, task};
 use std::collections::BTreeSet;
 use std::fs::OpenOptions;
 use std::hash::Hash;
@@ -27,6 +27,7 @@ struct Link {
 #[derive(Clone)]
 struct Entry {
     key: Name,
+    task: Digest,
     result: Digest,
     needs: Vec<Name>,
     stale: bool,
@@ -35,6 +36,7 @@ struct Entry {
 #[derive(Clone)]
 struct Trace {
     key: Name,
+    task: Digest,
     links: Vec<Link>,
     result: Digest,
 }
@@ -69,7 +71,6 @@ impl<K: Eq + Hash, T> List<K, T> {
 }
 
 struct Kept {
-    rules: Option<Digest>,
     seen: List<Name, Link>,
     entries: List<Name, Entry>,
     traces: Vec<Trace>,
@@ -80,7 +81,7 @@ struct Kept {
 impl Kept {
     fn new() -> Kept {
         let (seen, entries, values) = (List::new(), List::new(), List::new());
-        Kept { rules: None, seen, entries, traces: Vec::new(), trace_places: HashMap::default(), values }
+        Kept { seen, entries, traces: Vec::new(), trace_places: HashMap::default(), values }
     }
 
     fn push_trace(&mut self, trace: Trace) {
@@ -90,9 +91,6 @@ impl Kept {
 
     /// Takes in what a batch brings. A batch is of the same form.
     fn apply(&mut self, batch: &Kept) {
-        if batch.rules.is_some() {
-            *self = Kept { rules: batch.rules, ..Kept::new() };
-        }
         for value in &batch.values.items {
             let digest = digest(*value);
             if self.values.find(&digest).is_none() {
@@ -126,27 +124,33 @@ struct Job {
     formula: (Name, Name),
 }
 
+/// The digest of a rule's task.
+fn task_of(book: &Book, key: &Name) -> Digest {
+    task(2, book.formulas[book.numbers[&key[..]] as usize])
+}
+
 fn start(kept: &Kept, book: &Book, names: &[Name], one: &Finished) -> Job {
-    let mut checks = Vec::new();
+    let (mut checks, task) = (Vec::new(), task_of(book, &one.key));
     if let Some(entry) = kept.entries.find(&one.key) {
         for at in kept.trace_places.get(&one.key).into_iter().flatten() {
             let trace = &kept.traces[*at as usize];
-            if let (true, Some(value)) = (trace.result == entry.result, kept.values.find(&trace.result)) {
+            let is_tried = trace.task == task && trace.result == entry.result;
+            if let (true, Some(value)) = (is_tried, kept.values.find(&trace.result)) {
                 checks.push((trace.links.clone(), *value));
             }
         }
     }
-    let Item::Rule(near, far) = book.items[book.numbers[&one.key[..]] as usize] else { panic!("a rule") };
+    let Item::Rule([near, far]) = book.items[book.numbers[&one.key[..]] as usize] else { panic!("a rule") };
     Job { key: one.key.clone(), checks, formula: (names[near as usize].clone(), names[far as usize].clone()) }
 }
 
 fn note(kept: &Kept, book: &Book, one: &Finished, batch: &mut Kept) {
-    let result = digest(one.value);
+    let (result, task) = (digest(one.value), task_of(book, &one.key));
     if kept.values.find(&result).is_none() && batch.values.find(&result).is_none() {
         batch.values.push(result, one.value);
     }
-    batch.push_trace(Trace { key: one.key.clone(), links: one.links.clone(), result });
-    let same = |old: &Entry| old.result == result && !old.stale && old.needs.iter().eq(one.links.iter().map(|link| &link.name));
+    batch.push_trace(Trace { key: one.key.clone(), task, links: one.links.clone(), result });
+    let same = |old: &Entry| old.task == task && old.result == result && !old.stale && old.needs.iter().eq(one.links.iter().map(|link| &link.name));
     if kept.entries.find(&one.key).is_some_and(same) {
         return;
     }
@@ -157,24 +161,28 @@ fn note(kept: &Kept, book: &Book, one: &Finished, batch: &mut Kept) {
         }
     }
     let needs = one.links.iter().map(|link| link.name.clone()).collect();
-    batch.entries.push(one.key.clone(), Entry { key: one.key.clone(), result, needs, stale: false });
+    batch.entries.push(one.key.clone(), Entry { key: one.key.clone(), task, result, needs, stale: false });
 }
 
-/// The keys, in name order, whose entries aren't stale and lead to an input that was seen with another digest.
+/// The keys, in name order, whose entries aren't stale and that have another task than their entry, or lead to such a key or to
+/// an input that was seen with another digest.
 fn mark(kept: &Kept, book: &Book) -> Vec<Name> {
     let now = |name: &Name| match book.items[book.numbers[&name[..]] as usize] {
         Item::Input(number) => Some(digest(number)),
         Item::Rule(..) => None,
     };
+    let edited = |entry: &&Entry| entry.task != task_of(book, &entry.key);
     let mut ahead: Vec<&Name> = kept.seen.items.iter().filter(|link| now(&link.name) != Some(link.digest)).map(|link| &link.name).collect();
+    let edits: Vec<&Entry> = kept.entries.items.iter().filter(edited).collect();
+    ahead.extend(edits.iter().map(|entry| &entry.key));
     let mut users: HashMap<&Name, Vec<&Name>> = HashMap::default();
     for entry in kept.entries.items.iter() {
         for need in &entry.needs {
             users.entry(need).or_default().push(&entry.key);
         }
     }
-    let mut marks = BTreeSet::new();
-    let mut met = HashMap::<&Name, ()>::default();
+    let mut marks: BTreeSet<&Name> = edits.iter().filter(|entry| !entry.stale).map(|entry| &entry.key).collect();
+    let mut met: HashMap<&Name, ()> = edits.iter().map(|entry| (&entry.key, ())).collect();
     while let Some(name) = ahead.pop() {
         for user in users.get(name).into_iter().flatten() {
             if met.insert(user, ()).is_none() {
@@ -196,7 +204,7 @@ fn worked(book: &Book, names: &[Name], target: u32) -> Vec<Finished> {
     met[target as usize] = true;
     while let Some((key, at)) = stack.last_mut() {
         let key = *key;
-        let Item::Rule(near, far) = book.items[key as usize] else {
+        let Item::Rule([near, far]) = book.items[key as usize] else {
             stack.pop();
             continue;
         };
@@ -230,21 +238,21 @@ fn put_count(bytes: &mut Vec<u8>, count: usize) {
 
 /// The frame of a batch behind its gate byte.
 fn frame(batch: &Kept) -> Vec<u8> {
-    let mut bytes = vec![0, 0, 0, 0, 1, u8::from(batch.rules.is_some())];
-    bytes.extend_from_slice(batch.rules.as_ref().map_or(&[], |digest| &digest[..]));
+    let mut bytes = vec![0, 0, 0, 0, 3, 0];
     put_count(&mut bytes, batch.values.items.len());
     for value in &batch.values.items {
         bytes.extend_from_slice(&spelled(*value));
     }
+    put_count(&mut bytes, 0); // no name is gone
     put_count(&mut bytes, batch.seen.items.len());
     for link in &batch.seen.items {
         put_name(&mut bytes, &link.name);
         bytes.extend_from_slice(&link.digest);
     }
-    put_count(&mut bytes, 0);
     put_count(&mut bytes, batch.entries.items.len());
     for entry in &batch.entries.items {
         put_name(&mut bytes, &entry.key);
+        bytes.extend_from_slice(&entry.task);
         bytes.extend_from_slice(&entry.result);
         bytes.push(0);
         put_count(&mut bytes, entry.needs.len());
@@ -252,9 +260,11 @@ fn frame(batch: &Kept) -> Vec<u8> {
             put_name(&mut bytes, need);
         }
     }
+    put_count(&mut bytes, 0); // no marks
     put_count(&mut bytes, batch.traces.len());
     for trace in &batch.traces {
         put_name(&mut bytes, &trace.key);
+        bytes.extend_from_slice(&trace.task);
         put_count(&mut bytes, trace.links.len());
         for link in &trace.links {
             put_name(&mut bytes, &link.name);
@@ -309,28 +319,27 @@ impl<'s> Bytes<'s> {
 fn load(path: &str) -> Kept {
     let bytes = std::fs::read(path).expect("a readable state");
     let (mut body, mut kept) = (Bytes(&bytes[13..]), Kept::new());
-    let [kind, anew] = body.take();
-    assert!(bytes.starts_with(b"CARTE01\n\x01") && kind == 1 && anew == 1, "a first batch");
-    kept.rules = Some(body.take());
+    assert!(bytes.starts_with(b"CARTE01\n\x01") && body.take() == *b"\x03\0", "a first batch");
     for _ in 0..body.count() {
         let bytes: [u8; 9] = body.take();
         let value = i64::from_be_bytes(bytes[1..].try_into().unwrap());
         kept.values.push(digest(value), value);
     }
+    assert_eq!(body.count(), 0, "no name is gone");
     for _ in 0..body.count() {
         let link = body.link();
         kept.seen.push(link.name.clone(), link);
     }
+    for _ in 0..body.count() {
+        let (key, task, result, [_]) = (body.name(), body.take(), body.take(), body.take());
+        let needs = (0..body.count()).map(|_| body.name()).collect();
+        kept.entries.push(key.clone(), Entry { key, task, result, needs, stale: false });
+    }
     assert_eq!(body.count(), 0, "no marks");
     for _ in 0..body.count() {
-        let (key, result, [_]) = (body.name(), body.take(), body.take());
-        let needs = (0..body.count()).map(|_| body.name()).collect();
-        kept.entries.push(key.clone(), Entry { key, result, needs, stale: false });
-    }
-    for _ in 0..body.count() {
-        let key = body.name();
+        let (key, task) = (body.name(), body.take());
         let links = (0..body.count()).map(|_| body.link()).collect();
-        kept.push_trace(Trace { key, links, result: body.take() });
+        kept.push_trace(Trace { key, task, links, result: body.take() });
     }
     kept
 }
@@ -347,7 +356,6 @@ fn main() {
     let names: Vec<Name> = book.names.iter().map(|name| Name::from(*name)).collect();
     let finished = worked(&book, &names, book.numbers[words[4].as_bytes()]);
     let (nothing, mut batch, mut kept) = (Kept::new(), Kept::new(), Kept::new());
-    batch.rules = Some(book.rules);
     finished.iter().for_each(|one| note(&nothing, &book, one, &mut batch));
     kept.apply(&batch);
     let count = match words[1].as_str() {

@@ -12,7 +12,7 @@ const K: [u32; 64] = [
 
 pub type Digest = [u8; 32];
 
-pub const START: [u32; 8] = [0x6a09e667, 0xbb67ae85, 0x3c6ef372, 0xa54ff53a, 0x510e527f, 0x9b05688c, 0x1f83d9ab, 0x5be0cd19];
+const START: [u32; 8] = [0x6a09e667, 0xbb67ae85, 0x3c6ef372, 0xa54ff53a, 0x510e527f, 0x9b05688c, 0x1f83d9ab, 0x5be0cd19];
 
 // Eight rounds: the names of the eight words are turned in place of the words.
 macro_rules! round {
@@ -55,17 +55,8 @@ fn compress(state: &mut [u32; 8], block: &[u8; 64]) {
     }
 }
 
-/// Digests the whole blocks of a text; what is left of it stays.
-pub fn compress_all(state: &mut [u32; 8], text: &mut Vec<u8>) {
-    let whole = text.len() / 64 * 64;
-    for block in text[..whole].chunks_exact(64) {
-        compress(state, block.try_into().unwrap());
-    }
-    text.drain(..whole);
-}
-
 /// The digest of what was compressed and of the bytes that are left of `length`.
-pub fn finished(mut state: [u32; 8], left: &[u8], length: u64) -> Digest {
+fn finished(mut state: [u32; 8], left: &[u8], length: u64) -> Digest {
     let mut blocks = [0; 128];
     blocks[..left.len()].copy_from_slice(left);
     blocks[left.len()] = 0x80;
@@ -90,4 +81,23 @@ pub fn spelled(number: i64) -> [u8; 9] {
 
 pub fn digest(number: i64) -> Digest {
     finished(START, &spelled(number), 9)
+}
+
+/// The digest of a rule's task: of a byte for the kind of its book, and its printed formula.
+pub fn task(kind: u8, formula: &[u8]) -> Digest {
+    if formula.len() < 64 {
+        let mut text = [0; 64];
+        text[0] = kind;
+        text[1..=formula.len()].copy_from_slice(formula);
+        return digest_of(&text[..=formula.len()]);
+    }
+    digest_of(&[&[kind], formula].concat())
+}
+
+pub fn digest_of(text: &[u8]) -> Digest {
+    let (mut state, whole) = (START, text.len() / 64 * 64);
+    for block in text[..whole].chunks_exact(64) {
+        compress(&mut state, block.try_into().unwrap());
+    }
+    finished(state, &text[whole..], text.len() as u64)
 }

@@ -1,8 +1,7 @@
 // Reading the books of bench/shapes.py, and no others, as plain_shapes.rs does: rule files of numbers, texts without escapes and
 // formulas, and sheets that are a full rectangle without quotes. Formulas are written in their printed form. They are read by
 // precedence into flat code, with names as numbers; each rule has its needs in the order in which they are written, each once.
-use crate::plain_book::{HashMap, front};
-use crate::plain_sha256::{Digest, START, compress_all, finished};
+use crate::plain_book::HashMap;
 
 #[derive(Clone, Copy, PartialEq)]
 pub enum Value<'a> {
@@ -40,7 +39,7 @@ pub enum Item<'a> {
 pub struct Book<'a> {
     pub names: Vec<&'a [u8]>,
     pub items: Vec<Item<'a>>,
-    pub rules: Digest,
+    pub formulas: Vec<&'a [u8]>, // of an input no bytes
     code: Vec<Op>,
     needs: Vec<u32>,
     numbers: HashMap<&'a [u8], u32>,
@@ -219,11 +218,9 @@ pub fn read(text: &[u8], is_sheet: bool) -> Book<'_> {
         book.numbers = names.iter().zip(0..).map(|(name, at)| (*name, at)).collect();
     }
     book.items.reserve(names.len());
-    let mut rules = Vec::with_capacity(names.len());
-    for (at, (name, is_rule, text)) in lines.iter().enumerate() {
+    for (at, (_, is_rule, text)) in lines.iter().enumerate() {
         let formula = text.strip_prefix(b"\"").map_or(*text, |text| &text[..text.len() - 1]);
         let item = if *is_rule {
-            rules.push((front(name), *name, formula));
             book.rule(at as u32, formula)
         } else if text[0] == b'"' || !text[0].is_ascii_digit() {
             Item::Input(Value::Text(formula))
@@ -231,49 +228,8 @@ pub fn read(text: &[u8], is_sheet: bool) -> Book<'_> {
             Item::Input(Value::Number(number(text)))
         };
         book.items.push(item);
+        book.formulas.push(if *is_rule { formula } else { &[] });
     }
-    rules.sort_unstable_by(|a, b| (a.0, a.1).cmp(&(b.0, b.1)));
-    book.rules = rules_digest(&rules, is_sheet);
     book.names = names;
     book
-}
-
-fn rules_digest(sorted: &[(u64, &[u8], &[u8])], is_sheet: bool) -> Digest {
-    let (mut state, mut text, mut length) = (START, Vec::with_capacity(16_384), 0);
-    text.push(u8::from(is_sheet));
-    for (_, name, formula) in sorted {
-        text.push(name.len() as u8);
-        text.extend_from_slice(name);
-        text.extend_from_slice(&(formula.len() as u32).to_be_bytes());
-        text.extend_from_slice(formula);
-        if text.len() >= 8192 {
-            length += text.len() / 64 * 64;
-            compress_all(&mut state, &mut text);
-        }
-    }
-    length += text.len();
-    compress_all(&mut state, &mut text);
-    finished(state, &text, length as u64)
-}
-
-/// The reached rules, each behind those that it names.
-pub fn order(book: &Book, targets: &[u32]) -> Vec<u32> {
-    let (mut order, mut stack, mut met) = (Vec::new(), Vec::new(), vec![false; book.names.len()]);
-    for target in targets {
-        if !std::mem::replace(&mut met[*target as usize], true) {
-            stack.push((*target, 0));
-        }
-        while let Some((key, at)) = stack.last_mut() {
-            let Some(need) = book.needs(*key).get(*at) else {
-                order.push(*key);
-                stack.pop();
-                continue;
-            };
-            *at += 1;
-            if matches!(book.items[*need as usize], Item::Rule { .. }) && !std::mem::replace(&mut met[*need as usize], true) {
-                stack.push((*need, 0));
-            }
-        }
-    }
-    order
 }

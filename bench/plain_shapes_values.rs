@@ -1,6 +1,6 @@
 // The values of the books of bench/shapes.py, for plain_shapes.rs: their spelling, their digests, and what the code of a rule
 // gives. Texts that are made stay until the end.
-use crate::plain_sha256::{Digest, START, compress_all, finished};
+use crate::plain_sha256::{Digest, digest_of};
 use crate::plain_shapes_book::{Book, Func, Op, Value};
 
 /// Puts the spelling of a value in states and under digests behind these bytes.
@@ -19,11 +19,9 @@ pub fn spell(value: Value, bytes: &mut Vec<u8>) {
 }
 
 pub fn digest(value: Value) -> Digest {
-    let (mut bytes, mut state) = (Vec::with_capacity(16), START);
+    let mut bytes = Vec::with_capacity(16);
     spell(value, &mut bytes);
-    let length = bytes.len() as u64;
-    compress_all(&mut state, &mut bytes);
-    finished(state, &bytes, length)
+    digest_of(&bytes)
 }
 
 fn called<'a>(func: Func, values: &[Value<'a>]) -> Value<'a> {

@@ -1,7 +1,7 @@
 #!/usr/bin/env python3
 """Measures the rebuilders beside verifying traces: rebuilders.py PROGRAM [KEYS]
 
-Each rebuilder makes the four builds of builds.py on the generated book of 65,536 keys, or of KEYS: from nothing; the same
+Each rebuilder makes the first four builds of builds.py on the generated book of 65,536 keys, or of KEYS: from nothing; the same
 again; after an edit of three inputs; after an edit of an input on which about half of the reached keys depend. Told are
 instructions, counted by callgrind, as ratios to those under verifying traces. Constructive traces may cost at most 1.3 times.
 Deep traces are measured on a wide book, in which each rule is over three inputs and is a target itself, at most 2 times;
