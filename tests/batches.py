@@ -4,7 +4,7 @@
     batches.py small      the body of the small example, part by part
     batches.py flips      which bits of that body may be turned so that the bytes stay a batch, as runs of equal bytes
     batches.py table N    N random bodies in hexadecimal, each with `good` or `bad` behind it
-    batches.py both N     N random batches both ways, and each with some changes; prints how many
+    batches.py both N     N random batches both ways, of kind 4 and of kind 3, and each with some changes; prints how many
 """
 
 import hashlib
@@ -23,7 +23,8 @@ class NoBatch(Exception):
 
 
 # A value is None, a number, bytes that are UTF-8, or ("bad", 1 to 5). A batch is a tuple of the ten parts: start is
-# "go on" or "cleared", and chain is None or a list of names.
+# "go on" or "cleared", and chain is None or a list of names. A deep trace has the tasks beneath its key in the place of
+# its own task; in a body of kind 3, which isn't written any more, it has that one too.
 
 PARTS = ("start", "values", "gone", "seen", "entries", "stale", "verifying", "constructive", "deep", "chain")
 
@@ -68,6 +69,11 @@ def spell_trace(trace):
     return spell_name(name) + task + spell_links(links) + result
 
 
+def spell_deep(trace):
+    name, tasks, links, result = trace
+    return spell_name(name) + spell_links(tasks) + spell_links(links) + result
+
+
 def spell_chain(chain):
     return b"\x00" if chain is None else b"\x01" + spell_names(chain)
 
@@ -84,15 +90,20 @@ def spell_traces(traces):
     return count(traces) + b"".join(map(spell_trace, traces))
 
 
-SPELLINGS = (spell_start, spell_values, spell_names, spell_links, spell_entries, spell_names, *[spell_traces] * 3, spell_chain)
+def spell_deeps(traces):
+    return count(traces) + b"".join(map(spell_deep, traces))
 
 
-def spell_parts(batch):
-    return [("kind", b"\x03")] + [(part, spelled(piece)) for part, spelled, piece in zip(PARTS, SPELLINGS, batch)]
+FRONT = (spell_start, spell_values, spell_names, spell_links, spell_entries, spell_names, spell_traces, spell_traces)
+SPELLINGS = {3: (*FRONT, spell_traces, spell_chain), 4: (*FRONT, spell_deeps, spell_chain)}
 
 
-def spell(batch):
-    return b"".join(part for _, part in spell_parts(batch))
+def spell_parts(batch, kind=4):
+    return [("kind", bytes([kind]))] + [(part, spelled(piece)) for part, spelled, piece in zip(PARTS, SPELLINGS[kind], batch)]
+
+
+def spell(batch, kind=4):
+    return b"".join(part for _, part in spell_parts(batch, kind))
 
 
 class Reader:
@@ -163,24 +174,33 @@ class Reader:
     def trace(self):
         return (self.name(), self.digest(), self.list(self.link), self.digest())
 
+    def deep(self):
+        return (self.name(), self.list(self.link), self.list(self.link), self.digest())
+
     def chain(self):
         return self.list(self.name) if self.byte(1) else None
 
-    def batch(self):
-        if self.byte() != 3:
+    def batch(self, kind):
+        if self.byte() != kind:
             raise NoBatch
         front = (self.start(), *[self.list(item) for item in (self.value, self.name, self.link, self.entry, self.name)])
-        found = (*front, *[self.list(self.trace) for _ in range(3)], self.chain())
+        found = (*front, *[self.list(item) for item in (self.trace, self.trace, self.trace if kind == 3 else self.deep)], self.chain())
         if self.at != len(self.body):
             raise NoBatch
         return found
 
 
-def read(body):
+def read(body, kind=4):
     try:
-        return Reader(body).batch()
+        return Reader(body).batch(kind)
     except NoBatch:
         return None
+
+
+def read_any(body):
+    """The batch of a body of version 2; that of kind 3 is read without its deep traces."""
+    batch = read(body, 3)
+    return read(body) if batch is None else (*batch[:8], [], batch[9])
 
 
 def digest(value):
@@ -253,7 +273,7 @@ def some_digest(dice):
     return dice.choice([bytes(32), b"\xff" * 32, bytes(dice.randrange(256) for _ in range(32))])
 
 
-def some_batch(dice, most=3):
+def some_batch(dice, most=3, kind=4):
     def some(item):
         return [item() for _ in range(dice.randrange(most + 1))]
 
@@ -269,9 +289,12 @@ def some_batch(dice, most=3):
     def trace():
         return (name(), some_digest(dice), some(link), some_digest(dice))
 
+    def deep():
+        return (name(), some(link), some(link), some_digest(dice))
+
     start = dice.choice(["go on", "cleared"])
     front = (start, some(lambda: some_value(dice)), some(name), some(link), some(entry), some(name))
-    return (*front, some(trace), some(trace), some(trace), None if dice.random() < 0.5 else some(name))
+    return (*front, some(trace), some(trace), some(trace if kind == 3 else deep), None if dice.random() < 0.5 else some(name))
 
 
 def changed(dice, body):
@@ -287,22 +310,23 @@ def changed(dice, body):
     ])
 
 
-def check(body):
-    """A body is read as one batch, whose spelling it is."""
-    batch = read(body)
-    assert batch is None or spell(batch) == body
+def check(body, kind=4):
+    """A body is read as one batch, whose spelling it is, and as none of the other kind."""
+    batch = read(body, kind)
+    assert batch is None or spell(batch, kind) == body and read(body, 7 - kind) is None
     return batch
 
 
 def both(number):
     dice = random.Random(1)
     good = 0
-    for _ in range(number):
-        batch = some_batch(dice)
-        body = spell(batch)
-        assert check(body) == batch
+    for at in range(number):
+        kind = 3 + at % 2
+        batch = some_batch(dice, kind=kind)
+        body = spell(batch, kind)
+        assert check(body, kind) == batch
         for _ in range(40):
-            good += check(changed(dice, body)) is not None
+            good += check(changed(dice, body), kind) is not None
     return f"{number} batches both ways, and {good} of {40 * number} changed bodies are batches"
 
 

@@ -91,11 +91,17 @@ class Book:
         self.needs[name] = tuple(needs)
         return self.values[name]
 
-    def task(self, name, way=None):
-        """What a rule's task is, in the place of its digest: the kind of the book with its formula, and of a deep trace all rules."""
-        if way == "deep":
-            return self.is_sheet, self.rules
+    def task(self, name):
+        """What a rule's task is, in the place of its digest: the kind of the book with its formula."""
         return (self.is_sheet, self.rules[name]) if name in self.rules else None
+
+    def named(self, name, way):
+        """What a trace of a rule names as its task: a deep one each rule beneath it with its own."""
+        return tuple((rule, self.task(rule)) for rule in self.rules_beneath(name)) if way == "deep" else self.task(name)
+
+    def has_task(self, name, way, task):
+        """Whether what a trace names is so now."""
+        return all(self.task(rule) == seen for rule, seen in task) if way == "deep" else self.task(name) == task
 
     def needs_of(self, name):
         self.clean(name)
@@ -108,6 +114,16 @@ class Book:
         found = {}
         for need in self.needs_of(name):
             found.update(dict.fromkeys(self.beneath(need)))
+        return tuple(found)
+
+    def rules_beneath(self, name):
+        """The rule itself and the rules met when its needs are walked depth first, each at its first place."""
+        found, ahead = {}, [name]
+        while ahead:
+            rule = ahead.pop()
+            if rule not in found and rule in self.rules:
+                found[rule] = None
+                ahead += reversed(self.needs_of(rule))
         return tuple(found)
 
     def links(self, names):
@@ -168,7 +184,7 @@ def is_held(rebuilder, begun, book, key):
     entry = begun.entries.get(key)
     if rebuilder == "dirty":
         return entry is not None and entry.fresh
-    return any(task == book.task(key, rebuilder) and all(now(book, rebuilder, name) == seen for name, seen in links)
+    return any(book.has_task(key, rebuilder, task) and all(now(book, rebuilder, name) == seen for name, seen in links)
                and (rebuilder != "verifying" or entry.result == result)
                for task, links, result in begun.traces[rebuilder].get(key, ()))
 
@@ -197,7 +213,7 @@ class Restarting:
 
     def traces(self, key):
         entry, found = self.begun.entries.get(key), self.begun.traces.get(self.rebuilder, {}).get(key, [])
-        found = [trace for trace in found if trace[0] == self.book.task(key, self.rebuilder)]
+        found = [trace for trace in found if self.book.has_task(key, self.rebuilder, trace[0])]
         return [trace for trace in found if self.rebuilder != "verifying" or entry and entry.result == trace[2]]
 
     def checked(self, key):
@@ -268,7 +284,7 @@ def finish(rebuilder, left, begun, book, key, ran):
         left.store.setdefault(result, book.clean(key))
     if ran and rebuilder in WAYS:
         links = book.links(book.beneath(key) if rebuilder == "deep" else book.needs_of(key))
-        trace = book.task(key, rebuilder), links, result
+        trace = book.named(key, rebuilder), links, result
         left.traces[rebuilder][key] = [trace] + [it for it in left.traces[rebuilder].get(key, []) if it != trace]
 
 
@@ -341,7 +357,7 @@ def trace_cause(rebuilder, begun, book, name):
     traces = begun.traces[rebuilder].get(name)
     if not traces:
         return b"no record"
-    traces = [trace for trace in traces if trace[0] == book.task(name, rebuilder)]
+    traces = [trace for trace in traces if book.has_task(name, rebuilder, trace[0])]
     if not traces:
         return b"rule changed"
     if rebuilder == "verifying" and any(all(now(book, rebuilder, need) == seen for need, seen in links) for _, links, _ in traces):

@@ -1,7 +1,7 @@
 #!/usr/bin/env python3
 """Drives the built program over states near their limit, and over a rewritten one with a bit turned: full_states.py [PROGRAM] [--only PART] [--stride N]
 
-The states have up to 268,435,456 bytes, most of them in a few thousand texts, and are written by the second reading (`states.py`); what the
+The states have up to 536,870,912 bytes, most of them in a few thousand texts, and are written by the second reading (`states.py`); what the
 program has to leave is worked out by it too. A state that is full of what no longer counts is rewritten where there is room for what is
 live, and the build or the clearing goes on; one that is full of what is live is refused with both numbers, and stays as it is; and one
 that has too little room behind a rewriting is refused with the number of the rewritten file. With --stride only each Nth bit is turned.

@@ -93,13 +93,12 @@ def fold_one(data):
 
 
 def raised(old, rules, is_sheet):
-    """What is kept in version 1 under the tasks of these rules: nothing where its rules are others."""
+    """What is kept in version 1 under the tasks of these rules, without its deep traces: nothing where its rules are others."""
     every, each = tasks.all_rules(rules, is_sheet), tasks.tasks(rules, is_sheet)
     if old.rules != every:
         return states.Kept()
     entries = {name: (name, each[name], *rest) for name, *rest in old.entries.values()}
-    task = lambda way, name: every if way == "deep" else each[name]
-    traces = {way: [(name, task(way, name), tuple(links), result) for name, links, result in old.traces[way]] for way in states.WAYS}
+    traces = {way: [(name, each[name], tuple(links), result) for name, links, result in old.traces[way] if way != "deep"] for way in states.WAYS}
     return states.Kept(old.values, old.seen, entries, old.stale, traces, old.chain)
 
 
@@ -112,7 +111,7 @@ def migrated(data, rules, is_sheet):
 
 def is_old(data):
     bodies = states.read(data).bodies
-    return bool(bodies) and bodies[-1][1][0] == 1
+    return bool(bodies) and bodies[0][1][0] == 1
 
 
 def small_one():
@@ -172,18 +171,35 @@ def by_hand(both):
         runs.same("and nothing was written", (both.read(), len(both.read("new")) <= 9), (old, True))
 
 
+def kind_three(both):
+    """A state of kind 3 keeps all but its deep traces, which name no rules."""
+    runs, (start, values, gone, seen, entries, stale, *_) = both.runs, batches.small()
+    every = tasks.all_rules({b"b1": ("ref", b"a1+a2"), b"b2": ("ref", b"b1*2")}, False)
+    deep = [(name, every, seen, result) for name, _, result, *_ in entries]
+    runs.put("small.toml", SMALL.format("b1*2"))
+    old = states.committed(b"", batches.spell((start, values, gone, seen, entries, stale, [], [], deep, None), 3))
+    runs.same("deep traces of kind 3", both.over(old, [*BUILD, "--rebuilder", "deep"]), built(2))
+    runs.same("and again", run(runs, [*BUILD, "--rebuilder", "deep"], b""), built(0, reused=1))
+    old = states.committed(b"", batches.spell(batches.small(), 3))
+    runs.same("verifying ones", (both.over(old, BUILD), both.read()), (built(0, reused=2), old))
+
+
 def orders(both):
     """Bodies of both versions in each order, and kinds that there aren't."""
-    runs, one, two = both.runs, small_one(), batches.spell(batches.small())
-    cleared = batches.spell(("cleared", *batches.small()[1:]))
+    runs, one, three, four = both.runs, small_one(), batches.spell(batches.small(), 3), batches.spell(batches.small())
+    cleared = {kind: batches.spell(("cleared", *batches.small()[1:]), kind) for kind in (3, 4)}
     runs.put("small.toml", SMALL.format("b1*2"))
     bad = lambda at: (7, b"", b"carte: bad state at byte %d\n" % at)
     cases = [
-        ("1 behind 2", [two, one], 536), ("1 behind 1 and 2", [one, cleared, one], 436 + 5 + len(cleared)), ("2 behind 1, not cleared", [one, two], 436),
-        ("2 behind 1, cleared", [one, cleared], None), ("2 behind both", [one, cleared, two], None), ("1 behind 1", [one, one], None),
+        ("1 behind 4", [four, one], 536), ("1 behind 3", [three, one], 536), ("3 behind 4", [four, three], 536), ("4 behind 3", [three, four], None),
+        ("3 behind 3", [three, three], None), ("3 behind 3 and 4", [three, four, three], 536 + 5 + len(four)), ("1 behind 1", [one, one], None),
+        ("3 behind 1 and 4", [one, cleared[4], three], 436 + 5 + len(four)), ("4 behind 1 and 3", [one, cleared[3], four], None),
     ]
-    cases += [(f"kind {kind} behind {len(front)}", [*front, bytes([kind]) + two[1:]], 8 + sum(5 + len(body) for body in front))
-              for kind in (0, 2, 4, 5, 255) for front in ([], [one], [two])]
+    for kind, plain in ((3, three), (4, four)):
+        cases += [(f"1 behind 1 and {kind}", [one, cleared[kind], one], 436 + 5 + len(plain)), (f"{kind} behind 1, not cleared", [one, plain], 436),
+                  (f"{kind} behind 1, cleared", [one, cleared[kind]], None), (f"{kind} behind both", [one, cleared[kind], plain], None)]
+    cases += [(f"kind {kind} behind {len(front)}", [*front, bytes([kind]) + four[1:]], 8 + sum(5 + len(body) for body in front))
+              for kind in (0, 2, 5, 255) for front in ([], [one], [three], [four])]
     for what, bodies, at in cases:
         data = b""
         for body in bodies:
@@ -223,30 +239,34 @@ def written(both, what, before, after, history):
 
 
 def answers(both, what, before, history, chance, rebuilder, counts):
-    """What commands over a state of version 1 answer is what the earlier program answers over it."""
-    runs, targets = both.runs, [it.decode() for it in history.targets()]
+    """What commands over a state of version 1 answer is what the earlier program answers over it, but under deep traces, which aren't kept:
+    then what it answers over nothing."""
+    runs, targets, found = both.runs, [it.decode() for it in history.targets()], b"" if rebuilder == "deep" else before
     words = choices(chance, rebuilder)
+    # Over nothing there is no chain either, which tells a build that restarts where to begin.
+    as_told = values_of if rebuilder == "deep" and "restarting" in words else lambda reply: reply
     listed = [history.file, "state", *words, *targets]
     runs.put(history.file, history.book())
-    runs.put("state", before)
+    runs.put("state", found)
     wanted = run(both.old, ["build", *listed, "--list"], b"")
     got = both.over(before, ["build", *listed, "--list"])
-    runs.same(f"{what}, a build {listed}:\n{history.book().decode()}", got, wanted)
+    runs.same(f"{what}, a build {listed}:\n{history.book().decode()}", as_told(got), as_told(wanted))
     counts["refused" if wanted[0] == 3 else "reused" if wanted[0] == 0 and b"reused 0" not in wanted[1] else "ran"] += 1
     if wanted[0] == 1:
         return
     after = both.read()
     start = written(both, what, before, after, history) if is_old(before) else b""
     if start:
-        runs.same(f"{what}, cut off behind the migration", both.over(start, ["build", *listed, "--list"]), wanted)
+        runs.same(f"{what}, cut off behind the migration", as_told(both.over(start, ["build", *listed, "--list"])), as_told(wanted))
     runs.same(f"{what}, from nothing", values_of(both.over(b"", ["build", *listed])), values_of(wanted))
-    runs.put("state", before)
+    runs.put("state", found)
     told = run(both.old, ["explain", *listed], b"")
     runs.same(f"{what}, explained", (both.over(before, ["explain", *listed]), both.read()), (told, before))
     script = Lines(history, chance, collections.Counter()).script(8)
-    runs.put("state", before)
+    runs.put("state", found)
     said = run(both.old, ["session", history.file, "state", *words], script)
-    runs.same(f"{what}, a session {words}:\n{history.book().decode()}\n{script}", both.over(before, ["session", history.file, "state", *words], script), said)
+    got = both.over(before, ["session", history.file, "state", *words], script)
+    runs.same(f"{what}, a session {words}:\n{history.book().decode()}\n{script}", as_told(got), as_told(said))
     runs.put("state", after)
 
 
@@ -328,20 +348,29 @@ def crashes(both):
 
 # Turned bits
 
+def as_three(data):
+    """A state of kind 4 as one of kind 3, whose deep traces name the task of their key."""
+    old = b""
+    for _, body in states.read(data).bodies:
+        *front, deep, chain = batches.read(body)
+        old = states.committed(old, batches.spell((*front, [(name, tasks[0][1], links, result) for name, tasks, links, result in deep], chain), 3))
+    return old
+
+
 def turned_bits(both, stride):
-    """Each bit of a small state of either version, of two builds: no wrong value but under dirty bits."""
+    """Each bit of a small state of each kind, of two builds: no wrong value but under dirty bits."""
     for rebuilder in REBUILDERS:
-        for version, runs in ((1, both.old), (2, both.runs)):
+        for kind, runs in ((1, both.old), (3, both.runs), (4, both.runs)):
             both.runs.put("state", b"")
             for inputs in (FIRST, NOW):
                 both.runs.put("book.toml", book(inputs))
                 run(runs, ["build", "book.toml", "state", "middles", "--rebuilder", rebuilder], b"")
-            data, counts = both.read(), collections.Counter()
+            data, counts = as_three(both.read()) if kind == 3 else both.read(), collections.Counter()
             for bit in range(0, 8 * len(data), stride):
                 counts[worst(both.runs, rebuilder, batches.turned(data, bit))] += 1
-            both.runs.same(f"{rebuilder}, version {version}: other ends", set(counts) <= {"bad state", "wrong", "refused", "right"}, True)
-            both.runs.same(f"{rebuilder}, version {version}: wrong values", counts["wrong"] if rebuilder != "dirty" else 0, 0)
-            print(f"{rebuilder}, version {version}: {sum(counts.values())} bits, " + ", ".join(f"{times} {it}" for it, times in sorted(counts.items())), flush=True)
+            both.runs.same(f"{rebuilder}, kind {kind}: other ends", set(counts) <= {"bad state", "wrong", "refused", "right"}, True)
+            both.runs.same(f"{rebuilder}, kind {kind}: wrong values", counts["wrong"] if rebuilder != "dirty" else 0, 0)
+            print(f"{rebuilder}, kind {kind}: {sum(counts.values())} bits, " + ", ".join(f"{times} {it}" for it, times in sorted(counts.items())), flush=True)
 
 
 def released(folder):
@@ -363,7 +392,7 @@ def main():
     said.add_argument("--only")
     said = said.parse_args()
     sys.setrecursionlimit(20_000)
-    parts = [("by hand", by_hand), ("orders", orders), ("histories", lambda both: histories(both, said.histories, said.seed)),
+    parts = [("by hand", by_hand), ("kind 3", kind_three), ("orders", orders), ("histories", lambda both: histories(both, said.histories, said.seed)),
              ("crashes", crashes), ("turned bits", lambda both: turned_bits(both, said.stride))]
     failed = 0
     with tempfile.TemporaryDirectory() as kept:

@@ -104,7 +104,8 @@ def builds(runs):
 
 def generated(runs):
     """Generated books, with values and counts that weren't taken from the program; and the same books as rule files. BOOK isn't read."""
-    cases = [(1, 2, 1, 0, 1), (1, 1_000, 100, 242, 483), (1, 20_000, 2_000, 6, 10_386), (7, 20_000, 2_000, 153, 10_598), (7, 65_536, 6_553, 65, 34_449)]
+    cases = [(1, 2, 1, 0, 1), (1, 1_000, 100, 242, 483), (1, 20_000, 2_000, 6, 10_386), (7, 20_000, 2_000, 153, 10_598), (7, 65_536, 6_553, 65, 34_449),
+             (7, 262_144, 26_214, 203, 137_098)]
     for seed, count, inputs, value, ran in cases:
         state = f"made.{seed}.{count}"
         words = ("generate", "folder", state, str(seed), str(count))
@@ -172,7 +173,7 @@ def words(runs):
     runs.wants((2, "", "carte: usage: no target\n"), "explain", "sums.toml", "unmade")
     for command in ("clean", "session"):
         runs.wants((2, "", "carte: usage: targets not taken\n"), command, "sums.toml", "unmade", "total")
-    for numbers in (("1",), ("1", "1"), ("1", "65537"), ("-1", "2"), ("1", "+2"), ("1", "2", "3")):
+    for numbers in (("1",), ("1", "1"), ("1", "262145"), ("-1", "2"), ("1", "+2"), ("1", "2", "3")):
         runs.wants((2, "", "carte: usage: generate takes a seed and a count\n"), "generate", "sums.toml", "unmade", "--", *numbers)
     runs.wants((2, "", 'carte: usage: bad target "A1"\n'), "build", "sums.toml", "unmade", "A1")
     runs.same("a state of no command", (runs.folder / "unmade").exists(), False)

@@ -17,7 +17,7 @@ import tomllib
 
 from formulas import Bad, Fault, MOST_TEXT, NAME, evaluate, in_range, printed, quoted, read_formula
 
-MOST_BYTES, MOST_KEYS = 16_777_216, 65_536
+MOST_BYTES, MOST_KEYS = 16_777_216, 262_144
 BOOKS = pathlib.Path(__file__).resolve().parent / "books"
 
 

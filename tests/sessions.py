@@ -280,9 +280,9 @@ def inputs(runs):
     wanted = (b"set A1\nnot set: B1 is a rule\nset Z9\nB2 = 62\nZ9 = 5\nran 2, given up 0, reused 0\nline 5: not understood\nset ZZ9999\n"
               b"ZZ9999 = \"a\\nb\"\nran 0, given up 0, reused 0\n")
     runs.same("set, of a sheet", run(runs, ["session", "p.csv", "cells.state"], script), (0, wanted, b""))
-    runs.put("full.csv", "\n".join(",".join("1" for _ in range(512)) for _ in range(128)) + "\n")
-    script = b"set A1 2\nset A129 3\nset A129 empty\nbuild A1 A129\n"
-    wanted = b"set A1\nnot set: more than 65536 keys\nnot set: more than 65536 keys\nA1 = 2\nA129 = empty\nran 0, given up 0, reused 0\n"
+    runs.put("full.csv", "\n".join(",".join("1" for _ in range(512)) for _ in range(512)) + "\n")
+    script = b"set A1 2\nset A513 3\nset A513 empty\nbuild A1 A513\n"
+    wanted = b"set A1\nnot set: more than 262144 keys\nnot set: more than 262144 keys\nA1 = 2\nA513 = empty\nran 0, given up 0, reused 0\n"
     runs.same("set, of a full sheet", run(runs, ["session", "full.csv", "full.state"], script), (0, wanted, b""))
 
 

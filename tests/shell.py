@@ -38,7 +38,7 @@ class Shell:
         if name not in self.inputs and not self.is_sheet:
             return b"not set: " + name + b" is unknown\n"
         if name not in self.inputs and len(self.inputs) + len(self.rules) >= MOST_KEYS:
-            return b"not set: more than 65536 keys\n"
+            return b"not set: more than 262144 keys\n"
         self.inputs[name] = value
         return b"set " + name + b"\n"
 

@@ -11,7 +11,7 @@ from dataclasses import dataclass, field
 import batches
 
 HEADER = b"CARTE01\n"
-LIMIT = 268_435_456
+LIMIT = 536_870_912
 WIDE = 65_536
 WAYS = ("verifying", "constructive", "deep")
 
@@ -127,23 +127,24 @@ class Kept:
         self.stale -= {entry[0] for entry in entries}
         self.stale |= {name for name in stale if name in self.entries}
         for way, more in zip(WAYS, traces):
-            self.traces[way] += [(name, task, tuple(links), result) for name, task, links, result in more]
+            self.traces[way] += [(name, tuple(task) if way == "deep" else task, tuple(links), result) for name, task, links, result in more]
         self.chain = self.chain if chain is None else chain
 
 
 def counting(bodies):
     """Without those of version 1 in front, of which nothing counts any more behind one of version 2 that begins cleared."""
     behind = list(itertools.dropwhile(lambda it: it[1][:1] == b"\1", bodies))
-    return behind if behind and behind[0][1][:2] == b"\3\2" else bodies
+    return behind if behind and behind[0][1][:2] in (b"\3\2", b"\4\2") else bodies
 
 
 def fold(layout):
-    """What bodies of version 2 keep."""
-    kept = Kept()
+    """What bodies of version 2 keep: those of kind 3 come before those of kind 4."""
+    kept, least = Kept(), 3
     for at, body in counting(layout.bodies):
-        batch = batches.read(body)
-        if batch is None:
+        batch = batches.read_any(body)
+        if batch is None or body[0] < least:
             raise BadState(at)
+        least = body[0]
         kept.add(batch)
     return kept
 

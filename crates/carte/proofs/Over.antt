@@ -14,7 +14,7 @@ real_sink before after = record { tells = ⊥; old = record { taken = []; handed
 
 module _ (words : List (List ℕ)) (book : OverSource) (state : OverDisk) (status : Status) where
   abbrev Comes : OverSource → OverSink → OverSink → Type 0
-  Comes script out err = IsOutcome 268435456 (record { words = words; book = book; script = script; state = state; out = out; err = err }) status
+  Comes script out err = IsOutcome 536870912 (record { words = words; book = book; script = script; state = state; out = out; err = err }) status
 
   pub over_real : (old new : SourceState) (out_before out err_before err : ℕ) → old ≡ unread → out_before ≡ 0 → err_before ≡ 0
       → Comes (real_source old new) (real_sink out_before out) (real_sink err_before err) → OverBoth words book state status

@@ -21,7 +21,7 @@ pub record OverBoth (words : List (List ℕ)) (book : OverSource) (state : OverD
   pub script : SourceState
   pub out : ℕ
   pub err : ℕ
-  pub outcome : IsOutcome 268435456 (record { words = words; book = book; script = untold_source script; state = state; out = untold_sink out; err = untold_sink err }) status
+  pub outcome : IsOutcome 536870912 (record { words = words; book = book; script = untold_source script; state = state; out = untold_sink out; err = untold_sink err }) status
 
 pub record OverBook (words : List (List ℕ)) (book : OverSource) (status : Status) : Type 0 where
   pub state : ℕ

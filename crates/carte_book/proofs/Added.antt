@@ -36,7 +36,7 @@ seen (Some x) = refl
 
 -- the book with what was put into its map, where it had room
 pub added : {S : Type 0} (q : Kind) (m n : Map S) (k : List ℕ) (x : CodeItem) (r : Result (Unit {0}) AddFault)
-    → (get (items_view m) k ≡ option_map item_view (hash.get name_eq m k)) → keys_of (book_in q m) < 65536
+    → (get (items_view m) k ≡ option_map item_view (hash.get name_eq m k)) → keys_of (book_in q m) < 262144
     → OnOk r (hash.get name_eq m k ≡ None) → OnOk r (hash.Updates name_eq m n k (Some x)) → IfErr r (IsUnfit m k) → OnErr r (n.entries ≡ m.entries)
     → Adds (book_in q m) (book_in q n) k (item_view x) r
 added q m n k x (Ok u) found room new put fault kept =

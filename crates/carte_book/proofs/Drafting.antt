@@ -31,7 +31,7 @@ or_false true b e = refl
 or_false false b e = sym e
 
 -- what a draft holds that isn't over is its book
-held : (d : Draft) (m : Content) → items_of d ≡ m → btree_set_len d.beyond ≡ 0 → d.is_over ≡ false → length (entries (items_of d)) ≤ 65536 → Holds d m
+held : (d : Draft) (m : Content) → items_of d ≡ m → btree_set_len d.beyond ≡ 0 → d.is_over ≡ false → length (entries (items_of d)) ≤ 262144 → Holds d m
 held d m is none over few = record {
   names = λ rules q. ap (λ (i : Content). is_some (get i q)) (sym is) ∙ or_false (is_some (get (items_of d) q)) (contains name_cmp d.beyond q) (no_other d.beyond q none);
   few = few;
@@ -47,15 +47,15 @@ holds_none d is none over =
     let few : length (entries (items_of d)) ≡ 0 = ap (λ (m : Content). length (entries m)) is ∙ sym (len-entries empty) ∙ len-empty name_cmp Item in
     held d empty is none over (omega (arith, few))
 
-not_over : (d : Draft) (m : Content) → Holds d m → length (entries (items_of d)) < 65536 → d.is_over ≡ false
+not_over : (d : Draft) (m : Content) → Holds d m → length (entries (items_of d)) < 262144 → d.is_over ≡ false
 not_over d m h room = go d.is_over refl
   where
     go : (b : Bool) → d.is_over ≡ b → d.is_over ≡ false
     go false e = e
-    go true e = let full : 65536 ≤ length (entries (items_of d)) = h.full e in absurd (omega (arith, full, room))
+    go true e = let full : 262144 ≤ length (entries (items_of d)) = h.full e in absurd (omega (arith, full, room))
 
 -- one more that the book takes
-holds_more : (d e : Draft) (m : Content) (k : List ℕ) (x : Item) → Holds d m → get m k ≡ None → length (entries (items_of d)) < 65536 → items_of e ≡ insert (items_of d) k x → e.beyond ≡ d.beyond → e.is_over ≡ d.is_over → Holds e (insert m k x)
+holds_more : (d e : Draft) (m : Content) (k : List ℕ) (x : Item) → Holds d m → get m k ≡ None → length (entries (items_of d)) < 262144 → items_of e ≡ insert (items_of d) k x → e.beyond ≡ d.beyond → e.is_over ≡ d.is_over → Holds e (insert m k x)
 holds_more d e m k x h new room put beside same =
     let over : d.is_over ≡ false = not_over d m h room in
     let is : items_of d ≡ m = h.all over in
@@ -66,29 +66,29 @@ holds_more d e m k x h new room put beside same =
     held e (insert m k x) now (ap btree_set_len beside ∙ h.alone over) (same ∙ over) (omega (arith, grown, long, long_now, room))
 
 -- one more that the book is asked to take
-pub takes : (d e : Draft) (m : Content) (k : List ℕ) (x : Item) (r : Result (Unit {0}) AddFault) → Holds d m → length (entries (items_of d)) < 65536 → Adds (book_view d.book) (book_view e.book) k x r → e.beyond ≡ d.beyond → e.is_over ≡ d.is_over → Takes k x m e r
+pub takes : (d e : Draft) (m : Content) (k : List ℕ) (x : Item) (r : Result (Unit {0}) AddFault) → Holds d m → length (entries (items_of d)) < 262144 → Adds (book_view d.book) (book_view e.book) k x r → e.beyond ≡ d.beyond → e.is_over ≡ d.is_over → Takes k x m e r
 takes d e m k x (Ok u) h room a beside same =
     let new : get m k ≡ None = ap (λ (i : Content). get i k) (sym (h.all (not_over d m h room))) ∙ a.0 in
     (new, holds_more d e m k x h new room (ap (λ (b : Book). b.items) a.2) beside same)
 takes d e m k x (Err Twice) h room a beside same = ap (λ (i : Content). is_some (get i k)) (sym (h.all (not_over d m h room))) ∙ a.0
-takes d e m k x (Err Limit) h room a beside same = let full : 65536 ≤ length (entries (items_of d)) = a.1 in absurd (omega (arith, full, room))
+takes d e m k x (Err Limit) h room a beside same = let full : 262144 ≤ length (entries (items_of d)) = a.1 in absurd (omega (arith, full, room))
 takes d e m k x (Err NoMemory) h room a beside same = ap (λ (i : Content). get i k) (sym (h.all (not_over d m h room))) ∙ a.0
 
-full_before : (d : Draft) (m : Content) → Holds d m → 65536 ≤ length (entries (items_of d)) → 65536 ≤ length (entries m)
+full_before : (d : Draft) (m : Content) → Holds d m → 262144 ≤ length (entries (items_of d)) → 262144 ≤ length (entries m)
 full_before d m h full = go d.is_over refl
   where
-    go : (b : Bool) → d.is_over ≡ b → 65536 ≤ length (entries m)
+    go : (b : Bool) → d.is_over ≡ b → 262144 ≤ length (entries m)
     go false e = let is : length (entries (items_of d)) ≡ length (entries m) = ap (λ (i : Content). length (entries i)) (h.all e) in omega (arith, is, full)
-    go true e = let over : 65536 < length (entries m) = h.more e in omega (arith, over)
+    go true e = let over : 262144 < length (entries m) = h.more e in omega (arith, over)
 
 -- one more for which it has no room
-holds_over : (d e : Draft) (m : Content) (k : List ℕ) (x : Item) → Holds d m → get m k ≡ None → 65536 ≤ length (entries (items_of d)) → items_of e ≡ items_of d → e.is_over ≡ true
+holds_over : (d e : Draft) (m : Content) (k : List ℕ) (x : Item) → Holds d m → get m k ≡ None → 262144 ≤ length (entries (items_of d)) → items_of e ≡ items_of d → e.is_over ≡ true
     → (kind_of e ≡ Rules → (q : List ℕ) → is_some (get (insert m k x) q) ≡ (is_some (get (items_of e) q) || contains name_cmp e.beyond q)) → Holds e (insert m k x)
 holds_over d e m k x h new full same over names =
     let grown : length (entries (insert m k x)) ≡ length (entries m) + 1 = longer false m k x (ap is_some new) in
-    let before : 65536 ≤ length (entries m) = full_before d m h full in
+    let before : 262144 ≤ length (entries m) = full_before d m h full in
     let long : length (entries (items_of e)) ≡ length (entries (items_of d)) = ap (λ (i : Content). length (entries i)) same in
-    let few : length (entries (items_of d)) ≤ 65536 = h.few in
+    let few : length (entries (items_of d)) ≤ 262144 = h.few in
     record {
       names = names;
       few = omega (arith, long, few);
@@ -99,7 +99,7 @@ holds_over d e m k x h new full same over names =
     }
 
 -- in a sheet it is noted
-pub holds_noted : (d e : Draft) (m : Content) (k : List ℕ) (x : Item) → Holds d m → get m k ≡ None → 65536 ≤ length (entries (items_of d)) → kind_of e ≡ Sheet → items_of e ≡ items_of d → e.is_over ≡ true → Holds e (insert m k x)
+pub holds_noted : (d e : Draft) (m : Content) (k : List ℕ) (x : Item) → Holds d m → get m k ≡ None → 262144 ≤ length (entries (items_of d)) → kind_of e ≡ Sheet → items_of e ≡ items_of d → e.is_over ≡ true → Holds e (insert m k x)
 holds_noted d e m k x h new full sheet same over = holds_over d e m k x h new full same over (λ rules q. absurd (let apart : Rules ≡ Sheet = sym rules ∙ sheet in cc))
 
 -- where nothing is, nothing is
@@ -114,7 +114,7 @@ named false true b c x o h e = h
 named false false b c x o h e = h ∙ sym e
 
 -- and in a rule file its name is kept
-pub holds_name : (d e : Draft) (m : Content) (k : List ℕ) (x : Item) → Holds d m → get m k ≡ None → 65536 ≤ length (entries (items_of d)) → kind_of d ≡ Rules → items_of e ≡ items_of d → e.is_over ≡ true → ((q : List ℕ) → contains name_cmp e.beyond q ≡ cond (eq_by_cmp name_cmp k q) true (contains name_cmp d.beyond q)) → Holds e (insert m k x)
+pub holds_name : (d e : Draft) (m : Content) (k : List ℕ) (x : Item) → Holds d m → get m k ≡ None → 262144 ≤ length (entries (items_of d)) → kind_of d ≡ Rules → items_of e ≡ items_of d → e.is_over ≡ true → ((q : List ℕ) → contains name_cmp e.beyond q ≡ cond (eq_by_cmp name_cmp k q) true (contains name_cmp d.beyond q)) → Holds e (insert m k x)
 holds_name d e m k x h new full rules same over has =
     holds_over d e m k x h new full same over (λ is q.
     ap is_some (get-insert nat_list_cmp_total m k x q)

@@ -24,14 +24,14 @@ kind_of d = (book_view d.book).kind
 abbrev pub items_of : Draft → Content
 items_of d = (book_view d.book).items
 
--- the book has the content, or 65,536 keys where that has more; of a rule file's others there are the names
+-- the book has the content, or 262,144 keys where that has more; of a rule file's others there are the names
 pub record Holds (d : Draft) (m : Content) : Type 0 where
   pub names : kind_of d ≡ Rules → (q : List ℕ) → is_some (get m q) ≡ (is_some (get (items_of d) q) || contains name_cmp d.beyond q)
-  pub few : length (entries (items_of d)) ≤ 65536
+  pub few : length (entries (items_of d)) ≤ 262144
   pub all : d.is_over ≡ false → items_of d ≡ m
   pub alone : d.is_over ≡ false → btree_set_len d.beyond ≡ 0
-  pub full : d.is_over ≡ true → 65536 ≤ length (entries (items_of d))
-  pub more : d.is_over ≡ true → 65536 < length (entries m)
+  pub full : d.is_over ≡ true → 262144 ≤ length (entries (items_of d))
+  pub more : d.is_over ≡ true → 262144 < length (entries m)
 
 -- a sheet has nothing there yet
 abbrev pub IsNew : Kind → Content → List ℕ → Type 0
@@ -44,9 +44,9 @@ Takes k x m d (Err add.Twice) = is_some (get m k) ≡ true
 Takes k x m d (Err add.Limit) = ⊥
 Takes k x m d (Err add.NoMemory) = get m k ≡ None
 
--- at most 65,536 keys are a book
+-- at most 262,144 keys are a book
 abbrev pub book_of : Kind → Content → Result Book BookFault
-book_of q m = if nat_lt 65536 (length (entries m)) then Err (Limit Keys 65536) else Ok (record { kind = q; items = m })
+book_of q m = if nat_lt 262144 (length (entries m)) then Err (Limit Keys 262144) else Ok (record { kind = q; items = m })
 
 abbrev pub Becomes : Kind → Content → Result CodeBook BookFault → Type 0
 Becomes q m (Ok b) = book_of q m ≡ Ok (book_view b)

@@ -21,15 +21,15 @@ with_item b k x = record { kind = b.kind; items = insert b.items k x }
 -- why a key isn't added: the first of these
 abbrev pub IsRefused : Book → List ℕ → AddFault → Type 0
 IsRefused b k add.Twice = is_some (get b.items k) ≡ true
-IsRefused b k add.Limit = (get b.items k ≡ None) × (65536 ≤ keys_of b)
-IsRefused b k add.NoMemory = (get b.items k ≡ None) × (keys_of b < 65536)
+IsRefused b k add.Limit = (get b.items k ≡ None) × (262144 ≤ keys_of b)
+IsRefused b k add.NoMemory = (get b.items k ≡ None) × (keys_of b < 262144)
 
--- a key that the book hasn't, where it has fewer than 65,536, gets the item; else nothing changes
+-- a key that the book hasn't, where it has fewer than 262,144, gets the item; else nothing changes
 abbrev pub Adds : Book → Book → List ℕ → Item → Result (Unit {0}) AddFault → Type 0
-Adds old new k x (Ok u) = (get old.items k ≡ None) × (keys_of old < 65536) × (new ≡ with_item old k x)
+Adds old new k x (Ok u) = (get old.items k ≡ None) × (keys_of old < 262144) × (new ≡ with_item old k x)
 Adds old new k x (Err add.Twice) = (is_some (get old.items k) ≡ true) × (new ≡ old)
-Adds old new k x (Err add.Limit) = (get old.items k ≡ None) × (65536 ≤ keys_of old) × (new ≡ old)
-Adds old new k x (Err add.NoMemory) = (get old.items k ≡ None) × (keys_of old < 65536) × (new ≡ old)
+Adds old new k x (Err add.Limit) = (get old.items k ≡ None) × (262144 ≤ keys_of old) × (new ≡ old)
+Adds old new k x (Err add.NoMemory) = (get old.items k ≡ None) × (keys_of old < 262144) × (new ≡ old)
 
 -- an input, which a cell of a sheet is too that the book doesn't hold
 abbrev pub IsInput : Book → List ℕ → Type 0
@@ -37,12 +37,12 @@ IsInput b k = (v : Value) × (content b k ≡ Some (input v))
 
 -- such a one; where the book doesn't hold it yet, there is room for one more
 abbrev pub IsSettable : Book → List ℕ → Type 0
-IsSettable b k = IsInput b k × (get b.items k ≡ None → keys_of b < 65536)
+IsSettable b k = IsInput b k × (get b.items k ≡ None → keys_of b < 262144)
 
 -- an input, or a cell that holds nothing yet, gets the value; else nothing changes
 abbrev pub Sets : Book → Book → List ℕ → Value → Result (Unit {0}) SetFault → Type 0
 Sets old new k v (Ok u) = IsSettable old k × (new ≡ with_item old k (input v))
 Sets old new k v (Err set.NotInput) = IsRule old k × (new ≡ old)
 Sets old new k v (Err set.NoSuchName) = (content old k ≡ None) × (new ≡ old)
-Sets old new k v (Err set.Limit) = (old.kind ≡ Sheet) × (get old.items k ≡ None) × (65536 ≤ keys_of old) × (new ≡ old)
+Sets old new k v (Err set.Limit) = (old.kind ≡ Sheet) × (get old.items k ≡ None) × (262144 ≤ keys_of old) × (new ≡ old)
 Sets old new k v (Err set.NoMemory) = IsSettable old k × (new ≡ old)

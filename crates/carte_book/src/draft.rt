@@ -80,15 +80,15 @@ impl Draft {
     }
 
     fn is_full(&self) -> bool
-        ensures full { IsTrue result ↔ (65536 ≤ length (entries (items_of self.now))) }
-        ensures room { result ≡ false → length (entries (items_of self.now)) < 65536 }
+        ensures full { IsTrue result ↔ (262144 ≤ length (entries (items_of self.now))) }
+        ensures room { result ≡ false → length (entries (items_of self.now)) < 262144 }
     {
         self.book.keys() >= MOST_KEYS
     }
 
     // Takes a key for which the book has no room.
     fn add_beyond(&mut self, name: Name) -> Result<(), AddFault>
-        requires { 65536 ≤ length (entries (items_of self.old)) }
+        requires { 262144 ≤ length (entries (items_of self.old)) }
         ensures kind { kind_of self.new ≡ kind_of self.old }
         ensures takes { (m : Content) (x : Item) → Holds self.old m → IsNew (kind_of self.old) m name → Takes name x m self.new result }
     {
@@ -100,7 +100,7 @@ impl Draft {
 
     // Keeps its name, where nothing stands there.
     fn keep_name(&mut self, name: Name) -> Result<(), AddFault>
-        requires full { 65536 ≤ length (entries (items_of self.old)) }
+        requires full { 262144 ≤ length (entries (items_of self.old)) }
         requires rules { kind_of self.old ≡ Rules }
         ensures kind { kind_of self.new ≡ kind_of self.old }
         ensures takes { (m : Content) (x : Item) → Holds self.old m → Takes name x m self.new result }
@@ -112,7 +112,7 @@ impl Draft {
     }
 
     fn keep_new(&mut self, name: Name) -> Result<(), AddFault>
-        requires full { 65536 ≤ length (entries (items_of self.old)) }
+        requires full { 262144 ≤ length (entries (items_of self.old)) }
         requires rules { kind_of self.old ≡ Rules }
         ensures kind { kind_of self.new ≡ kind_of self.old }
         ensures takes { (m : Content) (x : Item) → Holds self.old m → get m name ≡ None → Takes name x m self.new result }
@@ -126,7 +126,7 @@ impl Draft {
 
     // Notes that there is one. It can't fail, and answers as its neighbour does.
     fn note_name(&mut self, name: Name) -> Result<(), AddFault>
-        requires full { 65536 ≤ length (entries (items_of self.old)) }
+        requires full { 262144 ≤ length (entries (items_of self.old)) }
         requires sheet { kind_of self.old ≡ Sheet }
         ensures kind { kind_of self.new ≡ kind_of self.old }
         ensures takes { (m : Content) (x : Item) → Holds self.old m → get m name ≡ None → Takes name x m self.new result }

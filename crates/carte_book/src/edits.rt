@@ -13,7 +13,7 @@ use carte_value::{Name, Value};
 use std::sync::Arc;
 
 /// As many names as a book has at most.
-pub(crate) const MOST_KEYS: u64 = 65_536;
+pub(crate) const MOST_KEYS: u64 = 262_144;
 
 impl Book {
     /// How many inputs and rules it holds. It takes no memory.

@@ -50,8 +50,8 @@ pub enum AddFault {
     /// The book has it.
     #[error("name used twice")]
     Twice,
-    /// The book has 65,536 names.
-    #[error("more than 65536 names")]
+    /// The book has 262,144 names.
+    #[error("more than 262144 names")]
     Limit,
     /// There was no memory.
     #[error("out of memory")]
@@ -67,8 +67,8 @@ pub enum SetFault {
     /// The book is a rule file without the name.
     #[error("no such name")]
     NoSuchName,
-    /// The book is a sheet of 65,536 names without this one.
-    #[error("more than 65536 names")]
+    /// The book is a sheet of 262,144 names without this one.
+    #[error("more than 262144 names")]
     Limit,
     /// There was no memory.
     #[error("out of memory")]

@@ -10,7 +10,7 @@
 //! two kinds would have doubled every layer above.
 //!
 //! Names are added, each by one look at the map, and inputs are set. Each call says exactly when each fault comes, and
-//! after one the book is as before. That there are 65,536 names at most is tested where one is added. Readers of bytes fill a
+//! after one the book is as before. That there are 262,144 names at most is tested where one is added. Readers of bytes fill a
 //! `Draft`, which tells this last and has room made for the keys that were counted; their faults stand here too.
 //!
 //! The clean values are defined by rounds of evaluation, as many as there are rules and one more. That is

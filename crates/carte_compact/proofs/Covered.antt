@@ -12,9 +12,8 @@ use Rattle.carte_table.proofs.Names.{name_eq_is, name_eq_self, name_eq_sym}
 use Rattle.carte_table.proofs.Steps.{of_key}
 use Rattle.carte_record.specs.declared.entry.Entry.{Entry}
 use Rattle.carte_record.specs.declared.kept.Kept.{Kept}
-use Rattle.carte_record.specs.declared.trace.Trace.{Trace}
-use Rattle.carte_record.specs.Bodies.{spelled_entry, spelled_names, spelled_trace}
-use Rattle.carte_record.specs.Latest.{last_ones, latest_length}
+use Rattle.carte_record.specs.Bodies.{spelled_entry, spelled_names}
+use Rattle.carte_table.specs.Latest.{last_ones, latest_length}
 use Rattle.carte_record.specs.Marked.{marked_as}
 use Rattle.carte_compact.specs.Lengths.{front_size}
 use Rattle.carte_compact.specs.Live.{chain_for, entry_at, found_at, keys_of, link_at, names_of, put, stale_at}
@@ -131,8 +130,8 @@ pub chain_long : (ks : List (List ℕ)) → length ks + 1 ≤ length (spelled_op
 chain_long [] = omega arith
 chain_long (k ∷ ks) = omega (arith, names_long (k ∷ ks), length-append (spelled_count (length (k ∷ ks))) (flat_map spelled_name (k ∷ ks)))
 
-pub traces_long : (n : ℕ) (ts : List Trace) → n ≤ latest_length ts → n + 4 ≤ length (spelled_list spelled_trace (last_ones ts))
-traces_long n ts within = omega (arith, within, length-append (spelled_count (length (last_ones ts))) (flat_map spelled_trace (last_ones ts)))
+pub traces_long : {A : Type 0} (alike : A → A → Bool) (spelled : A → List ℕ) (n : ℕ) (xs : List A) → n ≤ latest_length alike spelled xs → n + 4 ≤ length (spelled_list spelled (last_ones alike xs))
+traces_long alike spelled n xs within = omega (arith, within, length-append (spelled_count (length (last_ones alike xs))) (flat_map spelled (last_ones alike xs)))
 
 pub front_covered : (K : Kept) (values links entries n : ℕ) → values ≡ length (flat_map spelling K.values)
     → links ≡ length (flat_map spelled_link K.seen) → IsDistinct name_eq (map (λ l. l.name) K.seen) → entries ≡ length (flat_map spelled_entry K.entries) → IsDistinct name_eq (map (λ e. e.key) K.entries)

@@ -25,7 +25,7 @@ use Rattle.carte_compact.specs.Laws.{LiveIsKept}
 use Rattle.carte_compact.specs.Live.{IsAllOf, chain_for, entry_at, found_at, has_no_keys, has_no_traces, is_bare, is_stale, keys_of, link_at, names_of, stale_at}
 use Rattle.carte_compact.proofs.Bare.{both, no_items}
 use Rattle.carte_compact.proofs.Found.{among_let, each_found, unlisted}
-use Rattle.carte_compact.proofs.Repeats.{last_count}
+use Rattle.carte_compact.proofs.Repeats.{last_traces}
 use Rattle.carte_compact.proofs.Ties.{first_stays}
 
 -- ---- links and entries that are found
@@ -89,10 +89,10 @@ module _ (K : Kept) (names keys : List (List ℕ)) (seen : IsListOf (Among (name
 
   -- the batch
   module _ (B : Batch) (all : IsAllOf K names keys B) where
-    traces : (w : Way) (k : List ℕ) → traces_in k (batch_traces w B) [] ≡ traces_in k (kept_traces w K) []
-    traces Verifying k = ap (λ ts. traces_in k ts []) all.verifying ∙ last_count k K.verifying []
-    traces Constructive k = ap (λ ts. traces_in k ts []) all.constructive ∙ last_count k K.constructive []
-    traces Deep k = ap (λ ts. traces_in k ts []) all.deep ∙ last_count k K.deep []
+    traces : (w : Way) (k : List ℕ) → traces_in w k (batch_traces w B) [] ≡ traces_in w k (kept_traces w K) []
+    traces Verifying k = ap (λ ts. traces_in Verifying k ts []) all.verifying ∙ last_traces Verifying k K.verifying
+    traces Constructive k = ap (λ ts. traces_in Constructive k ts []) all.constructive ∙ last_traces Constructive k K.constructive
+    traces Deep k = ap (λ ts. traces_in Deep k ts []) all.deep ∙ last_traces Deep k K.deep
 
     pub kept_again : apply B nothing_kept ≡ kept_view K
     kept_again =

@@ -1,13 +1,14 @@
--- Of equal traces only the last counts.
+-- Of equal items only the last counts.
 use Rattle.std.proofs.Common.{◌≡◌, ℕ, Bool, true, false, not, cond, List, [], ◌∷◌, refl, ap, sym, ◌∙◌, subst, filter}
 use Rattle.std.specs.Prelude.{◌||◌, if◌then◌else◌}
 use Rattle.std.specs.List.{list_any}
 use Rattle.carte_name.specs.Names.{name_eq}
-use Rattle.carte_record.specs.declared.trace.Trace.{Trace}
-use Rattle.carte_record.specs.Kept.{newest, traces_in}
-use Rattle.carte_record.specs.Lookups.{trace_eq}
-use Rattle.carte_record.proofs.Looked.{trace_eq_is, trace_eq_self}
+use Rattle.carte_table.specs.Latest as latest
+use Rattle.carte_record.specs.declared.way.Way.{Way}
+use Rattle.carte_record.specs.Kept.{newest, newest_in, traces_in}
 use Rattle.carte_record.specs.Latest.{last_ones}
+use Rattle.carte_record.specs.Ways.{TraceBy, key_by, eq_by}
+use Rattle.carte_record.proofs.Looked.{eq_by_is, eq_by_self}
 
 filters_swap : {A : Type 0} (p q : A → Bool) (xs : List A) → filter p (filter q xs) ≡ filter q (filter p xs)
 filters_swap p q [] = refl
@@ -28,45 +29,50 @@ filter_twice {A = A} p (x ∷ xs) = on (p x) refl (filter_twice p xs)
     on true here rest = rw here (ap (λ ys. x ∷ ys) rest)
     on false here rest = rest
 
--- the traces that differ from one
-abbrev others : Trace → List Trace → List Trace
-others t = filter (λ s. not (trace_eq s t))
+module _ {A : Type 0} (key : A → List ℕ) (alike : A → A → Bool) (alike_is : (x y : A) → alike x y ≡ true → x ≡ y) (alike_self : (x : A) → alike x x ≡ true) where
+  -- the items that differ from one
+  abbrev others : A → List A → List A
+  others x = filter (λ y. not (alike y x))
 
--- lists that differ in one trace alone differ so after another one too
-still_alike : (s t : Trace) (a b : List Trace) → others t a ≡ others t b → others t (newest s a) ≡ others t (newest s b)
-still_alike s t a b same =
-    let turned : (c : List Trace) → others t (others s c) ≡ others s (others t c) = λ c. filters_swap (λ u. not (trace_eq u t)) (λ u. not (trace_eq u s)) c in
-    let rest : others t (others s a) ≡ others t (others s b) = turned a ∙ ap (others s) same ∙ sym (turned b) in
-    ap (λ ys. cond (not (trace_eq s t)) (s ∷ ys) ys) rest
+  -- lists that differ in one item alone differ so after another one too
+  still_same : (y x : A) (a b : List A) → others x a ≡ others x b → others x (newest alike y a) ≡ others x (newest alike y b)
+  still_same y x a b same =
+      let turned : (c : List A) → others x (others y c) ≡ others y (others x c) = λ c. filters_swap (λ u. not (alike u x)) (λ u. not (alike u y)) c in
+      let rest : others x (others y a) ≡ others x (others y b) = turned a ∙ ap (others y) same ∙ sym (turned b) in
+      ap (λ ys. cond (not (alike y x)) (y ∷ ys) ys) rest
 
--- and no more, where that one comes
-alike : (t : Trace) (k : List ℕ) (ts a b : List Trace) → others t a ≡ others t b → name_eq k t.key ≡ true → list_any (trace_eq t) ts ≡ true → traces_in k ts a ≡ traces_in k ts b
-alike t k [] a b same of comes = cc
-alike t k (s ∷ ss) a b same of comes = on (trace_eq t s) refl comes (name_eq k s.key) refl (λ c d like later. alike t k ss c d like of later)
-  where
-    here : trace_eq t s ≡ true → newest s a ≡ newest s b
-    here is = ap (λ ys. s ∷ ys) (subst (λ u. others u a ≡ others u b) (trace_eq_is t s is) same)
+  -- and no more, where that one comes
+  come_same : (x : A) (k : List ℕ) (xs a b : List A) → others x a ≡ others x b → name_eq k (key x) ≡ true → list_any (alike x) xs ≡ true → newest_in key alike k xs a ≡ newest_in key alike k xs b
+  come_same x k [] a b same of comes = cc
+  come_same x k (y ∷ ys) a b same of comes = on (alike x y) refl comes (name_eq k (key y)) refl (λ c d like later. come_same x k ys c d like of later)
+    where
+      here : alike x y ≡ true → newest alike y a ≡ newest alike y b
+      here is = ap (λ zs. y ∷ zs) (subst (λ u. others u a ≡ others u b) (alike_is x y is) same)
 
-    on : (b' : Bool) → trace_eq t s ≡ b' → b' || list_any (trace_eq t) ss ≡ true → (c : Bool) → name_eq k s.key ≡ c
-        → ((c d : List Trace) → others t c ≡ others t d → list_any (trace_eq t) ss ≡ true → traces_in k ss c ≡ traces_in k ss d)
-        → traces_in k ss (if c then newest s a else a) ≡ traces_in k ss (if c then newest s b else b)
-    on true is later true key rest = ap (traces_in k ss) (here is)
-    on true is later false key rest = let clash : true ≡ false = sym of ∙ ap (λ (u : Trace). name_eq k u.key) (trace_eq_is t s is) ∙ key in cc
-    on false is later true key rest = rest (newest s a) (newest s b) (still_alike s t a b same) later
-    on false is later false key rest = rest a b same later
+      on : (b' : Bool) → alike x y ≡ b' → b' || list_any (alike x) ys ≡ true → (c : Bool) → name_eq k (key y) ≡ c
+          → ((c d : List A) → others x c ≡ others x d → list_any (alike x) ys ≡ true → newest_in key alike k ys c ≡ newest_in key alike k ys d)
+          → newest_in key alike k ys (if c then newest alike y a else a) ≡ newest_in key alike k ys (if c then newest alike y b else b)
+      on true is later true own rest = ap (newest_in key alike k ys) (here is)
+      on true is later false own rest = let clash : true ≡ false = sym of ∙ ap (λ (u : A). name_eq k (key u)) (alike_is x y is) ∙ own in cc
+      on false is later true own rest = rest (newest alike y a) (newest alike y b) (still_same y x a b same) later
+      on false is later false own rest = rest a b same later
 
-pub last_count : (k : List ℕ) (ts old : List Trace) → traces_in k (last_ones ts) old ≡ traces_in k ts old
-last_count k [] old = refl
-last_count k (t ∷ ts) old = on (list_any (trace_eq t) ts) refl (λ o. last_count k ts o)
-  where
-    gone : others t (newest t old) ≡ others t old
-    gone = rw (trace_eq_self t) (filter_twice (λ s. not (trace_eq s t)) old)
+  pub last_count : (k : List ℕ) (xs old : List A) → newest_in key alike k (latest.last_ones alike xs) old ≡ newest_in key alike k xs old
+  last_count k [] old = refl
+  last_count k (x ∷ xs) old = on (list_any (alike x) xs) refl (λ o. last_count k xs o)
+    where
+      gone : others x (newest alike x old) ≡ others x old
+      gone = rw (alike_self x) (filter_twice (λ y. not (alike y x)) old)
 
-    without : list_any (trace_eq t) ts ≡ true → (c : Bool) → name_eq k t.key ≡ c → traces_in k ts old ≡ traces_in k ts (if c then newest t old else old)
-    without later true key = sym (alike t k ts (newest t old) old gone key later)
-    without later false key = refl
+      without : list_any (alike x) xs ≡ true → (c : Bool) → name_eq k (key x) ≡ c → newest_in key alike k xs old ≡ newest_in key alike k xs (if c then newest alike x old else old)
+      without later true own = sym (come_same x k xs (newest alike x old) old gone own later)
+      without later false own = refl
 
-    on : (b : Bool) → list_any (trace_eq t) ts ≡ b → ((o : List Trace) → traces_in k (last_ones ts) o ≡ traces_in k ts o)
-        → traces_in k (if b then last_ones ts else t ∷ last_ones ts) old ≡ traces_in k ts (if name_eq k t.key then newest t old else old)
-    on true later rest = rest old ∙ without later (name_eq k t.key) refl
-    on false last rest = rest (if name_eq k t.key then newest t old else old)
+      on : (b : Bool) → list_any (alike x) xs ≡ b → ((o : List A) → newest_in key alike k (latest.last_ones alike xs) o ≡ newest_in key alike k xs o)
+          → newest_in key alike k (if b then latest.last_ones alike xs else x ∷ latest.last_ones alike xs) old ≡ newest_in key alike k xs (if name_eq k (key x) then newest alike x old else old)
+      on true later rest = rest old ∙ without later (name_eq k (key x)) refl
+      on false last rest = rest (if name_eq k (key x) then newest alike x old else old)
+
+-- and so it is for the traces of each kind
+pub last_traces : (w : Way) (k : List ℕ) (ts : List (TraceBy w)) → traces_in w k (last_ones w ts) [] ≡ traces_in w k ts []
+last_traces w k ts = last_count (key_by w) (eq_by w) (eq_by_is w) (eq_by_self w) k ts []

@@ -12,8 +12,8 @@ use Rattle.carte_record.specs.Kept.{SomeKept, nothing_kept}
 use Rattle.carte_record.specs.Lookups.{first_entry}
 use Rattle.carte_record.specs.Marked.{marked_as}
 use Rattle.carte_state.specs.Folding.{IsFolded, Makes}
-use Rattle.carte_state.specs.Versions.{InTwo}
-use Rattle.carte_state.specs.declared.any.AnyBatch.TheVariants.{Two}
+use Rattle.carte_state.specs.Versions.{Fours, Fresh, InTwo}
+use Rattle.carte_state.specs.declared.any.AnyBatch.TheVariants.{Four}
 use Rattle.carte_state.specs.Runs.{AreUnmarked, applied}
 use Rattle.carte_compact.specs.Lengths.{AreBodies, AreShort, bodies_length, region_length}
 use Rattle.carte_compact.specs.Live.{IsLive, entry_at, found_at, put}
@@ -55,18 +55,18 @@ pub short_more : (bodies : List BodyAt) (body : BodyAt) → AreShort bodies → 
 short_more [] body are is = (is, tt)
 short_more (c ∷ cs) body are is = (are.0, short_more cs body are.1 is)
 
-folded : (K : SomeKept) (Bs : List Batch) (bodies : List BodyAt) → AreBodies Bs bodies → IsFolded (Some (InTwo K)) bodies (Some (InTwo (applied K Bs)))
+folded : (K : SomeKept) (Bs : List Batch) (bodies : List BodyAt) → AreBodies Bs bodies → IsFolded (Fours K) bodies (Fours (applied K Bs))
 folded K [] [] are = refl
 folded K [] (c ∷ cs) are = absurd are
 folded K (B ∷ Bs) [] are = absurd are
-folded K (B ∷ Bs) (c ∷ cs) are = (Two B, are.0, tt, folded (apply B K) Bs cs are.1)
+folded K (B ∷ Bs) (c ∷ cs) are = (Four B, are.0, tt, folded (apply B K) Bs cs are.1)
 
 pub makes : (Bs : List Batch) (bodies : List BodyAt) → AreBodies Bs bodies → Makes bodies (InTwo (applied nothing_kept Bs))
-makes [] [] are = record { phase = None; folded = refl; kept = refl }
+makes [] [] are = record { phase = Fresh; folded = refl; kept = refl }
 makes [] (c ∷ cs) are = absurd are
 makes (B ∷ Bs) [] are = absurd are
 makes (B ∷ Bs) (c ∷ cs) are =
-    record { phase = Some (InTwo (applied (apply B nothing_kept) Bs)); folded = (Two B, are.0, tt, folded (apply B nothing_kept) Bs cs are.1); kept = refl }
+    record { phase = Fours (applied (apply B nothing_kept) Bs); folded = (Four B, are.0, tt, folded (apply B nothing_kept) Bs cs are.1); kept = refl }
 
 pub as_long : (Bs : List Batch) (bodies : List BodyAt) → AreBodies Bs bodies → bodies_length bodies ≡ region_length Bs
 as_long [] [] are = refl

@@ -16,8 +16,7 @@ use Rattle.carte_value.specs.declared.value.Value.{Value}
 use Rattle.carte_codec.specs.Parts.{spelled_count, spelled_link, spelled_list, spelled_option}
 use Rattle.carte_record.specs.declared.batch.Batch.{Batch}
 use Rattle.carte_record.specs.declared.kept.Kept.{Kept}
-use Rattle.carte_record.specs.declared.trace.Trace.{Trace}
-use Rattle.carte_record.specs.Bodies.{spelled_back, spelled_entry, spelled_front, spelled_names, spelled_start, spelled_trace}
+use Rattle.carte_record.specs.Bodies.{spelled_back, spelled_deep, spelled_entry, spelled_front, spelled_names, spelled_start, spelled_trace}
 use Rattle.carte_compact.specs.Lengths.{back_size, front_size, region_length}
 use Rattle.carte_compact.specs.Live.{IsAllOf, IsLive, found_at, is_bare, keys_of, names_of, put}
 use Rattle.carte_compact.proofs.Found.{found_more}
@@ -77,17 +76,17 @@ found_longer spelled f ns n =
     ap (λ xs. length (flat_map spelled xs)) (found_more f ns n) ∙ ap length (flat_map-append spelled (found_at f ns) (put (f n) [])) ∙ length-append (flat_map spelled (found_at f ns)) (flat_map spelled (put (f n) []))
 
 -- the last ones from the last on are as long
-pub last_long : (rs ts : List Trace) → rs ≡ reverse ts → length (spelled_list spelled_trace rs) ≡ length (spelled_list spelled_trace ts)
-last_long rs ts is =
-    length-append (spelled_count (length rs)) (flat_map spelled_trace rs)
-    ∙ ap (λ n. 4 + n) (length-flat_map spelled_trace rs ∙ ap (sum_by (λ t. length (spelled_trace t))) is ∙ sum_by-IsPermutation (λ t. length (spelled_trace t)) ts (reverse ts) (IsPermutation-reverse ts) ∙ sym (length-flat_map spelled_trace ts))
-    ∙ sym (length-append (spelled_count (length ts)) (flat_map spelled_trace ts))
+pub last_long : {A : Type 0} (spelled : A → List ℕ) (rs ts : List A) → rs ≡ reverse ts → length (spelled_list spelled rs) ≡ length (spelled_list spelled ts)
+last_long spelled rs ts is =
+    length-append (spelled_count (length rs)) (flat_map spelled rs)
+    ∙ ap (λ n. 4 + n) (length-flat_map spelled rs ∙ ap (sum_by (λ t. length (spelled t))) is ∙ sum_by-IsPermutation (λ t. length (spelled t)) ts (reverse ts) (IsPermutation-reverse ts) ∙ sym (length-flat_map spelled ts))
+    ∙ sym (length-append (spelled_count (length ts)) (flat_map spelled ts))
 
 back_long : (K : Kept) (names keys : List (List ℕ)) (B : Batch) → IsAllOf K names keys B → back_size K ≡ length (spelled_back B)
 back_long K names keys B all =
-    let vs = length-append (spelled_list spelled_trace B.verifying) (spelled_list spelled_trace B.constructive ++ (spelled_list spelled_trace B.deep ++ spelled_option spelled_names B.chain)) in
-    let cs = length-append (spelled_list spelled_trace B.constructive) (spelled_list spelled_trace B.deep ++ spelled_option spelled_names B.chain) in
-    let ds = length-append (spelled_list spelled_trace B.deep) (spelled_option spelled_names B.chain) in
+    let vs = length-append (spelled_list spelled_trace B.verifying) (spelled_list spelled_trace B.constructive ++ (spelled_list spelled_deep B.deep ++ spelled_option spelled_names B.chain)) in
+    let cs = length-append (spelled_list spelled_trace B.constructive) (spelled_list spelled_deep B.deep ++ spelled_option spelled_names B.chain) in
+    let ds = length-append (spelled_list spelled_deep B.deep) (spelled_option spelled_names B.chain) in
     rw (← all.verifying, ← all.constructive, ← all.deep, ← all.chain) (omega (arith, vs, cs, ds))
 
 front_long : (K : Kept) (names keys : List (List ℕ)) (B : Batch) → IsAllOf K names keys B → front_size K names keys ≡ length (spelled_front B)

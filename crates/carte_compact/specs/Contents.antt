@@ -1,18 +1,16 @@
--- Traces as members of a set.
-use Rattle.std.specs.Prelude.{◌≡◌, true, IsTrue}
+-- Items as members of a set, by a test that finds the equal ones.
+use Rattle.std.specs.Prelude.{◌≡◌, ℕ, Bool, true, List, IsTrue}
 use Rattle.std.proofs.Common.{ap, subst}
 use Rattle.std.specs.Cmp.{IsEquivalence, both_ways}
-use Rattle.carte_record.specs.declared.trace.Trace.{Trace}
-use Rattle.carte_record.specs.Lookups.{trace_eq}
-use Rattle.carte_record.proofs.Looked.{trace_eq_is, trace_eq_self}
-use Rattle.carte_compact.specs.Latest.{fed}
 
-pub trace_eq_sym : (s t : Trace) → trace_eq s t ≡ trace_eq t s
-trace_eq_sym s t = both_ways (trace_eq s t) (trace_eq t s)
-    (λ is. subst (λ u. trace_eq u s ≡ true) (trace_eq_is s t is) (trace_eq_self s)) (λ is. subst (λ u. trace_eq u t ≡ true) (trace_eq_is t s is) (trace_eq_self t))
+module _ {A : Type 0} (alike : A → A → Bool) (alike_is : (x y : A) → alike x y ≡ true → x ≡ y) (alike_self : (x : A) → alike x x ≡ true) where
+  pub alike_sym : (x y : A) → alike x y ≡ alike y x
+  alike_sym x y = both_ways (alike x y) (alike y x)
+      (λ is. subst (λ z. alike z x ≡ true) (alike_is x y is) (alike_self x)) (λ is. subst (λ z. alike z y ≡ true) (alike_is y x is) (alike_self y))
 
-pub trace_equivalence : IsEquivalence trace_eq
-trace_equivalence = record { refl = trace_eq_self; symm = trace_eq_sym; congr = λ s t u is. ap (λ v. trace_eq v u) (trace_eq_is s t is) }
+  -- what is hashed of equal ones is the same
+  pub fed_alike : (fed : A → List (List ℕ)) (x y : A) → IsTrue (alike x y) → fed x ≡ fed y
+  fed_alike fed x y same = ap fed (alike_is x y same)
 
-pub fed_alike : (s t : Trace) → IsTrue (trace_eq s t) → fed s ≡ fed t
-fed_alike s t same = ap fed (trace_eq_is s t same)
+  pub alike_equivalence : IsEquivalence alike
+  alike_equivalence = record { refl = alike_self; symm = alike_sym; congr = λ x y z is. ap (λ v. alike v z) (alike_is x y is) }

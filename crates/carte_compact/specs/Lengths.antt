@@ -6,7 +6,8 @@ use Rattle.std.specs.List.{flat_map}
 use Rattle.carte_value.specs.Spelling.{spelling}
 use Rattle.carte_codec.specs.Parts.{spelled_link, spelled_list, spelled_option}
 use Rattle.carte_record.specs.declared.kept.Kept.{Kept}
-use Rattle.carte_record.specs.Bodies.{IsBody, spelled_batch, spelled_entry, spelled_names, spelled_trace}
+use Rattle.carte_record.specs.declared.way.Way.TheVariants.{Verifying, Constructive, Deep}
+use Rattle.carte_record.specs.Bodies.{IsBody, spelled_batch, spelled_deep, spelled_entry, spelled_names, spelled_trace}
 use Rattle.carte_record.specs.Latest.{last_ones}
 use Rattle.carte_compact.specs.Live.{chain_for, entry_at, found_at, link_at, stale_at}
 
@@ -23,8 +24,8 @@ front_size K names keys =
 
 abbrev pub back_size : Kept → ℕ
 back_size K =
-    length (spelled_list spelled_trace (last_ones K.verifying)) + length (spelled_list spelled_trace (last_ones K.constructive)) + length (spelled_list spelled_trace (last_ones K.deep))
-    + length (spelled_option spelled_names (chain_for K.chain))
+    length (spelled_list spelled_trace (last_ones Verifying K.verifying)) + length (spelled_list spelled_trace (last_ones Constructive K.constructive))
+    + length (spelled_list spelled_deep (last_ones Deep K.deep)) + length (spelled_option spelled_names (chain_for K.chain))
 
 -- the bodies of these batches
 abbrev pub AreBodies : List Batch → List BodyAt → Type 0

@@ -11,6 +11,7 @@ use Rattle.carte_record.specs.declared.batch.Batch.{Batch}
 use Rattle.carte_record.specs.declared.entry.Entry.{Entry}
 use Rattle.carte_record.specs.declared.kept.Kept.{Kept}
 use Rattle.carte_record.specs.declared.start.Start.TheVariants.{GoOn}
+use Rattle.carte_record.specs.declared.way.Way.TheVariants.{Verifying, Constructive, Deep}
 use Rattle.carte_record.specs.Lookups.{first_entry}
 use Rattle.carte_record.specs.Marked.{marked_as}
 use Rattle.carte_record.specs.Latest.{last_ones}
@@ -84,9 +85,9 @@ pub record IsAllOf (K : Kept) (names keys : List (List ℕ)) (B : Batch) : Type 
   pub seen : B.seen ≡ found_at (link_at K.seen) names
   pub stale : B.stale ≡ stale_at K.entries keys
   pub entries : B.entries ≡ found_at (entry_at K.entries) keys
-  pub verifying : B.verifying ≡ last_ones K.verifying
-  pub constructive : B.constructive ≡ last_ones K.constructive
-  pub deep : B.deep ≡ last_ones K.deep
+  pub verifying : B.verifying ≡ last_ones Verifying K.verifying
+  pub constructive : B.constructive ≡ last_ones Constructive K.constructive
+  pub deep : B.deep ≡ last_ones Deep K.deep
   pub chain : B.chain ≡ chain_for K.chain
 
 pub record IsSomeLive (K : Kept) (Bs : List Batch) : Type 0 where

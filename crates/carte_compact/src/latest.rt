@@ -1,16 +1,20 @@
 // Of equal traces the last.
 ghost use Rattle.std.specs.Prelude.{◌≡◌, map, reverse, IfOk};
-ghost use Rattle.carte_record.specs.Latest.{last_ones};
+ghost use Rattle.carte_table.specs.Latest.{last_ones};
 
-use crate::content::Content;
-use carte_record::{Trace, Traces};
-use carte_value::{NoMemory, Same, Seeded};
+use crate::content::{Content, Hashed};
+use carte_table::All;
+use carte_value::{NoMemory, Seeded};
 use std::alloc::Global;
 use std::collections::HashSet;
 
 /// The traces behind which no equal one comes, in their order.
-pub(crate) fn last_ones(alloc: Global, traces: &Traces, hasher: Seeded) -> Result<Traces, NoMemory>
-    ensures { IfOk result (λ list. list ≡ last_ones traces.now) }
+pub(crate) fn last_ones<T: Hashed + Drop>(
+    alloc: Global,
+    traces: &All<T>,
+    hasher: Seeded,
+) -> Result<All<T>, NoMemory>
+    ensures { IfOk result (λ list. list ≡ last_ones T.alike traces.now) }
 {
     let mut last = last_first(alloc, traces.as_slice(), hasher)?;
     last.reverse();
@@ -18,12 +22,12 @@ pub(crate) fn last_ones(alloc: Global, traces: &Traces, hasher: Seeded) -> Resul
 }
 
 /// The same from the last one on.
-pub(crate) fn last_first<'a>(
+pub(crate) fn last_first<'a, T: Hashed>(
     alloc: Global,
-    traces: &'a [Trace],
+    traces: &'a [T],
     hasher: Seeded,
-) -> Result<Vec<&'a Trace>, NoMemory>
-    ensures { IfOk result (λ list. map (λ t. t.now) list.items ≡ reverse (last_ones traces.now)) }
+) -> Result<Vec<&'a T>, NoMemory>
+    ensures { IfOk result (λ list. map (λ t. t.now) list.items ≡ reverse (last_ones T.alike traces.now)) }
 {
     let mut later = HashSet::with_hasher(alloc, hasher);
     let mut list = Vec::new(alloc);
@@ -38,10 +42,14 @@ pub(crate) fn last_first<'a>(
     Ok(list)
 }
 
-fn copied(alloc: Global, traces: &[&Trace], hasher: Seeded) -> Result<Traces, NoMemory>
+fn copied<T: Hashed + Drop>(
+    alloc: Global,
+    traces: &[&T],
+    hasher: Seeded,
+) -> Result<All<T>, NoMemory>
     ensures { IfOk result (λ list. list ≡ map (λ t. t.now) traces.now) }
 {
-    let mut list = Traces::new(alloc, hasher);
+    let mut list = All::new(alloc, hasher);
     for trace in traces {
         list.push(trace.same(alloc)?)?;
     }

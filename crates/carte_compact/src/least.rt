@@ -1,15 +1,16 @@
 // What the live information takes at least, by the lengths that the lists know.
 ghost use Rattle.std.specs.Prelude.{◌≡◌, ◌≤◌, ◌+◌, ℕ, List, length, IfSome};
 ghost use Rattle.carte_codec.specs.Parts.{spelled_list, spelled_option};
-ghost use Rattle.carte_record.specs.Bodies.{spelled_names, spelled_trace};
-ghost use Rattle.carte_record.specs.Latest.{last_ones};
+ghost use Rattle.carte_record.specs.Bodies.{spelled_names};
+ghost use Rattle.carte_table.specs.Latest.{last_ones};
 ghost use Rattle.carte_record.specs.declared.batch.Batch.{Batch as SomeBatch};
 ghost use Rattle.carte_value.specs.Truths.{Among, IsListOf};
 ghost use Rattle.carte_compact.specs.Lengths.{back_size, front_size, region_length};
 ghost use Rattle.carte_compact.specs.Live.{IsLive, chain_for, keys_of, names_of};
 
 use crate::batches::is_bare;
-use carte_record::{Kept, Traces};
+use carte_record::Kept;
+use carte_table::{All, Compared};
 use carte_value::Names;
 
 /// How many bytes the live information takes at least. It takes no pass over what is kept, and no memory. It is the live
@@ -56,8 +57,8 @@ fn least_back(kept: &Kept) -> Option<u64>
 }
 
 // Without their number.
-fn least_traces(traces: &Traces) -> u64
-    ensures { result + 4 ≤ length (spelled_list spelled_trace (last_ones traces.now)) }
+fn least_traces<T: Compared + Drop>(traces: &All<T>) -> u64
+    ensures { result + 4 ≤ length (spelled_list T.spelled (last_ones T.alike traces.now)) }
 {
     traces.least_length()
 }

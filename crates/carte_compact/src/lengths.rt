@@ -2,18 +2,20 @@
 ghost use Rattle.std.specs.Prelude.{◌≡◌, ◌+◌, List, [], length, IfOk, IfSome};
 ghost use Rattle.std.specs.List.{flat_map};
 ghost use Rattle.carte_codec.specs.Parts.{spelled_link, spelled_list, spelled_option};
-ghost use Rattle.carte_record.specs.Bodies.{spelled_entry, spelled_names, spelled_trace};
+ghost use Rattle.carte_record.specs.Bodies.{spelled_entry, spelled_names};
 ghost use Rattle.carte_record.specs.declared.batch.Batch.{Batch as SomeBatch};
-ghost use Rattle.carte_record.specs.Latest.{last_ones};
+ghost use Rattle.carte_table.specs.Latest.{last_ones};
 ghost use Rattle.carte_compact.specs.Lengths.{back_size, front_size, region_length};
 ghost use Rattle.carte_compact.specs.Live.{IsLive, chain_for, entry_at, found_at, link_at, put, stale_at};
 
 use crate::batches::is_bare;
+use crate::content::Hashed;
 use crate::entries::stale_at;
 use crate::latest::last_first;
 use crate::names::{entry_keys, seen_names};
 use carte_codec::{Measured, list_length};
-use carte_record::{Entries, Kept, Seen, Traces};
+use carte_record::{Entries, Kept, Seen};
+use carte_table::All;
 use carte_value::{Name, Names, NoMemory, Seeded};
 use std::alloc::Global;
 
@@ -81,8 +83,12 @@ fn chain_length(chain: &Names) -> Option<u64>
 }
 
 // The traces behind which no equal one comes, with their number.
-fn traces_length(alloc: Global, traces: &Traces, hasher: Seeded) -> Result<u64, NoMemory>
-    ensures { IfOk result (λ n. n ≡ length (spelled_list spelled_trace (last_ones traces.now))) }
+fn traces_length<T: Hashed + Drop>(
+    alloc: Global,
+    traces: &All<T>,
+    hasher: Seeded,
+) -> Result<u64, NoMemory>
+    ensures { IfOk result (λ n. n ≡ length (spelled_list T.spelled (last_ones T.alike traces.now))) }
 {
     let last = last_first(alloc, traces.as_slice(), hasher)?;
     list_length(last.as_slice()).ok_or(NoMemory)

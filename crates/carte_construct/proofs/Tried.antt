@@ -8,7 +8,7 @@ use Rattle.carte_record.specs.declared.way.Way.TheVariants.{Constructive}
 use Rattle.carte_record.specs.Kept.{kept_view}
 use Rattle.carte_rebuild.specs.Earlier.{checks_now}
 use Rattle.carte_rebuild.specs.Traced.{AreTried}
-use Rattle.carte_rebuild.proofs.Starting.{tried_now}
+use Rattle.carte_rebuild.proofs.Starting.{tried_constructive}
 
 pub all_tried : (K : Kept) (b : Book) (k : List ℕ) (cs : List Checking) → cs ≡ checks_now (task_now b k) None K.values k K.constructive → AreTried Constructive (kept_view K) b k cs
-all_tried K b k cs is = subst (AreTried Constructive (kept_view K) b k) (sym is) (tried_now Constructive (kept_view K) b k (task_now b k) None K.values K.constructive refl refl refl (λ t wanted. tt) (λ t trusted. refl))
+all_tried K b k cs is = subst (AreTried Constructive (kept_view K) b k) (sym is) (tried_constructive (kept_view K) b k K.values K.constructive refl refl)

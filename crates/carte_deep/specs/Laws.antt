@@ -1,7 +1,6 @@
 -- What a job under deep traces makes is right.
-use Rattle.std.proofs.Common.{◌≡◌, ℕ, Bool, true, false, ◌&&◌, cond, List, [], ◌∷◌, Option, Some, None, option_map, Ok, Err, refl, ap, sym, ◌∙◌, subst}
+use Rattle.std.proofs.Common.{◌≡◌, ℕ, Bool, true, false, ◌&&◌, cond, List, ◌++◌, Option, Some, None, option_map, Ok, Err, refl, ap, sym, ◌∙◌, subst}
 use Rattle.carte_value.specs.declared.digest.Digest.{Digest}
-use Rattle.carte_value.specs.declared.link.Link.{Link}
 use Rattle.carte_value.specs.declared.value.Value.{Value}
 use Rattle.carte_value.specs.Lists.{Has}
 use Rattle.carte_value.specs.Truths.{Truth, Extends}
@@ -12,24 +11,22 @@ use Rattle.carte_tree.specs.Tree.{Tree}
 use Rattle.carte_tree.specs.Meaning.{asks}
 use Rattle.carte_book.specs.Book.{Book, rule, content, clean}
 use Rattle.carte_book.specs.Needs.{needs}
-use Rattle.carte_book.specs.Digest.{rules_digest_of}
-use Rattle.carte_table.specs.Lookups.{digest_eq}
+use Rattle.carte_book.specs.Task.{task_now}
 use Rattle.carte_effect.specs.declared.outcome.Made.{Made}
 use Rattle.carte_effect.specs.declared.outcome.Made.TheVariants.{Ran, Reused}
 use Rattle.carte_effect.specs.Outcomes.{Outcome}
 use Rattle.carte_effect.specs.Jobs.{Step}
-use Rattle.carte_record.specs.declared.trace.Trace.{Trace}
+use Rattle.carte_record.specs.declared.deep_trace.DeepTrace.{DeepTrace}
 use Rattle.carte_record.specs.declared.way.Way.TheVariants.{Deep}
 use Rattle.carte_record.specs.Kept.{SomeKept}
 use Rattle.carte_sound.specs.Base.{IsBase}
-use Rattle.carte_sound.specs.Begun.{is_digest}
 use Rattle.carte_sound.specs.Beneath.{beneath}
 use Rattle.carte_sound.specs.Marks.{present}
-use Rattle.carte_sound.specs.Held.{tracing, AreLinks, IsHeldBy, IsHeld}
+use Rattle.carte_sound.specs.Held.{tracing, AreLinks, are_so, IsHeldBy, IsHeld}
 use Rattle.carte_sound.specs.True.{links_to}
-use Rattle.carte_sound.proofs.Tests.{same_digest, digest_self}
 use Rattle.carte_sound.proofs.Entries.{both_true}
 use Rattle.carte_sound.proofs.Deep.{deep_held}
+use Rattle.carte_sound.proofs.SoNow.{so_links, links_so}
 use Rattle.carte_note.specs.Right.{IsRightMade}
 use Rattle.carte_rebuild.specs.Trying.{task_left, Gives, FitsLeft}
 use Rattle.carte_rebuild.specs.TryingFits.{known_more}
@@ -37,47 +34,31 @@ use Rattle.carte_rebuild.specs.Goes.{IsPart, may_ask, GoesOver}
 use Rattle.carte_rebuild.proofs.TaskAlone.{alone_ran, alone_needs, alone_there, alone_before}
 use Rattle.carte_rebuild.proofs.Wholes.{IsRightWhole, whole_fits, whole_goes}
 use Rattle.carte_deep.specs.declared.job.DeepJob.{DeepJob}
-use Rattle.carte_deep.specs.Holding.{are_present, holds, outcome_at, given_by, Finds}
+use Rattle.carte_deep.specs.Holding.{holds, outcome_at, given_by, Finds}
 use Rattle.carte_deep.specs.Work.{again_or, left_in}
 use Rattle.carte_deep.specs.Jobs.{IsDeepJob}
 
--- 1. what the test of links decides
+-- 1. what a trace gives
 
-is_there : (o : Option Digest) (d : Digest) → is_digest o d ≡ true → o ≡ Some d
-is_there None d is = cc
-is_there (Some c) d is = ap Some (same_digest c d is)
-
-present_links : (b : Book) (ls : List Link) → are_present b ls ≡ true → AreLinks (present b) ls
-present_links b [] is = tt
-present_links b (l ∷ ls) is =
-    let both = both_true (is_digest (present b l.name) l.digest) (are_present b ls) is in
-    (is_there (present b l.name) l.digest both.0, present_links b ls both.1)
-
-links_present : (b : Book) (ls : List Link) → AreLinks (present b) ls → are_present b ls ≡ true
-links_present b [] are = refl
-links_present b (l ∷ ls) (here, are) =
-    ap (λ o. is_digest o l.digest && are_present b ls) here ∙ ap (λ t. t && are_present b ls) (digest_self l.digest) ∙ links_present b ls are
-
--- an end that a trace gives
-pub record IsGiven (stored : Digest → Option Value) (b : Book) (k : List ℕ) (t : Trace) (o : Outcome) : Type 0 where
-  pub task : t.task ≡ rules_digest_of b
+pub record IsGiven (stored : Digest → Option Value) (b : Book) (k : List ℕ) (t : DeepTrace) (o : Outcome) : Type 0 where
+  pub tasks : AreLinks (task_now b) t.tasks
   pub links : AreLinks (present b) t.links
   pub value : Value
   pub told : stored t.result ≡ Some value
   pub is : o ≡ outcome_at k t value
 
-pub given_is : (stored : Digest → Option Value) (b : Book) (k : List ℕ) (t : Trace) (o : Outcome) → given_by stored b k (Some t) ≡ Some o → IsGiven stored b k t o
+pub given_is : (stored : Digest → Option Value) (b : Book) (k : List ℕ) (t : DeepTrace) (o : Outcome) → given_by stored b k (Some t) ≡ Some o → IsGiven stored b k t o
 given_is stored b k t o gives = on (holds b t) refl gives
   where
-    by : t.task ≡ rules_digest_of b → AreLinks (present b) t.links → (x : Option Value) → stored t.result ≡ x → option_map (outcome_at k t) x ≡ Some o → IsGiven stored b k t o
-    by task are None none e = cc
-    by task are (Some v) some e = record { task = task; links = are; value = v; told = some; is = (let s : o ≡ outcome_at k t v = cc in s) }
+    by : AreLinks (task_now b) t.tasks → AreLinks (present b) t.links → (x : Option Value) → stored t.result ≡ x → option_map (outcome_at k t) x ≡ Some o → IsGiven stored b k t o
+    by tasks are None none e = cc
+    by tasks are (Some v) some e = record { tasks = tasks; links = are; value = v; told = some; is = (let s : o ≡ outcome_at k t v = cc in s) }
 
     on : (c : Bool) → holds b t ≡ c → cond c (option_map (outcome_at k t) (stored t.result)) None ≡ Some o → IsGiven stored b k t o
     on false differs e = cc
     on true is e =
-        let both = both_true (digest_eq t.task (rules_digest_of b)) (are_present b t.links) is in
-        by (same_digest t.task (rules_digest_of b) both.0) (present_links b t.links both.1) (stored t.result) refl e
+        let both = both_true (are_so (present b) t.links) (are_so (task_now b) t.tasks) is in
+        by (so_links (task_now b) t.tasks both.1) (so_links (present b) t.links both.0) (stored t.result) refl e
 
 -- 2. the whole of a job
 
@@ -98,16 +79,16 @@ module _ (K : SomeKept) (b : Book) (H : List Book) (base : IsBase K b H) (k : Li
   }
 
   -- what a trace gives is right
-  gives_right : (t : Trace) (o : Outcome) → Has (K.traces Deep k) t → IsGiven K.stored b k t o → IsRightMade (tracing Deep) K b k (Reused o)
+  gives_right : (t : DeepTrace) (o : Outcome) → Has (K.traces Deep k) t → IsGiven K.stored b k t o → IsRightMade (tracing Deep) K b k (Reused o)
   gives_right t o kept given =
-      let held : IsHeldBy Deep K b k t = record { kept = kept; task = ap Some (sym given.task); links = given.links; trusted = tt } in
+      let held : IsHeldBy Deep K b k t = record { kept = kept; task = given.tasks; links = given.links; trusted = tt } in
       let r = deep_held K b H base k t held in
       let both : Some given.value ≡ Some r.0.value = sym given.told ∙ r.0.stored in
       let same : given.value ≡ r.0.value = cc in
       record {
         key = ap (λ (x : Outcome). x.key) given.is;
         value = r.0.clean ∙ ap Some (sym (ap (λ (x : Outcome). x.value) given.is ∙ same));
-        came = ((t, held), ap (λ (x : Outcome). x.links) given.is ∙ r.1);
+        came = ((t, held), ap (λ (x : Outcome). x.links) given.is ∙ ap (λ (x : DeepTrace). x.tasks ++ x.links) r.1);
       }
 
   -- a held key asks for nothing
@@ -129,8 +110,7 @@ module _ (K : SomeKept) (b : Book) (H : List Book) (base : IsBase K b H) (k : Li
   none_held : Finds K b k None → ¬ (IsHeld (tracing Deep) K b k)
   none_held none (t, held) =
       let v = base.sound.trace_stored Deep k t held.kept in
-      let same : rules_digest_of b ≡ t.task = (let both : Some (rules_digest_of b) ≡ Some t.task = held.task in cc) in
-      let is : holds b t ≡ true = ap (λ d. digest_eq d (rules_digest_of b) && are_present b t.links) (sym same) ∙ (ap (λ c. c && are_present b t.links) (digest_self (rules_digest_of b)) ∙ links_present b t.links held.links) in
+      let is : holds b t ≡ true = ap (λ c. c && are_so (task_now b) t.tasks) (links_so (present b) t.links held.links) ∙ links_so (task_now b) t.tasks held.task in
       let given : given_by K.stored b k (Some t) ≡ Some (outcome_at k t v.0) = ap (λ c. cond c (option_map (outcome_at k t) (K.stored t.result)) None) is ∙ ap (option_map (outcome_at k t)) v.1 in
       let never : None ≡ Some (outcome_at k t v.0) = sym (none t held.kept) ∙ given in
       cc

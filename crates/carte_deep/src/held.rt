@@ -1,21 +1,21 @@
-ghost use Rattle.std.specs.Prelude.{◌≡◌, option_copied, option_map, IfOk};
+ghost use Rattle.std.specs.Prelude.{◌≡◌, ◌++◌, Some, option_copied, option_map, IfOk};
 ghost use Rattle.carte_book.specs.Book.{book_view};
-ghost use Rattle.carte_book.specs.Digest.{rules_digest_of};
 ghost use Rattle.carte_record.specs.Kept.{kept_view};
 ghost use Rattle.carte_table.specs.Lookups.{first_value};
 ghost use Rattle.carte_sound.specs.Begun.{is_digest};
 ghost use Rattle.carte_sound.specs.Marks.{present};
-ghost use Rattle.carte_deep.specs.Holding.{Finds, are_present as all_present, holds, given_by as given, outcome_at};
+ghost use Rattle.carte_sound.specs.Held.{are_so};
+ghost use Rattle.carte_deep.specs.Holding.{Finds, holds, given_by as given, outcome_at};
 
 use carte_book::{Book, Looked};
 use carte_effect::{Hashed, Reuse};
-use carte_rebuild::stored;
-use carte_record::{Kept, Store, Trace};
-use carte_value::{Digest, Link, Links, Name, NoMemory, SharedLinks};
+use carte_rebuild::{are_tasks, stored};
+use carte_record::{DeepTrace, Kept, Store};
+use carte_value::{Link, Links, Name, NoMemory, SharedLinks};
 use std::alloc::Global;
 use std::marker::Model;
 
-/// An earlier end of a task: its key, its value, and the inputs beneath it with their digests.
+/// An earlier end of a task: its key, its value, and the rules and the inputs beneath it with their digests.
 #[derive(Debug, Drop)]
 pub(crate) struct Earlier {
     pub(crate) key: Name,
@@ -43,8 +43,8 @@ impl Earlier {
     }
 }
 
-/// The end that a trace of a key tells of that is of the rules of the book, whose links its inputs have now and whose value
-/// is there.
+/// The end that a trace of a key tells of whose rules have their tasks in the book, whose inputs have their values there, and
+/// whose own value is there.
 pub(crate) fn held(
     alloc: Global,
     kept: &Kept,
@@ -53,49 +53,63 @@ pub(crate) fn held(
 ) -> Result<Option<Earlier>, NoMemory>
     ensures { IfOk result (Finds (kept_view kept.now) (book_view book.now) key.now) }
 {
-    let rules = book.rules_digest(alloc)?;
     let places = kept.deep.places(key);
     for newer in 0..places.len() {
         let at = places[places.len() - 1 - newer];
         let trace = kept.deep.get(at as usize);
-        if let Some(earlier) = given_by(alloc, &kept.values, book, rules, key, trace)? {
+        if let Some(earlier) = given_by(alloc, &kept.values, book, key, trace)? {
             return Ok(Some(earlier));
         }
     }
     Ok(None)
 }
 
-// The end that a trace tells of, where it holds and its value is there.
 fn given_by(
     alloc: Global,
     values: &Store,
     book: &Book,
-    rules: Digest,
     key: &Name,
-    trace: Option<&Trace>,
+    trace: Option<&DeepTrace>,
 ) -> Result<Option<Earlier>, NoMemory>
-    requires { rules ≡ rules_digest_of (book_view book.now) }
     ensures { IfOk result (λ earlier. earlier ≡ given (first_value values.now) (book_view book.now) key.now (option_copied trace.entry)) }
 {
     match trace {
-        Some(trace) if holds(book, rules, trace) => told_by(alloc, values, key, trace),
-        _ => Ok(None),
+        Some(trace) => given_of(alloc, values, book, key, trace),
+        None => Ok(None),
     }
 }
 
-// The rules are compared first: where one has changed, no link is looked up.
-fn holds(book: &Book, rules: Digest, trace: &Trace) -> bool
-    requires { rules ≡ rules_digest_of (book_view book.now) }
-    ensures { result ≡ holds (book_view book.now) trace.now }
+// The end that a trace tells of, where it holds and its value is there.
+fn given_of(
+    alloc: Global,
+    values: &Store,
+    book: &Book,
+    key: &Name,
+    trace: &DeepTrace,
+) -> Result<Option<Earlier>, NoMemory>
+    ensures { IfOk result (λ earlier. earlier ≡ given (first_value values.now) (book_view book.now) key.now (Some trace.now)) }
 {
-    trace.task == rules && are_present(book, trace.links.list())
+    if holds(alloc, book, trace)? {
+        return told_by(alloc, values, key, trace);
+    }
+    Ok(None)
+}
+
+// The inputs are compared first: they are fewer than the rules, and change more often.
+fn holds(alloc: Global, book: &Book, trace: &DeepTrace) -> Result<bool, NoMemory>
+    ensures { IfOk result (λ is. is ≡ holds (book_view book.now) trace.now) }
+{
+    if are_present(book, &trace.links) {
+        return are_tasks(alloc, book, &trace.tasks);
+    }
+    Ok(false)
 }
 
 fn told_by(
     alloc: Global,
     values: &Store,
     key: &Name,
-    trace: &Trace,
+    trace: &DeepTrace,
 ) -> Result<Option<Earlier>, NoMemory>
     ensures { IfOk result (λ earlier. earlier ≡ option_map (outcome_at key.now trace.now) (first_value values.now trace.now.result)) }
 {
@@ -103,15 +117,24 @@ fn told_by(
         Some(value) => Ok(Some(Earlier {
             key: key.copy(alloc)?,
             value,
-            links: trace.links.copy()?,
+            links: compared(alloc, trace)?,
         })),
         None => Ok(None),
     }
 }
 
+// All that was compared, rules before inputs.
+fn compared(alloc: Global, trace: &DeepTrace) -> Result<SharedLinks, NoMemory>
+    ensures { IfOk result (λ links. links ≡ trace.now.tasks ++ trace.now.links) }
+{
+    let mut links = trace.tasks.copy(alloc)?;
+    links.append(trace.links.copy(alloc)?)?;
+    SharedLinks::of(alloc, links)
+}
+
 // Whether each link is to an input of the book, with the digest that it has.
 fn are_present(book: &Book, links: &Links) -> bool
-    ensures { result ≡ all_present (book_view book.now) links.now }
+    ensures { result ≡ are_so (present (book_view book.now)) links.now }
 {
     for link in links.as_slice() {
         if !is_present(book, link) {

@@ -2,30 +2,31 @@
 ghost use Rattle.std.specs.Prelude.{◌≡◌, ℕ, List, []};
 ghost use Rattle.carte_value.specs.Lists.{Has};
 ghost use Rattle.carte_value.specs.Truths.{Among, NoneTwice};
-ghost use Rattle.carte_book.specs.Book.{Book, content, clean};
-ghost use Rattle.carte_book.specs.Digest.{rules_digest_of};
+ghost use Rattle.carte_book.specs.Book.{Book, content};
 ghost use Rattle.carte_book.specs.Needs.{IsRule};
-ghost use Rattle.carte_record.specs.declared.trace.Trace.{Trace};
+ghost use Rattle.carte_book.specs.Task.{task_now};
+ghost use Rattle.carte_record.specs.declared.deep_trace.DeepTrace.{DeepTrace};
 ghost use Rattle.carte_record.specs.declared.way.Way.TheVariants.{Deep};
 ghost use Rattle.carte_record.specs.Kept.{SomeKept};
 ghost use Rattle.carte_sound.specs.Base.{HasDistinctDigests, IsBase};
 ghost use Rattle.carte_sound.specs.Begun.{Beginning, IsBeginning, begin};
-ghost use Rattle.carte_sound.specs.Beneath.{beneath};
+ghost use Rattle.carte_sound.specs.Beneath.{beneath, rules_beneath};
 ghost use Rattle.carte_sound.specs.Finished.{AreFinished};
-ghost use Rattle.carte_sound.specs.Held.{How, IsHeld, IsHeldBy, tracing};
+ghost use Rattle.carte_sound.specs.Held.{AreLinks, How, IsHeld, IsHeldBy, tracing};
 ghost use Rattle.carte_sound.specs.Left.{Finishes, left};
 ghost use Rattle.carte_sound.specs.Sound.{IsSound};
-ghost use Rattle.carte_sound.specs.True.{IsTraceOf, links_to};
+ghost use Rattle.carte_sound.specs.True.{IsTraceOf, deep_trace};
 
-/// Minimality: a key is held where any trace of it is of a book with the present rules in which the inputs beneath it had
-/// their present values.
+/// Minimality: a key is held where any trace of it is of a book in which the rules beneath it had their present tasks and
+/// the inputs there their present values; whatever else that book had.
 pub fn unchanged_is_held()
-    ensures { (K : SomeKept) (b c : Book) (k : List ℕ) (t : Trace) → Has (K.traces Deep k) t → IsTraceOf Deep c k t → rules_digest_of b ≡ rules_digest_of c → ((i : List ℕ) → Among (beneath c k) i → content b i ≡ content c i) → IsHeld (tracing Deep) K b k }
+    ensures { (K : SomeKept) (b c : Book) (k : List ℕ) (t : DeepTrace) → Has (K.traces Deep k) t → IsTraceOf Deep c k t → ((i : List ℕ) → Among (rules_beneath c k) i → task_now b i ≡ task_now c i) → ((i : List ℕ) → Among (beneath c k) i → content b i ≡ content c i) → IsHeld (tracing Deep) K b k }
 {}
 
-/// A rule that is held for one book is held in the build of the next with the same rules, where the inputs beneath it stay.
+/// A rule that is held for one book is held in the build of the next, where the rules and the inputs beneath it stay,
+/// whichever rules were put in, changed or taken away elsewhere.
 pub fn stays_held()
-    ensures { (K : SomeKept) (b c : Book) (H : List Book) (k : List ℕ) (x : Beginning) → IsBase K b H → IsHeld (tracing Deep) K b k → IsRule c k → rules_digest_of c ≡ rules_digest_of b → ((i : List ℕ) → Among (beneath b k) i → content c i ≡ content b i) → IsBeginning K c x → IsHeld (tracing Deep) (begin K x) c k }
+    ensures { (K : SomeKept) (b c : Book) (H : List Book) (k : List ℕ) (x : Beginning) → IsBase K b H → IsHeld (tracing Deep) K b k → IsRule c k → ((i : List ℕ) → Among (rules_beneath b k) i → task_now c i ≡ task_now b i) → ((i : List ℕ) → Among (beneath b k) i → content c i ≡ content b i) → IsBeginning K c x → IsHeld (tracing Deep) (begin K x) c k }
 {}
 
 /// Set back: a rule that is held for a book is held for it again behind the build of another book, of which it is a rule
@@ -35,12 +36,12 @@ pub fn set_back_is_held()
         → IsBeginning (left h c (begin K y) finished chain) b x → IsHeld (tracing Deep) (begin (left h c (begin K y) finished chain) x) b k }
 {}
 
-/// A key without a trace of the present rules isn't held: any rule that is put in, changed or taken away runs all.
-pub fn other_rules_hold_nothing()
-    ensures { (K : SomeKept) (b : Book) (k : List ℕ) → ((t : Trace) → Has (K.traces Deep k) t → ¬ (t.task ≡ rules_digest_of b)) → ¬ (IsHeld (tracing Deep) K b k) }
+/// A key without a trace whose rules all have their present tasks isn't held.
+pub fn other_tasks_hold_nothing()
+    ensures { (K : SomeKept) (b : Book) (k : List ℕ) → ((t : DeepTrace) → Has (K.traces Deep k) t → ¬ (AreLinks (task_now b) t.tasks)) → ¬ (IsHeld (tracing Deep) K b k) }
 {}
 
-/// The links of a trace that a key is held by are those of the inputs beneath it.
-pub fn held_links_are_present()
-    ensures { (K : SomeKept) (b : Book) (H : List Book) (k : List ℕ) (t : Trace) → IsBase K b H → IsHeldBy Deep K b k t → t.links ≡ links_to (clean b) (beneath b k) }
+/// A trace that a key is held by names just the rules and the inputs beneath it, and is that of the present book.
+pub fn held_trace_is_present()
+    ensures { (K : SomeKept) (b : Book) (H : List Book) (k : List ℕ) (t : DeepTrace) → IsBase K b H → IsHeldBy Deep K b k t → t ≡ deep_trace b k }
 {}

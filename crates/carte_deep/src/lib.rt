@@ -1,27 +1,26 @@
-//! Deep traces: a key has the result of any earlier trace of the book's rules whose inputs, those beneath the key, have the
-//! values of then.
+//! Deep traces: a key has the result of any earlier trace whose rules and inputs, those beneath the key, are what they were.
 //!
-//! Whether such a trace holds is known before anything is worked out, since the book has the inputs. So `start` compares
-//! the links of the key's traces with the book, one trace after another, and the job of a held key has its result from the
-//! start: it asks for nothing, and no task is made for it. Each other key runs its task. All rules are compared by one
-//! digest, so any rule that is put in, changed or taken away runs all. A name that is no input of the book, a digest that
-//! differs, and a result that the store lacks each count as a difference. The needs of a held key aren't looked into, so a
-//! build that changes nothing looks at its targets alone.
+//! Whether such a trace holds is known before anything is worked out, since the book has the rules and the inputs. So `start`
+//! compares what the key's traces name with the book, one trace after another, and the job of a held key has its result from
+//! the start: it asks for nothing, and no task is made for it. Each other key runs its task. A trace names each rule beneath
+//! its key with the digest of that rule's task, so a rule that is put in, changed or taken away runs what lies above it, and
+//! nothing else. A name that is no rule or no input of the book any more, a digest that differs, and a result that the store
+//! lacks each count as a difference. The needs of a held key aren't looked into, so a build that changes nothing looks at its
+//! targets alone.
 //!
-//! The price is in the links. A trace links all inputs beneath its key, and its entry names them, so those of a chain of
-//! rules, each with an input of its own, grow with the product of the chain and its inputs: a hundred rules over a hundred
-//! inputs leave about five thousand links. And nothing is cut off early: where an input changes, all rules above it run,
-//! though the values between are the same as before.
+//! The price is in what a trace names: all rules and all inputs beneath its key. In a chain of rules, each with an input of
+//! its own, that grows with the square of the chain: a hundred rules leave about ten thousand names. And nothing is cut off
+//! early: where an input or a rule changes, all rules above it run, though the values between are the same as before.
 //!
-//! Laws, each the contract of a function that does nothing, say which keys are held: those beneath which the inputs have the
-//! values of a trace (`unchanged_is_held`, `stays_held`, `other_rules_hold_nothing`), also where what has changed is set back
-//! (`set_back_is_held`).
+//! Laws, each the contract of a function that does nothing, say which keys are held: those beneath which the rules and the
+//! inputs are those of a trace (`unchanged_is_held`, `stays_held`, `other_tasks_hold_nothing`), also where what has changed
+//! is set back (`set_back_is_held`). A trace that holds names just what lies beneath its key now (`held_trace_is_present`).
 //!
 //! Turned down:
 //! - A check in the job, which asks for the inputs: over a part of the values that lacks one it would stop at a name that
 //!   the key may not need, so a job would stop at names that nobody works out.
 //! - `Tries`, whose checks ask for the needs of the key alone, for the same reason.
-//! - One look-up by a digest of all links: the names must be known before, and they differ from trace to trace.
+//! - One digest of all rules in each trace, which any edit of any rule changes.
 #![tactic(auto)]
 
 mod held;
@@ -38,12 +37,12 @@ use carte_record::{Kept, Way};
 use carte_value::{Name, NoMemory};
 pub use job::DeepJob;
 pub use laws::{
-    held_links_are_present, other_rules_hold_nothing, set_back_is_held, stays_held,
+    held_trace_is_present, other_tasks_hold_nothing, set_back_is_held, stays_held,
     unchanged_is_held,
 };
 use std::alloc::Global;
 
-/// Reuses the result of any trace of a key that is of the book's rules and whose inputs beneath it still have their digests.
+/// Reuses the result of any trace of a key whose rules and inputs beneath it still have their digests.
 #[derive(Clone, Copy, Debug)]
 pub struct Deep;
 

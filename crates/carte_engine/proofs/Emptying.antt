@@ -10,12 +10,12 @@ use Rattle.carte_record.specs.declared.batch.Batch.{Batch}
 use Rattle.carte_record.specs.declared.entry.Entry.{Entry}
 use Rattle.carte_record.specs.declared.kept.Kept.{Kept}
 use Rattle.carte_record.specs.declared.start.Start.TheVariants.{Cleared}
-use Rattle.carte_record.specs.declared.trace.Trace.{Trace}
 use Rattle.carte_record.specs.declared.way.Way.{Way}
 use Rattle.carte_record.specs.declared.way.Way.TheVariants.{Verifying, Constructive, Deep}
 use Rattle.carte_record.specs.Empty.{is_empty}
 use Rattle.carte_record.specs.Folds.{apply, batch_traces}
 use Rattle.carte_record.specs.Kept.{SomeKept, kept_traces, kept_view, nothing_kept, traces_in}
+use Rattle.carte_record.specs.Ways.{TraceBy}
 use Rattle.carte_table.specs.Lookups.{first_link, first_value}
 use Rattle.carte_record.specs.Lookups.{first_entry}
 use Rattle.carte_sound.specs.LeadsTo.{empty_batch}
@@ -40,7 +40,7 @@ bare_kept K is =
     ∙ ap (λ (ls : List Link). record (kept_view K) { chain = []; seen = first_link ls }) (no_items K.seen second.0)
     ∙ ap (λ (es : List Entry). record (kept_view K) { chain = []; seen = λ k. None; entries = first_entry es }) (no_items K.entries second.1)
     ∙ ap (λ (vs : List Value). record (kept_view K) { chain = []; seen = λ k. None; entries = λ k. None; stored = first_value vs }) (no_items K.values fourth.1)
-    ∙ ap (λ (f : Way → List Trace). record nothing_kept { traces = λ w k. traces_in k (f w) [] }) (fun_ext (no_traces (no_items K.verifying third.0) (no_items K.constructive third.1) (no_items K.deep fourth.0)))
+    ∙ ap (λ (f : (w : Way) → List (TraceBy w)). record nothing_kept { traces = λ w k. traces_in w k (f w) [] }) (fun_ext (no_traces (no_items K.verifying third.0) (no_items K.constructive third.1) (no_items K.deep fourth.0)))
   where
     no_traces : K.verifying ≡ [] → K.constructive ≡ [] → K.deep ≡ [] → (w : Way) → kept_traces w K ≡ []
     no_traces v c d Verifying = v
@@ -65,7 +65,7 @@ no_trace Deep = refl
 
 empties_by : (K : SomeKept) (bare : Bool) → (bare ≡ true → K ≡ nothing_kept) → apply (cleared_by bare) K ≡ nothing_kept
 empties_by K true nothing = empty_applied K ∙ nothing refl
-empties_by K false nothing = ap (λ (f : Way → List Trace). record nothing_kept { traces = λ w k. traces_in k (f w) [] }) (fun_ext no_trace)
+empties_by K false nothing = ap (λ (f : (w : Way) → List (TraceBy w)). record nothing_kept { traces = λ w k. traces_in w k (f w) [] }) (fun_ext no_trace)
 
 -- nothing is kept behind it, of either version
 module _ (K : Kept) where

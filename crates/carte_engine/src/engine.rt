@@ -87,7 +87,7 @@ impl Engine {
     }
 
     /// Whether what is kept is of version 1. Then a build asks for the digest of the book's rules, which the book should
-    /// know, as under deep traces.
+    /// know.
     pub fn is_old(&self) -> bool
         ensures { result ≡ is_some self.now.one }
     {
@@ -125,8 +125,8 @@ impl Engine {
     /// and no call of a disk is made. What is known of it holds where what is kept is sound, for whatever history. Where
     /// that is of version 1, the first batch makes version 2 of it, and the build is worked out over what that leaves.
     ///
-    /// Under deep traces, and over a state of version 1, the digest of the book's rules is asked for, so whoever builds lets
-    /// the book know it first (`Book::know_digest`): else each key works it out.
+    /// Over a state of version 1 the digest of the book's rules is asked for, so whoever builds lets the book know it first
+    /// (`Book::know_digest`).
     ///
     /// Where rules wait for what they need, several workers drive side by side those that can go on, and `gate` is passed
     /// by each of them. No clause names them: what is told is told for any number. Other schedulers take no notice of them.

@@ -12,16 +12,17 @@ use Rattle.carte_tree.specs.Tree.{Tree}
 use Rattle.carte_tree.specs.Meaning.{asks, fetched}
 use Rattle.carte_book.specs.Book.{Book, rule, content, clean}
 use Rattle.carte_book.specs.Needs.{needs}
-use Rattle.carte_record.specs.declared.trace.Trace.{Trace}
 use Rattle.carte_record.specs.declared.way.Way.{Way}
 use Rattle.carte_record.specs.Kept.{SomeKept}
-use Rattle.carte_sound.specs.True.{digest_or, links_to, or_none, wanted_task}
+use Rattle.carte_record.specs.Ways.{TraceBy, links_by}
+use Rattle.carte_sound.specs.True.{digest_or, links_to}
 use Rattle.carte_sound.specs.Sound.{IsTraceOfSome}
 use Rattle.carte_sound.specs.Base.{IsBase}
-use Rattle.carte_sound.specs.Held.{AreLinks, clean_digest}
+use Rattle.carte_sound.specs.Held.{AreLinks, clean_digest, IsTasked}
 use Rattle.carte_sound.proofs.Held.{needs_rule, need_has_value, same_rule, digest_value}
+use Rattle.carte_sound.proofs.Traces.{trace_links}
 use Rattle.carte_rebuild.proofs.Parting.{Parted, firsts_parted, AsksToo, asks_too}
-use Rattle.carte_rebuild.proofs.TracedChecks.{OfNeeds, links_needs, wanted_needs}
+use Rattle.carte_rebuild.proofs.TracedChecks.{OfNeeds, links_needs}
 
 -- names whose links are parted at a link
 pub record NamesParted (t : Truth) (ks : List (List ℕ)) (before : List Link) (l : Link) : Type 0 where
@@ -48,7 +49,7 @@ link_of now t (k ∷ ks) are i (inl same) = subst (λ j. now j ≡ Some (digest_
 link_of now t (k ∷ ks) are i (inr later) = link_of now t ks are.1 i later
 
 module _ (w : Way) (of : OfNeeds w) (K : SomeKept) (b : Book) (H : List Book) (base : IsBase K b H) (k : List ℕ) where
-  pub asks_first : (t : Trace) → IsTraceOfSome K H w k t → wanted_task w b k ≡ Some t.task → (before behind : List Link) (l : Link) → t.links ≡ before ++ l ∷ behind → AreLinks (clean_digest b) before → Among (needs b k) l.name
+  pub asks_first : (t : TraceBy w) → IsTraceOfSome K H w k t → IsTasked w b k t → (before behind : List Link) (l : Link) → links_by w t ≡ before ++ l ∷ behind → AreLinks (clean_digest b) before → Among (needs b k) l.name
   asks_first t s task before behind l is are =
       subst (λ ks. Among ks j) (sym (needs_rule b k f rule_b)) (firsts_among (asked (clean b) (asks b.kind f)) j (subst (λ ks. Among ks j) (sym too.is) (among_right whole.before (j ∷ too.behind) j (inl refl))))
     where
@@ -62,7 +63,7 @@ module _ (w : Way) (of : OfNeeds w) (K : SomeKept) (b : Book) (H : List Book) (b
       f = s.trace.formula
 
       same : (c.kind ≡ b.kind) × (content b k ≡ Some (rule f))
-      same = same_rule K b H base w k t s (ap (λ (x : Trace). x.task) s.trace.trace ∙ ap or_none (wanted_needs w of c k)) (sym (wanted_needs w of b k) ∙ task)
+      same = same_rule K b H base w of.looks k t s task
 
       rule_b : content b k ≡ Some (rule f)
       rule_b = same.1
@@ -70,8 +71,8 @@ module _ (w : Way) (of : OfNeeds w) (K : SomeKept) (b : Book) (H : List Book) (b
       names : needs c k ≡ firsts (asked (clean c) (asks b.kind f))
       names = needs_rule c k f s.trace.is_rule ∙ ap (λ q. fetched q (clean c) f) same.0
 
-      links : t.links ≡ links_to (clean c) (needs c k)
-      links = ap (λ (x : Trace). x.links) s.trace.trace ∙ ap (links_to (clean c)) (links_needs w of c k)
+      links : links_by w t ≡ links_to (clean c) (needs c k)
+      links = ap (links_by w) s.trace.trace ∙ trace_links w c k ∙ ap (links_to (clean c)) (links_needs w of c k)
 
       split : NamesParted (clean c) (needs c k) before l
       split = names_parted (clean c) (needs c k) before behind l (sym links ∙ is)

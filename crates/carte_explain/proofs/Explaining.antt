@@ -1,5 +1,5 @@
 -- Why a key ran, from what its work found.
-use Rattle.std.proofs.Common.{◌≡◌, ℕ, Bool, true, false, ◌&&◌, cond, List, [], ◌∷◌, ◌++◌, Option, Some, None, option_map, refl, ap, sym, ◌∙◌, subst, inl, inr}
+use Rattle.std.proofs.Common.{◌≡◌, ℕ, Bool, true, false, not, ◌&&◌, ◌||◌, cond, List, [], ◌∷◌, ◌++◌, Option, Some, None, option_map, refl, ap, sym, ◌∙◌, subst, inl, inr}
 use Rattle.std.specs.Prelude.{find, is_none, unwrap_or}
 use Rattle.carte_value.specs.declared.digest.Digest.{Digest}
 use Rattle.carte_value.specs.declared.link.Link.{Link}
@@ -11,10 +11,9 @@ use Rattle.carte_value.specs.Truths.{Among}
 use Rattle.carte_name.specs.Names.{name_eq}
 use Rattle.carte_tree.specs.Tree.{Tree}
 use Rattle.carte_book.specs.Book.{Book, Item, input, rule, content, clean}
-use Rattle.carte_book.specs.Digest.{rules_digest_of}
 use Rattle.carte_book.specs.Needs.{IsRule}
 use Rattle.carte_book.specs.Reason.{AllClean, IsClean}
-use Rattle.carte_book.specs.Task.{task_digest_of}
+use Rattle.carte_book.specs.Task.{task_digest_of, task_now}
 use Rattle.carte_book.proofs.Clean.{clean_nothing}
 use Rattle.carte_book.proofs.Tasks.{task_of_rule}
 use Rattle.carte_effect.specs.declared.outcome.Made.{Made}
@@ -30,24 +29,25 @@ use Rattle.carte_record.specs.declared.way.Way.TheVariants.{Verifying, Construct
 use Rattle.carte_record.specs.Folds.{is_among}
 use Rattle.carte_record.specs.Kept.{SomeKept, kept_view, staled}
 use Rattle.carte_record.specs.Lookups.{first_entry, is_trace_of}
+use Rattle.carte_rebuild.specs.Earlier.{is_wanted}
 use Rattle.carte_rebuild.proofs.TracedChecks.{OfNeeds, of_constructive, of_verifying}
 use Rattle.carte_rebuild.proofs.TracesOf.{traces_there, traces_only}
 use Rattle.carte_rebuild.specs.Ends.{IsWork}
 use Rattle.carte_rebuild.specs.declared.work.Work.{Work}
 use Rattle.carte_sound.specs.Base.{HasDistinctDigests, IsBase}
 use Rattle.carte_sound.specs.Begun.{Beginning, IsBeginning, IsByRole, begin}
-use Rattle.carte_sound.specs.Held.{How, dirty, tracing, AreLinks, clean_digest, digest_now, IsHeld}
+use Rattle.carte_sound.specs.Held.{How, dirty, tracing, AreLinks, are_so, clean_digest, digest_now, IsTasked, IsHeld}
 use Rattle.carte_sound.specs.Marks.{IsChanged, IsMarked}
 use Rattle.carte_sound.specs.Sound.{IsSound, IsTraceOfSome}
 use Rattle.carte_sound.specs.Treated.{IsTreated, IsDoneSuspending}
 use Rattle.carte_sound.specs.Treated as treated
-use Rattle.carte_sound.specs.True.{wanted_task}
 use Rattle.carte_sound.proofs.Begins.{begun_base, behind_sound, has_last}
 use Rattle.carte_sound.proofs.ByRole.{by_role}
 use Rattle.carte_sound.proofs.Held.{need_has_value}
-use Rattle.carte_sound.proofs.Tests.{staled_from, tested_among}
+use Rattle.carte_sound.proofs.SoNow.{so_links, links_so}
+use Rattle.carte_sound.proofs.Tests.{digest_self, same_digest, staled_from, tested_among}
 use Rattle.carte_table.specs.Lookups.{digest_eq}
-use Rattle.carte_explain.specs.Found.{FindsCause, FindsEntry, FindsMark, digest_found, is_apart, is_match, is_of_needs, matching_why, path_why, stored_why, traces_why, tracing_why, verifying_why, way_why}
+use Rattle.carte_explain.specs.Found.{FindsCause, FindsEntry, FindsMark, by_task, constructive_why, deep_why, digest_found, is_apart, is_match, is_of_needs, matching_why, path_why, stored_why, traces_why, verifying_why}
 use Rattle.carte_explain.specs.Paths.{EndsIn, IsChangedAnswer, is_seen_changed, needs_at}
 use Rattle.carte_explain.specs.Why.{IsCause, IsEntered, IsNew, IsWhy, how_of}
 use Rattle.carte_explain.specs.declared.why.RebuilderKind.{RebuilderKind}
@@ -58,7 +58,7 @@ use Rattle.carte_explain.proofs.Asking.{asks_first}
 use Rattle.carte_explain.proofs.Changing.{ends_other, ends_seen}
 use Rattle.carte_explain.proofs.Leading.{no_change, path_ends}
 use Rattle.carte_explain.proofs.Parts.{both, find_has, find_none}
-use Rattle.carte_explain.proofs.Tracing.{Tells, from_newest, has_task, links_match, match_found, of_task}
+use Rattle.carte_explain.proofs.Tracing.{Tells, TestsTasks, from_newest, links_match, match_found}
 use Rattle.carte_explain.proofs.Working.{clean_found, finished_among, finished_there, found_clean, found_deep, right_of}
 
 needs_way : (w : Way) → OfNeeds w → is_of_needs w ≡ true
@@ -104,27 +104,38 @@ is_nothing : {A : Type 0} (o : Option A) → is_none o ≡ true → o ≡ None
 is_nothing None is = refl
 is_nothing (Some x) is = cc
 
--- a rule has a task of each kind
-has_wanted : (w : Way) (b : Book) (k : List ℕ) → IsRule b k → (d : Digest) × (wanted_task w b k ≡ Some d)
-has_wanted Verifying b k is_rule = (task_digest_of b.kind is_rule.0, task_of_rule b k is_rule.0 is_rule.1)
-has_wanted Constructive b k is_rule = (task_digest_of b.kind is_rule.0, task_of_rule b k is_rule.0 is_rule.1)
-has_wanted Deep b k is_rule = (rules_digest_of b, refl)
+-- a trace of needs of the present task, by the test
+module _ (b : Book) (k : List ℕ) (task : Digest) (wanted : task_now b k ≡ Some task) where
+  of_task : (t : Trace) → digest_eq task t.task ≡ true → task_now b k ≡ Some t.task
+  of_task t test = wanted ∙ ap Some (same_digest task t.task test)
+
+  has_task : (t : Trace) → task_now b k ≡ Some t.task → digest_eq task t.task ≡ true
+  has_task t is =
+      let e : Some task ≡ Some t.task = sym wanted ∙ is in
+      let same : task ≡ t.task = cc in
+      ap (digest_eq task) (sym same) ∙ digest_self task
+
+-- what the test of a deep trace says
+deep_tests : (b : Book) (k : List ℕ) → TestsTasks Deep b k (λ t. not true || are_so (task_now b) t.tasks)
+deep_tests b k = record { tells = λ t test. so_links (task_now b) t.tasks test; told = λ t are. links_so (task_now b) t.tasks are }
 
 -- a rule that isn't held, over what the build begins with
 module _ (K : Kept) (b : Book) (H : List Book) (x : Beginning) (begins : IsBeginning (kept_view K) b x) (base : IsBase (begin (kept_view K) x) b H) (role : IsByRole (kept_view K) b x (begin (kept_view K) x)) (fs : List Finished) (k : List ℕ) (is_rule : IsRule b k) where
   abbrev M : SomeKept
   M = begin (kept_view K) x
 
-  module _ (task : Digest) (wanted : wanted_task Verifying b k ≡ Some task) (tells : Tells Verifying M b fs k) (unheld : ¬ (IsHeld (tracing Verifying) M b k)) where
+  module _ (task : Digest) (wanted : task_now b k ≡ Some task) (tells : Tells Verifying M b fs k) (unheld : ¬ (IsHeld (tracing Verifying) M b k)) where
     abbrev matches : Trace → Bool
     matches = is_match (digest_found Verifying b fs) k task
 
-    never : find matches K.verifying ≡ None → (t : Trace) → Has (M.traces Verifying k) t → wanted_task Verifying b k ≡ Some t.task → ¬ (AreLinks (digest_now Verifying b) t.links)
-    never none t kept is_task are = elim (traces_only k K.verifying [] t (subst (λ ts. Has ts t) (role.traces Verifying k is_rule) kept)) [
+    never : find matches K.verifying ≡ None → (t : Trace) → Has (M.traces Verifying k) t → IsTasked Verifying b k t → ¬ (AreLinks (digest_now Verifying b) t.links)
+    never none t kept is_task are = elim (traces_only Verifying k K.verifying [] t (subst (λ ts. Has ts t) (role.traces Verifying k is_rule) kept)) [
       | inl (there, of_key) ↦
+          let key : name_eq k t.key ≡ true = of_key in
+          let same : digest_eq task t.task ≡ true = has_task b k task wanted t is_task in
+          let alike : find (is_apart (digest_found Verifying b fs)) t.links ≡ None = match_found Verifying M b fs k tells t kept is_task are in
           let fails : ((name_eq k t.key && digest_eq task t.task) && is_none (find (is_apart (digest_found Verifying b fs)) t.links)) ≡ false = find_none matches K.verifying t none there in
-          let passes : ((name_eq k t.key && digest_eq task t.task) && is_none (find (is_apart (digest_found Verifying b fs)) t.links)) ≡ true =
-          rw (of_key, has_task Verifying M b fs k task wanted tells t is_task, match_found Verifying M b fs k task wanted tells t kept is_task are) refl in
+          let passes : ((name_eq k t.key && digest_eq task t.task) && is_none (find (is_apart (digest_found Verifying b fs)) t.links)) ≡ true = rw (key, same, alike) refl in
           let n : true ≡ false = sym passes ∙ fails in
           cc
       | inr nowhere ↦ absurd nowhere
@@ -157,13 +168,13 @@ module _ (K : Kept) (b : Book) (H : List Book) (x : Beginning) (begins : IsBegin
         of_key = both (is_trace_of k t) (digest_eq task t.task) parts.0
 
         kept : Has (M.traces Verifying k) t
-        kept = subst (λ ts. Has ts t) (sym (role.traces Verifying k is_rule)) (traces_there k K.verifying [] t has.0 of_key.0)
+        kept = subst (λ ts. Has ts t) (sym (role.traces Verifying k is_rule)) (traces_there Verifying k K.verifying [] t has.0 of_key.0)
 
-        is_task : wanted_task Verifying b k ≡ Some t.task
-        is_task = of_task Verifying M b fs k task wanted tells t of_key.1
+        is_task : task_now b k ≡ Some t.task
+        is_task = of_task b k task wanted t of_key.1
 
         links : AreLinks (digest_now Verifying b) t.links
-        links = links_match Verifying M b fs k task wanted tells t (is_nothing (find (is_apart (digest_found Verifying b fs)) t.links) parts.1)
+        links = links_match Verifying M b fs k tells t (is_nothing (find (is_apart (digest_found Verifying b fs)) t.links) parts.1)
 
         s : IsTraceOfSome M H Verifying k t
         s = base.sound.traces Verifying k t kept
@@ -177,8 +188,9 @@ module _ (K : Kept) (b : Book) (H : List Book) (x : Beginning) (begins : IsBegin
     from_verifying : IsCause (tracing Verifying) (kept_view K) M b k (verifying_why K b fs k task)
     from_verifying = on (find matches K.verifying) refl
       where
-        on : (o : Option Trace) → find matches K.verifying ≡ o → IsCause (tracing Verifying) (kept_view K) M b k (matching_why o (first_entry K.entries k) (traces_why Verifying K b fs k task))
-        on None none = from_newest Verifying M b fs k task wanted tells (kept_view K) K (role.traces Verifying k is_rule) is_rule unheld (never none) (never none)
+        on : (o : Option Trace) → find matches K.verifying ≡ o → IsCause (tracing Verifying) (kept_view K) M b k (matching_why o (first_entry K.entries k) (traces_why Verifying K.verifying b fs k task))
+        on None none = from_newest Verifying M b fs k tells (kept_view K) K (role.traces Verifying k is_rule) is_rule unheld (λ t. is_wanted (Some task) t.task) (λ t. is_wanted None t.task)
+            (record { tells = of_task b k task wanted; told = has_task b k task wanted }) (λ t. refl) (never none) (never none)
         on (Some t) found = other_result t found
 
   -- a fresh entry that isn't held leads to a change
@@ -225,17 +237,26 @@ module _ (K : Kept) (b : Book) (H : List Book) (x : Beginning) (begins : IsBegin
       on None is found = subst Causes (sym found) (is_rule, unheld, role.entry k is_rule ∙ ap (option_map (staled (is_among x.marks k))) is)
       on (Some e) is found = mark e is e.stale e.shallow refl refl found
 
-  -- by the traces of a kind
-  pub from_way : (w : Way) → Tells w M b fs k → ¬ (IsHeld (tracing w) M b k) → (why : Why) → why ≡ tracing_why w K b fs k (wanted_task w b k) → IsCause (tracing w) (kept_view K) M b k why
-  from_way w tells unheld why found =
-      let has = has_wanted w b k is_rule in
-      subst (IsCause (tracing w) (kept_view K) M b k) (sym (found ∙ ap (tracing_why w K b fs k) has.1)) (by w has.0 has.1 tells unheld)
-    where
-      by : (v : Way) (task : Digest) → wanted_task v b k ≡ Some task → Tells v M b fs k → ¬ (IsHeld (tracing v) M b k) → IsCause (tracing v) (kept_view K) M b k (way_why v K b fs k task)
-      by Verifying task wanted told apart = from_verifying task wanted told apart
-      by Constructive task wanted told apart =
-          from_newest Constructive M b fs k task wanted told (kept_view K) K (role.traces Constructive k is_rule) is_rule apart (λ t kept is_task are. apart (t, record { kept = kept; task = is_task; links = are; trusted = tt })) tt
-      by Deep task wanted told apart = from_newest Deep M b fs k task wanted told (kept_view K) K (role.traces Deep k is_rule) is_rule apart (λ t kept is_task are. apart (t, record { kept = kept; task = is_task; links = are; trusted = tt })) tt
+  -- by the traces of each kind
+  pub from_verified : Tells Verifying M b fs k → ¬ (IsHeld (tracing Verifying) M b k) → (why : Why) → why ≡ by_task (verifying_why K b fs k) (task_now b k) → IsCause (tracing Verifying) (kept_view K) M b k why
+  from_verified tells unheld why found =
+      let has = task_of_rule b k is_rule.0 is_rule.1 in
+      subst (IsCause (tracing Verifying) (kept_view K) M b k) (sym (found ∙ ap (by_task (verifying_why K b fs k)) has)) (from_verifying (task_digest_of b.kind is_rule.0) has tells unheld)
+
+  pub from_constructed : Tells Constructive M b fs k → ¬ (IsHeld (tracing Constructive) M b k) → (why : Why) → why ≡ by_task (constructive_why K b fs k) (task_now b k) → IsCause (tracing Constructive) (kept_view K) M b k why
+  from_constructed tells unheld why found =
+      let task = task_digest_of b.kind is_rule.0 in
+      let has = task_of_rule b k is_rule.0 is_rule.1 in
+      subst (IsCause (tracing Constructive) (kept_view K) M b k) (sym (found ∙ ap (by_task (constructive_why K b fs k)) has))
+      (from_newest Constructive M b fs k tells (kept_view K) K (role.traces Constructive k is_rule) is_rule unheld (λ t. is_wanted (Some task) t.task) (λ t. is_wanted None t.task)
+      (record { tells = of_task b k task has; told = has_task b k task has }) (λ t. refl)
+      (λ t kept is_task are. unheld (t, record { kept = kept; task = is_task; links = are; trusted = tt })) tt)
+
+  pub from_deep : Tells Deep M b fs k → ¬ (IsHeld (tracing Deep) M b k) → (why : Why) → why ≡ deep_why K b fs k → IsCause (tracing Deep) (kept_view K) M b k why
+  from_deep tells unheld why found =
+      subst (IsCause (tracing Deep) (kept_view K) M b k) (sym found)
+      (from_newest Deep M b fs k tells (kept_view K) K (role.traces Deep k is_rule) is_rule unheld (λ t. not true || are_so (task_now b) t.tasks) (λ t. not false || are_so (task_now b) t.tasks) (deep_tests b k) (λ t. refl)
+      (λ t kept is_task are. unheld (t, record { kept = kept; task = is_task; links = are; trusted = tt })) tt)
 
 -- by what its work found
 module _ (K : Kept) (b : Book) (H : List Book) (x : Beginning) (begins : IsBeginning (kept_view K) b x) (base : IsBase (begin (kept_view K) x) b H) (role : IsByRole (kept_view K) b x (begin (kept_view K) x)) (targets : List (List ℕ)) (work : Work) (k : List ℕ) (is_rule : IsRule b k) (is_clean : IsClean b k) where
@@ -244,11 +265,11 @@ module _ (K : Kept) (b : Book) (H : List Book) (x : Beginning) (begins : IsBegin
   caused kind.Dirty is_work is_treated unheld why found = from_entry K b H x begins base role work.finished k is_rule unheld why found
   caused kind.Verifying is_work is_treated unheld why found =
       let tells = tells_needs Verifying of_verifying (begin (kept_view K) x) b H base targets work is_work k is_treated unheld is_rule.0 is_clean.0 is_rule.1 is_clean.1 in
-      from_way K b H x begins base role work.finished k is_rule Verifying tells unheld why found
+      from_verified K b H x begins base role work.finished k is_rule tells unheld why found
   caused kind.Constructive is_work is_treated unheld why found =
       let tells = tells_needs Constructive of_constructive (begin (kept_view K) x) b H base targets work is_work k is_treated unheld is_rule.0 is_clean.0 is_rule.1 is_clean.1 in
-      from_way K b H x begins base role work.finished k is_rule Constructive tells unheld why found
-  caused kind.Deep is_work is_treated unheld why found = from_way K b H x begins base role work.finished k is_rule Deep (tells_deep (begin (kept_view K) x) b work.finished k) unheld why found
+      from_constructed K b H x begins base role work.finished k is_rule tells unheld why found
+  caused kind.Deep is_work is_treated unheld why found = from_deep K b H x begins base role work.finished k is_rule (tells_deep (begin (kept_view K) x) b work.finished k) unheld why found
 
 none_left : {A : Type 0} (f : Finished → A) (o : Option Finished) → None ≡ option_map f o → o ≡ None
 none_left f None is = refl

@@ -1,24 +1,26 @@
 -- What is looked up for a cause.
-use Rattle.std.specs.Prelude.{ℕ, ◌≡◌, Bool, true, false, not, ◌&&◌, List, Option, Some, None, find, is_none, unwrap_or, if◌then◌else◌}
+use Rattle.std.specs.Prelude.{ℕ, ◌≡◌, Bool, true, false, not, ◌&&◌, ◌||◌, List, Option, Some, None, find, is_none, is_some, unwrap_or, if◌then◌else◌}
 use Rattle.carte_value.specs.declared.digest.Digest.{Digest}
 use Rattle.carte_value.specs.declared.link.Link.{Link}
 use Rattle.carte_value.specs.declared.value.Value.TheVariants.{Empty}
 use Rattle.carte_value.specs.Spelling.{digest_of}
 use Rattle.carte_effect.specs.Jobs.{outcome_of}
 use Rattle.carte_book.specs.Book.{Book, Item, input, rule, content}
+use Rattle.carte_book.specs.Task.{task_now}
 use Rattle.carte_note.specs.declared.finished.Finished.{Finished}
 use Rattle.carte_note.specs.Lists.{finished_of}
+use Rattle.carte_record.specs.declared.deep_trace.DeepTrace.{DeepTrace}
 use Rattle.carte_record.specs.declared.entry.Entry.{Entry}
 use Rattle.carte_record.specs.declared.kept.Kept.{Kept}
 use Rattle.carte_record.specs.declared.trace.Trace.{Trace}
 use Rattle.carte_record.specs.declared.way.Way.{Way}
 use Rattle.carte_record.specs.declared.way.Way.TheVariants.{Verifying, Constructive, Deep}
-use Rattle.carte_record.specs.Kept.{SomeKept, kept_traces, kept_view}
+use Rattle.carte_record.specs.Kept.{SomeKept, kept_view}
 use Rattle.carte_table.specs.Lookups.{find_last}
-use Rattle.carte_record.specs.Lookups.{first_entry, is_trace_of}
+use Rattle.carte_record.specs.Lookups.{first_entry, is_trace_of, is_deep_of}
 use Rattle.carte_rebuild.specs.Earlier.{is_wanted}
 use Rattle.carte_sound.specs.Begun.{is_digest}
-use Rattle.carte_sound.specs.True.{wanted_task}
+use Rattle.carte_sound.specs.Held.{are_so}
 use Rattle.carte_explain.specs.Paths.{IsChangedAnswer, end_of, is_seen_changed}
 use Rattle.carte_explain.specs.declared.why.RebuilderKind.{RebuilderKind}
 use Rattle.carte_explain.specs.declared.why.RebuilderKind.TheVariants as kind
@@ -60,24 +62,22 @@ abbrev pub apart_why : (List ℕ → Option Digest) → Option Link → Why
 apart_why now None = Reusable
 apart_why now (Some l) = differing_why now l
 
-abbrev pub trace_why : (List ℕ → Option Digest) → Trace → Why
-trace_why now t = apart_why now (find (is_apart now) t.links)
+abbrev pub trace_why : (List ℕ → Option Digest) → List Link → Why
+trace_why now ls = apart_why now (find (is_apart now) ls)
 
--- by any trace of the key, where none is of the present task
-abbrev pub untold_why : Option Trace → Why
-untold_why None = NoTrace
-untold_why (Some t) = RuleChanged
+-- where no trace of the key is of the present tasks, by whether there is one
+abbrev pub untold_why : Bool → Why
+untold_why true = RuleChanged
+untold_why false = NoTrace
 
--- by the newest trace, and by the newest one of the present task
-abbrev pub newest_why : (List ℕ → Option Digest) → Option Trace → Option Trace → Why
-newest_why now any None = untold_why any
-newest_why now any (Some t) = trace_why now t
+-- by the newest trace, and by the newest one of the present tasks
+abbrev pub newest_why : {A : Type 0} → (A → List Link) → (List ℕ → Option Digest) → Option A → Option A → Why
+newest_why links now any None = untold_why (is_some any)
+newest_why links now any (Some t) = trace_why now (links t)
 
-abbrev pub newest_of : Way → Kept → List ℕ → Option Digest → Option Trace
-newest_of w K k wanted = find_last (is_trace_with k wanted) (kept_traces w K)
-
-abbrev pub traces_why : Way → Kept → Book → List Finished → List ℕ → Digest → Why
-traces_why w K b fs k task = newest_why (digest_found w b fs) (newest_of w K k None) (newest_of w K k (Some task))
+-- by the traces of a list that are of the key
+abbrev pub traces_why : Way → List Trace → Book → List Finished → List ℕ → Digest → Why
+traces_why w ts b fs k task = newest_why (λ t. t.links) (digest_found w b fs) (find_last (is_trace_with k None) ts) (find_last (is_trace_with k (Some task)) ts)
 
 abbrev pub stored_why : Option Entry → Trace → Why
 stored_why None t = NoEntry
@@ -88,17 +88,22 @@ matching_why None o why = why
 matching_why (Some t) o why = stored_why o t
 
 abbrev pub verifying_why : Kept → Book → List Finished → List ℕ → Digest → Why
-verifying_why K b fs k task = matching_why (find (is_match (digest_found Verifying b fs) k task) K.verifying) (first_entry K.entries k) (traces_why Verifying K b fs k task)
+verifying_why K b fs k task = matching_why (find (is_match (digest_found Verifying b fs) k task) K.verifying) (first_entry K.entries k) (traces_why Verifying K.verifying b fs k task)
 
-abbrev pub way_why : Way → Kept → Book → List Finished → List ℕ → Digest → Why
-way_why Verifying K b fs k task = verifying_why K b fs k task
-way_why Constructive K b fs k task = traces_why Constructive K b fs k task
-way_why Deep K b fs k task = traces_why Deep K b fs k task
+abbrev pub constructive_why : Kept → Book → List Finished → List ℕ → Digest → Why
+constructive_why K b fs k task = traces_why Constructive K.constructive b fs k task
 
 -- what is no rule has no task, and no trace either
-abbrev pub tracing_why : Way → Kept → Book → List Finished → List ℕ → Option Digest → Why
-tracing_why w K b fs k None = NoTrace
-tracing_why w K b fs k (Some task) = way_why w K b fs k task
+abbrev pub by_task : (Digest → Why) → Option Digest → Why
+by_task why None = NoTrace
+by_task why (Some task) = why task
+
+-- a deep trace of the key, where told is asked for one whose rules have their present tasks
+abbrev pub is_deep_with : Bool → Book → List ℕ → DeepTrace → Bool
+is_deep_with told b k t = is_deep_of k t && (not told || are_so (task_now b) t.tasks)
+
+abbrev pub deep_why : Kept → Book → List Finished → List ℕ → Why
+deep_why K b fs k = newest_why (λ t. t.links) (digest_found Deep b fs) (find_last (is_deep_with false b k) K.deep) (find_last (is_deep_with true b k) K.deep)
 
 -- where nothing that the key leads to has changed, which no history brings about, there is nothing to tell
 abbrev pub path_why : SomeKept → Book → Option (List (List ℕ)) → Why
@@ -120,6 +125,6 @@ FindsEntry (Some e) K b k why = FindsMark e.stale e.shallow K b k why
 
 abbrev pub FindsCause : RebuilderKind → Kept → Book → List Finished → List ℕ → Why → Type 0
 FindsCause kind.Dirty K b fs k why = FindsEntry (first_entry K.entries k) (kept_view K) b k why
-FindsCause kind.Verifying K b fs k why = why ≡ tracing_why Verifying K b fs k (wanted_task Verifying b k)
-FindsCause kind.Constructive K b fs k why = why ≡ tracing_why Constructive K b fs k (wanted_task Constructive b k)
-FindsCause kind.Deep K b fs k why = why ≡ tracing_why Deep K b fs k (wanted_task Deep b k)
+FindsCause kind.Verifying K b fs k why = why ≡ by_task (verifying_why K b fs k) (task_now b k)
+FindsCause kind.Constructive K b fs k why = why ≡ by_task (constructive_why K b fs k) (task_now b k)
+FindsCause kind.Deep K b fs k why = why ≡ deep_why K b fs k

@@ -15,15 +15,15 @@ use Rattle.carte_record.specs.declared.trace.Trace.{Trace}
 use Rattle.carte_record.specs.declared.way.Way.{Way}
 use Rattle.carte_record.specs.declared.way.Way.TheVariants.{Verifying, Constructive, Deep}
 use Rattle.carte_record.specs.Kept.{SomeKept}
+use Rattle.carte_record.specs.Ways.{TraceBy, links_by}
 use Rattle.carte_mark.specs.Reached.{IsOther, IsSeenChanged}
 use Rattle.carte_rebuild.specs.Ends.{IsWork}
 use Rattle.carte_rebuild.specs.declared.work.Work.{Work}
 use Rattle.carte_sound.specs.Base.{HasDistinctDigests}
 use Rattle.carte_sound.specs.Begun.{Beginning, IsBeginning, begin}
-use Rattle.carte_sound.specs.Held.{How, dirty, tracing, AreLinks, digest_now, IsHeld}
+use Rattle.carte_sound.specs.Held.{How, dirty, tracing, AreLinks, digest_now, IsTasked, IsHeld}
 use Rattle.carte_sound.specs.Sound.{IsSound}
 use Rattle.carte_sound.specs.Treated.{IsDoneSuspending}
-use Rattle.carte_sound.specs.True.{wanted_task}
 use Rattle.carte_explain.specs.Paths.{EndsIn, IsFirstChangedPath}
 use Rattle.carte_explain.specs.declared.why.RebuilderKind.{RebuilderKind}
 use Rattle.carte_explain.specs.declared.why.RebuilderKind.TheVariants as kind
@@ -54,34 +54,34 @@ pub record IsFirstDifference (w : Way) (b : Book) (ls : List Link) (name : List 
   pub differs : ¬ (digest_now w b name ≡ Some old)
   pub now : IsNew w (digest_now w b name) new
 
--- there are traces, and none is of the present task
+-- there are traces, and none is of the present tasks
 pub record IsRuleChanged (w : Way) (M : SomeKept) (b : Book) (k : List ℕ) : Type 0 where
-  pub trace : Trace
+  pub trace : TraceBy w
   pub kept : Has (M.traces w k) trace
-  pub others : (t : Trace) → Has (M.traces w k) t → ¬ (wanted_task w b k ≡ Some t.task)
+  pub others : (t : TraceBy w) → Has (M.traces w k) t → ¬ (IsTasked w b k t)
 
 -- no verifying trace of the present task has the present links
 abbrev pub NoneMatches : Way → SomeKept → Book → List ℕ → Type 0
-NoneMatches Verifying M b k = (t : Trace) → Has (M.traces Verifying k) t → wanted_task Verifying b k ≡ Some t.task → ¬ (AreLinks (digest_now Verifying b) t.links)
+NoneMatches Verifying M b k = (t : Trace) → Has (M.traces Verifying k) t → IsTasked Verifying b k t → ¬ (AreLinks (digest_now Verifying b) t.links)
 NoneMatches Constructive M b k = Unit {0}
 NoneMatches Deep M b k = Unit {0}
 
--- the newest trace of the present task differs there first, and no verifying one matches
+-- the newest trace of the present tasks differs there first, and no verifying one matches
 pub record IsNewestDifference (w : Way) (M : SomeKept) (b : Book) (k name : List ℕ) (old new : Digest) : Type 0 where
-  pub newer : List Trace
-  pub newest : Trace
-  pub older : List Trace
+  pub newer : List (TraceBy w)
+  pub newest : TraceBy w
+  pub older : List (TraceBy w)
   pub traces : M.traces w k ≡ newer ++ newest ∷ older
-  pub others : (t : Trace) → Has newer t → ¬ (wanted_task w b k ≡ Some t.task)
-  pub task : wanted_task w b k ≡ Some newest.task
-  pub first : IsFirstDifference w b newest.links name old new
+  pub others : (t : TraceBy w) → Has newer t → ¬ (IsTasked w b k t)
+  pub task : IsTasked w b k newest
+  pub first : IsFirstDifference w b (links_by w newest) name old new
   pub none : NoneMatches w M b k
 
 -- the links of a verifying trace of the present task match, but its entry has another result
 pub record IsOtherResult (M : SomeKept) (b : Book) (k : List ℕ) (stored result : Digest) : Type 0 where
   pub trace : Trace
   pub kept : Has (M.traces Verifying k) trace
-  pub task : wanted_task Verifying b k ≡ Some trace.task
+  pub task : IsTasked Verifying b k trace
   pub links : AreLinks (digest_now Verifying b) trace.links
   pub entry : Entry
   pub entered : M.entries k ≡ Some entry

@@ -1,13 +1,13 @@
 // Why a key that isn't held runs, from its entry or from its traces.
 ghost use Rattle.std.specs.Prelude.{◌≡◌, IfOk, Some, option_copied};
 ghost use Rattle.carte_book.specs.Book.{book_view};
+ghost use Rattle.carte_book.specs.Task.{task_now};
 ghost use Rattle.carte_record.specs.Kept.{kept_view};
 ghost use Rattle.carte_record.specs.Lookups.{first_entry};
-ghost use Rattle.carte_sound.specs.True.{wanted_task};
-ghost use Rattle.carte_explain.specs.Found.{FindsCause, FindsEntry, FindsPath, differing_why, digest_found, path_why, stored_why, trace_why, traces_why, tracing_why, untold_why, verifying_why, way_why};
+ghost use Rattle.carte_explain.specs.Found.{FindsCause, FindsEntry, FindsPath, by_task, constructive_why, deep_why, differing_why, digest_found, path_why, stored_why, trace_why, traces_why, untold_why, verifying_why};
 
 use crate::paths::{changed_path, ends_in_input};
-use crate::traces::{digest_or_empty, first_apart, matching, newest};
+use crate::traces::{digest_or_empty, first_apart, matching, newest, newest_deep};
 use crate::{RebuilderKind, Why};
 use carte_book::Book;
 use carte_note::FinishedList;
@@ -27,13 +27,9 @@ pub(crate) fn cause(
 {
     match rebuilder {
         RebuilderKind::Dirty => entry_why(alloc, kept, book, key),
-        RebuilderKind::Verifying => {
-            tracing_why(alloc, kept, book, finished, Way::Verifying, key)
-        }
-        RebuilderKind::Constructive => {
-            tracing_why(alloc, kept, book, finished, Way::Constructive, key)
-        }
-        RebuilderKind::Deep => tracing_why(alloc, kept, book, finished, Way::Deep, key),
+        RebuilderKind::Verifying => tracing_why(alloc, kept, book, finished, key),
+        RebuilderKind::Constructive => constructed_why(alloc, kept, book, finished, key),
+        RebuilderKind::Deep => deep_why(alloc, kept, book, finished, key),
     }
 }
 
@@ -74,42 +70,29 @@ fn tracing_why(
     kept: &Kept,
     book: &Book,
     finished: &FinishedList,
-    way: Way,
     key: &Name,
 ) -> Result<Why, NoMemory>
-    ensures { IfOk result (λ why. why ≡ tracing_why way kept.now (book_view book.now) finished.now key.now (wanted_task way (book_view book.now) key.now)) }
+    ensures { IfOk result (λ why. why ≡ by_task (verifying_why kept.now (book_view book.now) finished.now key.now) (task_now (book_view book.now) key.now)) }
 {
-    match wanted_task(alloc, book, way, key)? {
-        Some(task) => way_why(alloc, kept, book, finished, way, key, &task),
+    match book.task_digest(alloc, key)? {
+        Some(task) => verifying_why(alloc, kept, book, finished, key, &task),
         None => Ok(Why::NoTrace),
     }
 }
 
-fn wanted_task(alloc: Global, book: &Book, way: Way, key: &Name) -> Result<Option<Digest>, NoMemory>
-    ensures { IfOk result (λ task. task ≡ wanted_task way (book_view book.now) key.now) }
-{
-    match way {
-        Way::Verifying => book.task_digest(alloc, key),
-        Way::Constructive => book.task_digest(alloc, key),
-        Way::Deep => Ok(Some(book.rules_digest(alloc)?)),
-    }
-}
-
-fn way_why(
+fn constructed_why(
     alloc: Global,
     kept: &Kept,
     book: &Book,
     finished: &FinishedList,
-    way: Way,
     key: &Name,
-    task: &Digest,
 ) -> Result<Why, NoMemory>
-    ensures { IfOk result (λ why. why ≡ way_why way kept.now (book_view book.now) finished.now key.now task.now) }
+    ensures { IfOk result (λ why. why ≡ by_task (constructive_why kept.now (book_view book.now) finished.now key.now) (task_now (book_view book.now) key.now)) }
 {
-    match way {
-        Way::Verifying => verifying_why(alloc, kept, book, finished, key, task),
-        Way::Constructive => traces_why(alloc, kept, book, finished, way, key, task),
-        Way::Deep => traces_why(alloc, kept, book, finished, way, key, task),
+    let traces = kept.constructive.as_slice();
+    match book.task_digest(alloc, key)? {
+        Some(task) => traces_why(alloc, traces, book, finished, Way::Constructive, key, &task),
+        None => Ok(Why::NoTrace),
     }
 }
 
@@ -123,9 +106,10 @@ fn verifying_why(
 ) -> Result<Why, NoMemory>
     ensures { IfOk result (λ why. why ≡ verifying_why kept.now (book_view book.now) finished.now key.now task.now) }
 {
-    match matching(kept.verifying.as_slice(), book, finished, key, task) {
+    let traces = kept.verifying.as_slice();
+    match matching(traces, book, finished, key, task) {
         Some(trace) => Ok(stored_why(kept.entries.find(key), trace)),
-        None => traces_why(alloc, kept, book, finished, Way::Verifying, key, task),
+        None => traces_why(alloc, traces, book, finished, Way::Verifying, key, task),
     }
 }
 
@@ -143,30 +127,46 @@ fn stored_why(entry: Option<&Entry>, trace: &Trace) -> Why
 
 fn traces_why(
     alloc: Global,
-    kept: &Kept,
+    traces: &[Trace],
     book: &Book,
     finished: &FinishedList,
     way: Way,
     key: &Name,
     task: &Digest,
 ) -> Result<Why, NoMemory>
-    ensures { IfOk result (λ why. why ≡ traces_why way kept.now (book_view book.now) finished.now key.now task.now) }
+    ensures { IfOk result (λ why. why ≡ traces_why way traces.now (book_view book.now) finished.now key.now task.now) }
 {
-    let traces = kept.traces(way).as_slice();
     match newest(traces, key, Some(task)) {
-        Some(trace) => trace_why(alloc, book, finished, way, trace),
-        None => Ok(untold_why(newest(traces, key, None))),
+        Some(trace) => trace_why(alloc, book, finished, way, trace.links.as_slice()),
+        None => Ok(untold_why(newest(traces, key, None).is_some())),
     }
 }
 
-// Where no trace is of the present task.
-fn untold_why(trace: Option<&Trace>) -> Why
-    ensures { result ≡ untold_why (option_copied trace.entry) }
+// By traces whose rules all have their present tasks.
+fn deep_why(
+    alloc: Global,
+    kept: &Kept,
+    book: &Book,
+    finished: &FinishedList,
+    key: &Name,
+) -> Result<Why, NoMemory>
+    ensures { IfOk result (λ why. why ≡ deep_why kept.now (book_view book.now) finished.now key.now) }
 {
-    match trace {
-        Some(_) => Why::RuleChanged,
-        None => Why::NoTrace,
+    let traces = kept.deep.as_slice();
+    match newest_deep(alloc, traces, book, key, true)? {
+        Some(trace) => trace_why(alloc, book, finished, Way::Deep, trace.links.as_slice()),
+        None => {
+            let any = newest_deep(alloc, traces, book, key, false)?;
+            Ok(untold_why(any.is_some()))
+        }
     }
+}
+
+// Where no trace is of the present tasks, by whether there is one.
+fn untold_why(any: bool) -> Why
+    ensures { result ≡ untold_why any }
+{
+    if any { Why::RuleChanged } else { Why::NoTrace }
 }
 
 // A trace that holds isn't one of a key that runs, whatever history what is kept is sound for.
@@ -175,11 +175,11 @@ fn trace_why(
     book: &Book,
     finished: &FinishedList,
     way: Way,
-    trace: &Trace,
+    links: &[Link],
 ) -> Result<Why, NoMemory>
-    ensures { IfOk result (λ why. why ≡ trace_why (digest_found way (book_view book.now) finished.now) trace.now) }
+    ensures { IfOk result (λ why. why ≡ trace_why (digest_found way (book_view book.now) finished.now) links.now) }
 {
-    match first_apart(trace.links.as_slice(), way, book, finished) {
+    match first_apart(links, way, book, finished) {
         Some(link) => differing_why(alloc, book, finished, way, link),
         None => Ok(Why::Reusable),
     }

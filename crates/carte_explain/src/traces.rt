@@ -1,19 +1,23 @@
 // Traces and their links, over the digests that names have at the end of the work.
-ghost use Rattle.std.specs.Prelude.{◌≡◌, option_copied, unwrap_or, find};
+ghost use Rattle.std.specs.Prelude.{◌≡◌, ◌||◌, not, option_copied, unwrap_or, find, IfOk};
 ghost use Rattle.carte_book.specs.Book.{book_view};
+ghost use Rattle.carte_book.specs.Task.{task_now};
 ghost use Rattle.carte_note.specs.Lists.{finished_of};
 ghost use Rattle.carte_table.specs.Lookups.{find_last};
 ghost use Rattle.carte_rebuild.specs.Earlier.{is_wanted as wants};
 ghost use Rattle.carte_sound.specs.Begun.{is_digest};
+ghost use Rattle.carte_sound.specs.Held.{are_so};
 ghost use Rattle.carte_value.specs.Spelling.{digest_of};
 ghost use Rattle.carte_value.specs.declared.value.Value.TheVariants.{Empty};
 ghost use Rattle.carte_record.specs.declared.way.Way.TheVariants.{Verifying as by_links};
-ghost use Rattle.carte_explain.specs.Found.{digest_found, digest_made, is_apart, is_match, is_of_needs, is_trace_with};
+ghost use Rattle.carte_explain.specs.Found.{digest_found, digest_made, is_apart, is_deep_with, is_match, is_of_needs, is_trace_with};
 
 use carte_book::{Book, Looked};
 use carte_note::FinishedList;
-use carte_record::{Trace, Way};
-use carte_value::{Digest, Link, Name, Value};
+use carte_rebuild::are_tasks;
+use carte_record::{DeepTrace, Trace, Way};
+use carte_value::{Digest, Link, Name, NoMemory, Value};
+use std::alloc::Global;
 
 /// The last trace of a key, where a task is wanted that of this task.
 pub(crate) fn newest<'k>(
@@ -45,6 +49,49 @@ fn is_wanted(wanted: Option<&Digest>, digest: &Digest) -> bool
         Some(other) => *other == *digest,
         None => true,
     }
+}
+
+/// The last deep trace of a key, and where that is asked for the last one whose rules all have their present tasks.
+pub(crate) fn newest_deep<'k>(
+    alloc: Global,
+    traces: &'k [DeepTrace],
+    book: &Book,
+    key: &Name,
+    told: bool,
+) -> Result<Option<&'k DeepTrace>, NoMemory>
+    ensures { IfOk result (λ trace. option_copied trace ≡ find_last (is_deep_with told (book_view book.now) key.now) traces.now) }
+{
+    let mut last = None;
+    for trace in traces {
+        if is_deep_with(alloc, trace, book, key, told)? {
+            last = Some(trace);
+        }
+    }
+    Ok(last)
+}
+
+fn is_deep_with(
+    alloc: Global,
+    trace: &DeepTrace,
+    book: &Book,
+    key: &Name,
+    told: bool,
+) -> Result<bool, NoMemory>
+    ensures { IfOk result (λ is. is ≡ is_deep_with told (book_view book.now) key.now trace.now) }
+{
+    if *key == trace.key {
+        return is_told(alloc, trace, book, told);
+    }
+    Ok(false)
+}
+
+fn is_told(alloc: Global, trace: &DeepTrace, book: &Book, told: bool) -> Result<bool, NoMemory>
+    ensures { IfOk result (λ is. is ≡ (not told || are_so (task_now (book_view book.now)) trace.now.tasks)) }
+{
+    if told {
+        return are_tasks(alloc, book, &trace.tasks);
+    }
+    Ok(true)
 }
 
 /// The first verifying trace of a key and a task whose links all have the present digests.

@@ -9,8 +9,8 @@ pub enum Why {
     Reusable,
     /// There is no trace of it.
     NoTrace,
-    /// There are traces of it, but none of the present task: none of its present rule, and under deep traces none of the
-    /// present rules of the book.
+    /// There are traces of it, but none of the present task: none of its present rule, and under deep traces none whose rules
+    /// all are the present ones.
     RuleChanged,
     /// The newest of its traces of the present task has a link whose name has another digest now: the first such link. A name
     /// that is no input any more has the digest of the empty value as `new`.

@@ -24,16 +24,16 @@ digits_of_name (d ∷ ds) digits =
     and_from _ _ (digit_of_name d parts.0) (digits_of_name ds parts.1)
 
 -- each key is a name of a rule file
-pub key_is_name : (i : ℕ) → i < 65536 → is_rule_name (key i) ≡ true
+pub key_is_name : (i : ℕ) → i < 262144 → is_rule_name (key i) ≡ true
 unfolding key
 key_is_name i few =
     let digits : list_all is_digit (decimal i) ≡ true = own.from (decimal i) (decimal_is_IsNumeral i (omega arith)).0.1 in
-    let short : length (decimal i) ≤ 5 = length-decimal-le 5 i (omega arith) (omega arith) (omega arith) in
+    let short : length (decimal i) ≤ 6 = length-decimal-le 6 i (omega arith) (omega arith) (omega arith) in
     let long : length (107 ∷ decimal i) ≡ length (decimal i) + 1 = omega arith in
     and_from _ _ (and_from _ _ (and_from _ _ (le-leb 1 (length (107 ∷ decimal i)) (omega arith)) (le-leb (length (107 ∷ decimal i)) 64 (omega arith))) refl) (digits_of_name (decimal i) digits)
 
 -- and each is another
-pub one_key : (i j : ℕ) → i < 65536 → j < 65536 → key i ≡ key j → i ≡ j
+pub one_key : (i j : ℕ) → i < 262144 → j < 262144 → key i ≡ key j → i ≡ j
 unfolding key
 one_key i j few few' same = decimal_injective i j (omega arith) (omega arith) (ap (drop 1) same)
 
@@ -47,7 +47,7 @@ name_read i text k r written read is = (told r k read is) ∙ written
     told (Err fault) j h e = cc
 
 -- and is no bad name
-pub never_bad : (i : ℕ) (text : List ℕ) (r : Result (List ℕ) NameFault) (place : ℕ) → i < 65536 → text ≡ codes "k" ++ decimal i → IsNameRead is_rule_name text text r → r ≡ Err (BadName place) → ⊥
+pub never_bad : (i : ℕ) (text : List ℕ) (r : Result (List ℕ) NameFault) (place : ℕ) → i < 262144 → text ≡ codes "k" ++ decimal i → IsNameRead is_rule_name text text r → r ≡ Err (BadName place) → ⊥
 unfolding key
 never_bad i text r place few written read is = told r read is
   where

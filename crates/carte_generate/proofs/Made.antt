@@ -24,7 +24,7 @@ one_name : (q k : List ℕ) → eq_by_cmp name_cmp q k ≡ true → q ≡ k
 one_name q k tied = (bytes_decides q k).0 (sym (is_eq-slice_cmp q k) ∙ tied)
 
 -- nothing stands at the next key, and there is room for it
-pub next_is_new : (i : ℕ) (b : Book) → i < 65536 → HasKeys i b → IsNew b (key i)
+pub next_is_new : (i : ℕ) (b : Book) → i < 262144 → HasKeys i b → IsNew b (key i)
 next_is_new i b few h = record {
   kind = h.kind;
   name = key_is_name i few;
@@ -32,7 +32,7 @@ next_is_new i b few h = record {
     | None ↦ λ is. refl
     | Some x ↦ λ is. absurd (beyond (h.only (key i) x is))
   ] refl;
-  room = subst (λ n. n < 65536) (sym h.count) few;
+  room = subst (λ n. n < 262144) (sym h.count) few;
 }
   where
     beyond : (j : ℕ) × (j < i) × (key i ≡ key j) → ⊥
@@ -63,7 +63,7 @@ none_made seed n b = record {
 }
 
 -- one key more
-pub keys_more : (i : ℕ) (b new : Book) (x : Item) → i < 65536 → HasKeys i b → new ≡ with_item b (key i) x → HasKeys (i + 1) new
+pub keys_more : (i : ℕ) (b new : Book) (x : Item) → i < 262144 → HasKeys i b → new ≡ with_item b (key i) x → HasKeys (i + 1) new
 keys_more i b new x few h is = subst (HasKeys (i + 1)) (sym is) (record {
   kind = h.kind;
   count = longer b (key i) x (next_is_new i b few h).absent ∙ ap (λ n. n + 1) h.count;
@@ -87,19 +87,19 @@ found_still b k j x apart = get-insert nat_list_cmp_total b.items k x j ∙ othe
     other true tied = absurd (apart (one_name j k tied))
     other false is = ap (λ (t : Bool). cond t (Some x) (get b.items j)) is
 
-each_more : (seed n i : ℕ) (b : Book) → i < 65536 → ((j : ℕ) → j < i → get b.items (key j) ≡ Some (item seed n j)) → (j : ℕ) → j < i + 1 → get (with_item b (key i) (item seed n i)).items (key j) ≡ Some (item seed n j)
+each_more : (seed n i : ℕ) (b : Book) → i < 262144 → ((j : ℕ) → j < i → get b.items (key j) ≡ Some (item seed n j)) → (j : ℕ) → j < i + 1 → get (with_item b (key i) (item seed n i)).items (key j) ≡ Some (item seed n j)
 each_more seed n i b few each = below_more _ _
     (λ j low. found_still b (key i) (key j) (item seed n i) (λ same. let is : j ≡ i = one_key j i (omega arith) few same in omega arith) ∙ each j low)
     (found_new b (key i) (item seed n i))
 
-made_more : (seed n i s t : ℕ) (b new : Book) → i < 65536 → IsMade seed n i s b → new ≡ with_item b (key i) (item seed n i) → t ≡ state_after seed (draws_before n (i + 1)) → IsMade seed n (i + 1) t new
+made_more : (seed n i s t : ℕ) (b new : Book) → i < 262144 → IsMade seed n i s b → new ≡ with_item b (key i) (item seed n i) → t ≡ state_after seed (draws_before n (i + 1)) → IsMade seed n (i + 1) t new
 made_more seed n i s t b new few h is state = record {
   each = subst (λ (c : Book). (j : ℕ) → j < i + 1 → get c.items (key j) ≡ Some (item seed n j)) (sym is) (each_more seed n i b few h.each);
   drawn = state;
 }
 
 -- an input takes one draw
-input_made : (seed n i s t : ℕ) (b new : Book) → i < 65536 → i < n → IsMade seed n i s b → new ≡ with_item b (key i) (input (Number (pos (drawn s % 1000)))) → t ≡ next s → IsMade seed n (i + 1) t new
+input_made : (seed n i s t : ℕ) (b new : Book) → i < 262144 → i < n → IsMade seed n i s b → new ≡ with_item b (key i) (input (Number (pos (drawn s % 1000)))) → t ≡ next s → IsMade seed n (i + 1) t new
 unfolding item draw
 input_made seed n i s t b new few low h is step =
     let x : item seed n i ≡ input (Number (pos (drawn s % 1000))) = rw (lt-ltb i n low, sym h.drawn) refl in
@@ -107,7 +107,7 @@ input_made seed n i s t b new few low h is step =
     made_more seed n i s t b new few h (is ∙ ap (with_item b (key i)) (sym x)) (step ∙ ap next h.drawn ∙ ap (state_after seed) (sym one))
 
 -- a rule takes two
-rule_made : (seed n i s t : ℕ) (b new : Book) → i < 65536 → n ≤ i → IsMade seed n i s b → new ≡ with_item b (key i) (rule (difference (key (i - 1 - drawn s % 8)) (key (drawn (next s) % i)))) → t ≡ next (next s) → IsMade seed n (i + 1) t new
+rule_made : (seed n i s t : ℕ) (b new : Book) → i < 262144 → n ≤ i → IsMade seed n i s b → new ≡ with_item b (key i) (rule (difference (key (i - 1 - drawn s % 8)) (key (drawn (next s) % i)))) → t ≡ next (next s) → IsMade seed n (i + 1) t new
 unfolding item draw
 rule_made seed n i s t b new few high h is step =
     let second : draws_before n i + 1 ≡ suc (draws_before n i) = omega arith in
@@ -140,14 +140,14 @@ whole seed count n i state b from to inputs made =
 added : (b new : Book) (k j : List ℕ) (x y : Item) → k ≡ j → x ≡ y → new ≡ with_item b k x → new ≡ with_item b j y
 added b new k j x y name same is = is ∙ ap₂ (with_item b) name same
 
-pub keys_ok : {E : Type 0} (i : ℕ) (b new : Book) (k : List ℕ) (x : Item) (r : Result (Unit {0}) E) → i < 65536 → HasKeys i b → k ≡ key i → OnOk r (new ≡ with_item b k x) → OnOk r (HasKeys (i + 1) new)
+pub keys_ok : {E : Type 0} (i : ℕ) (b new : Book) (k : List ℕ) (x : Item) (r : Result (Unit {0}) E) → i < 262144 → HasKeys i b → k ≡ key i → OnOk r (new ≡ with_item b k x) → OnOk r (HasKeys (i + 1) new)
 keys_ok i b new k x (Ok u) few h name is = keys_more i b new x few h (added b new k (key i) x x name refl is)
 keys_ok i b new k x (Err e) few h name is = tt
 
-pub input_ok : {E : Type 0} (seed n i s t : ℕ) (b new : Book) (k : List ℕ) (v : Value) (r : Result (Unit {0}) E) → i < 65536 → i < n → k ≡ key i → v ≡ Number (pos (drawn s % 1000)) → t ≡ next s → IsMade seed n i s b → OnOk r (new ≡ with_item b k (input v)) → OnOk r (IsMade seed n (i + 1) t new)
+pub input_ok : {E : Type 0} (seed n i s t : ℕ) (b new : Book) (k : List ℕ) (v : Value) (r : Result (Unit {0}) E) → i < 262144 → i < n → k ≡ key i → v ≡ Number (pos (drawn s % 1000)) → t ≡ next s → IsMade seed n i s b → OnOk r (new ≡ with_item b k (input v)) → OnOk r (IsMade seed n (i + 1) t new)
 input_ok seed n i s t b new k v (Ok u) few low name value step h is = input_made seed n i s t b new few low h (added b new k (key i) (input v) (input (Number (pos (drawn s % 1000)))) name (ap input value) is) step
 input_ok seed n i s t b new k v (Err e) few low name value step h is = tt
 
-pub rule_ok : {E : Type 0} (seed n i s t : ℕ) (b new : Book) (k : List ℕ) (f : Tree) (r : Result (Unit {0}) E) → i < 65536 → n ≤ i → k ≡ key i → f ≡ difference (key (i - 1 - drawn s % 8)) (key (drawn (next s) % i)) → t ≡ next (next s) → IsMade seed n i s b → OnOk r (new ≡ with_item b k (rule f)) → OnOk r (IsMade seed n (i + 1) t new)
+pub rule_ok : {E : Type 0} (seed n i s t : ℕ) (b new : Book) (k : List ℕ) (f : Tree) (r : Result (Unit {0}) E) → i < 262144 → n ≤ i → k ≡ key i → f ≡ difference (key (i - 1 - drawn s % 8)) (key (drawn (next s) % i)) → t ≡ next (next s) → IsMade seed n i s b → OnOk r (new ≡ with_item b k (rule f)) → OnOk r (IsMade seed n (i + 1) t new)
 rule_ok seed n i s t b new k f (Ok u) few high name formula step h is = rule_made seed n i s t b new few high h (added b new k (key i) (rule f) (rule (difference (key (i - 1 - drawn s % 8)) (key (drawn (next s) % i)))) name (ap rule formula) is) step
 rule_ok seed n i s t b new k f (Err e) few high name formula step h is = tt

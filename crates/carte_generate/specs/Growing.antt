@@ -19,7 +19,7 @@ pub record IsNew (b : Book) (k : List ℕ) : Type 0 where
   pub kind : b.kind ≡ Rules
   pub name : IsTrue (is_rule_name k)
   pub absent : get b.items k ≡ None
-  pub room : keys_of b < 65536
+  pub room : keys_of b < 262144
 
 -- the first i keys are made, where n keys are inputs, and the draws are in this state
 pub record IsMade (seed n i state : ℕ) (b : Book) : Type 0 where

@@ -27,7 +27,7 @@ pub fn inputs_of(count: u64) -> u64
 /// The generated book of this seed and so many keys, whose map is made with `hasher`. Its keys are `k0`, `k1` and so on.
 pub fn generated(alloc: Global, seed: u64, count: u64, hasher: Seeded) -> Result<Book, NoMemory>
     requires some { 2 ≤ count }
-    requires few { count ≤ 65536 }
+    requires few { count ≤ 262144 }
     ensures { IfOk result (λ b. IsGenerated seed count (book_view b)) }
 {
     let inputs = inputs_of(count);
@@ -48,7 +48,7 @@ fn add_key(
     book: &mut Book,
 ) -> Result<(), NoMemory>
     requires some { 1 ≤ inputs }
-    requires few { number < 65536 }
+    requires few { number < 262144 }
     requires keys { HasKeys number (book_view book.old) }
     ensures keys { OnOk result (HasKeys (number + 1) (book_view book.new)) }
     ensures made { (seed : ℕ) → IsMade seed inputs number draws.old.state (book_view book.old) → OnOk result (IsMade seed inputs (number + 1) draws.new.state (book_view book.new)) }
@@ -72,7 +72,7 @@ fn draw_value(draws: &mut Draws) -> Value
 
 fn draw_formula(alloc: Global, number: u64, draws: &mut Draws) -> Result<Expr, NoMemory>
     requires some { 1 ≤ number }
-    requires few { number < 65536 }
+    requires few { number < 262144 }
     ensures formula { IfOk result (λ e. tree_of e ≡ difference (key (number - 1 - drawn draws.old.state % 8)) (key (drawn (next draws.old.state) % number))) }
     ensures expr { IfOk result (λ e. IsExpr (tree_of e)) }
     ensures names { IfOk result (λ e. HasNames Rules (tree_of e)) }

@@ -8,7 +8,7 @@ use std::alloc::Global;
 /// The last key of a generated book of so many keys, on which a build of it is measured.
 pub fn last_key(alloc: Global, count: u64) -> Result<Name, NoMemory>
     requires some { 1 ≤ count }
-    requires few { count ≤ 65536 }
+    requires few { count ≤ 262144 }
     ensures key { IfOk result (λ k. k ≡ target_of count) }
     ensures name { IfOk result (λ k. IsTrue (is_rule_name k)) }
 {
@@ -17,7 +17,7 @@ pub fn last_key(alloc: Global, count: u64) -> Result<Name, NoMemory>
 
 /// The key with this number.
 pub(crate) fn key(alloc: Global, number: u64) -> Result<Name, NoMemory>
-    requires { number < 65536 }
+    requires { number < 262144 }
     ensures key { IfOk result (λ k. k ≡ key number) }
     ensures name { IfOk result (λ k. IsTrue (is_rule_name k)) }
 {

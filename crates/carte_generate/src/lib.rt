@@ -9,7 +9,7 @@
 //! tested.
 //!
 //! Whether a name may be added is a matter of its key alone: keys below one another are different names, and there are
-//! 65,536 at most. So nothing is refused but for want of memory.
+//! 262,144 at most. So nothing is refused but for want of memory.
 #![tactic(auto)]
 
 mod draws;

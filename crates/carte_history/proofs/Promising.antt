@@ -1,5 +1,5 @@
 -- What a history promises holds of each of its runs.
-use Rattle.std.proofs.Common.{◌≡◌, ◌⊎◌, ℕ, ◌+◌, ◌<◌, ◌≤◌, List, [], ◌∷◌, ◌++◌, None, refl, sym, ◌∙◌, ap, subst, inl, inr, arith, append_assoc, append-nil}
+use Rattle.std.proofs.Common.{◌≡◌, ◌⊎◌, ℕ, ◌+◌, ◌<◌, ◌≤◌, List, [], ◌∷◌, ◌++◌, refl, sym, ◌∙◌, ap, subst, inl, inr, arith, append_assoc, append-nil}
 use Rattle.carte_io.specs.Disk.{IsSettled, IsWithin, Leaves, Story}
 use Rattle.carte_io.specs.MemDisks.{MemoryOfDisk, begun_disk, story_of, within_of}
 use Rattle.carte_io.specs.Stations.{IsAtOneOf, StepsThrough, calls_in, last_of}
@@ -30,7 +30,7 @@ use Rattle.carte_history.specs.Steps.{AreSteps, Steps}
 use Rattle.carte_history.proofs.Doing.{ran_steps}
 use Rattle.carte_history.proofs.Going.{Went, steps_went}
 use Rattle.carte_engine.specs.Versions.{IsSoundAny}
-use Rattle.carte_state.specs.Versions.{AnyKept, InTwo}
+use Rattle.carte_state.specs.Versions.{AnyKept, Fresh, InTwo}
 
 -- ---- the disk that a run finds
 
@@ -202,5 +202,5 @@ is_history limit runs shown rans last are = record {
   last = last;
   are_shown = are;
   promised = λ H books distinct.
-      promised_from limit runs shown rans [] H [] last (InTwo nothing_kept) (record { gate = 8; bodies = []; reads = refl; makes = record { phase = None; folded = refl; kept = refl } }) (nothing_sound []) are books distinct;
+      promised_from limit runs shown rans [] H [] last (InTwo nothing_kept) (record { gate = 8; bodies = []; reads = refl; makes = record { phase = Fresh; folded = refl; kept = refl } }) (nothing_sound []) are books distinct;
 }

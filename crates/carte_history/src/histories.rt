@@ -22,7 +22,7 @@ pub fn history<G: Gate, T: Threads + Sync>(
     hasher: Seeded,
     gate: &G,
 ) -> Result<Vec<Shown>, NoMemory>
-    ensures { IfOk result (λ shown. IsHistory 268435456 runs.now shown.items) }
+    ensures { IfOk result (λ shown. IsHistory 536870912 runs.now shown.items) }
 {
     let mut disk = MemDisk::of(alloc, &[], &[])?;
     let mut shown = Vec::new(alloc);

@@ -25,7 +25,7 @@ pub(crate) fn show<G: Gate, T: Threads + Sync>(
     gate: &G,
 ) -> Result<(Shown, MemDisk), NoMemory>
     requires begun { disk ≡ begun_disk disk.first [] }
-    ensures { IfOk result (λ s. (s.1 ≡ begun_disk s.0.image.items []) × (ran : Ran) × IsShown 268435456 disk.first run.now s.0 ran) }
+    ensures { IfOk result (λ s. (s.1 ≡ begun_disk s.0.image.items []) × (ran : Ran) × IsShown 536870912 disk.first run.now s.0 ran) }
 {
     let mut disk = disk;
     let mut book = MemSource::of(alloc, &run.book, &[])?;

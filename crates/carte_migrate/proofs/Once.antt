@@ -17,14 +17,15 @@ use Rattle.carte_record.specs.declared.batch.Batch.{Batch}
 use Rattle.carte_record.specs.declared.entry.Entry.{Entry}
 use Rattle.carte_record.specs.declared.kept.Kept.{Kept}
 use Rattle.carte_record.specs.declared.start.Start.TheVariants.{Cleared}
-use Rattle.carte_record.specs.declared.trace.Trace.{Trace}
 use Rattle.carte_record.specs.declared.way.Way.{Way}
 use Rattle.carte_record.specs.declared.way.Way.TheVariants.{Verifying, Constructive, Deep}
 use Rattle.carte_record.specs.Folds.{batch_traces}
 use Rattle.carte_record.specs.Latest.{last_ones}
-use Rattle.carte_record.specs.Lookups.{first_entry, is_entry_of, trace_eq}
+use Rattle.carte_record.specs.Lookups.{first_entry, is_entry_of}
+use Rattle.carte_record.specs.Ways.{TraceBy, eq_by}
+use Rattle.carte_table.specs.Latest as latest
 use Rattle.carte_record.specs.Marked.{marked_as}
-use Rattle.carte_record.proofs.Looked.{find_passes, trace_eq_self}
+use Rattle.carte_record.proofs.Looked.{eq_by_self, find_passes}
 use Rattle.carte_sound.specs.LeadsTo.{empty_batch}
 use Rattle.carte_sound.specs.Lists.{EachOnce}
 use Rattle.carte_compact.specs.Live.{IsAllOf, chain_for, entry_at, found_at, is_stale, link_at, put, stale_at}
@@ -118,26 +119,30 @@ stale_found es k = on (first_entry es k)
 
 -- ---- traces
 
-last_any : (ts : List Trace) (t : Trace) → Has (last_ones ts) t → list_any (trace_eq t) ts ≡ true
-last_any [] t nowhere = absurd nowhere
-last_any (s ∷ ss) t there = on (list_any (trace_eq s) ss) there (last_any ss t)
-  where
-    or_true : (c : Bool) → c || true ≡ true
-    or_true true = refl
-    or_true false = refl
+module _ {A : Type 0} (alike : A → A → Bool) (alike_self : (x : A) → alike x x ≡ true) where
+  last_any : (xs : List A) (x : A) → Has (latest.last_ones alike xs) x → list_any (alike x) xs ≡ true
+  last_any [] x nowhere = absurd nowhere
+  last_any (y ∷ ys) x there = on (list_any (alike y) ys) there (last_any ys x)
+    where
+      or_true : (c : Bool) → c || true ≡ true
+      or_true true = refl
+      or_true false = refl
 
-    on : (c : Bool) → Has (if c then last_ones ss else s ∷ last_ones ss) t → (Has (last_ones ss) t → list_any (trace_eq t) ss ≡ true) → trace_eq t s || list_any (trace_eq t) ss ≡ true
-    on true later rest = rw (rest later) (or_true (trace_eq t s))
-    on false (inl same) rest = let own : trace_eq t s ≡ true = ap (trace_eq t) (sym same) ∙ trace_eq_self t in rw own refl
-    on false (inr later) rest = rw (rest later) (or_true (trace_eq t s))
+      on : (c : Bool) → Has (if c then latest.last_ones alike ys else y ∷ latest.last_ones alike ys) x → (Has (latest.last_ones alike ys) x → list_any (alike x) ys ≡ true) → alike x y || list_any (alike x) ys ≡ true
+      on true later rest = rw (rest later) (or_true (alike x y))
+      on false (inl same) rest = let own : alike x y ≡ true = ap (alike x) (sym same) ∙ alike_self x in rw own refl
+      on false (inr later) rest = rw (rest later) (or_true (alike x y))
 
-last_once : (ts : List Trace) → EachOnce (last_ones ts)
-last_once [] = tt
-last_once (t ∷ ts) = on (list_any (trace_eq t) ts) refl (last_once ts)
-  where
-    on : (c : Bool) → list_any (trace_eq t) ts ≡ c → EachOnce (last_ones ts) → EachOnce (if c then last_ones ts else t ∷ last_ones ts)
-    on true is rest = rest
-    on false is rest = ((λ later. let clash : true ≡ false = sym (last_any ts t later) ∙ is in cc), rest)
+  last_once : (xs : List A) → EachOnce (latest.last_ones alike xs)
+  last_once [] = tt
+  last_once (x ∷ xs) = on (list_any (alike x) xs) refl (last_once xs)
+    where
+      on : (c : Bool) → list_any (alike x) xs ≡ c → EachOnce (latest.last_ones alike xs) → EachOnce (if c then latest.last_ones alike xs else x ∷ latest.last_ones alike xs)
+      on true is rest = rest
+      on false is rest = ((λ later. let clash : true ≡ false = sym (last_any xs x later) ∙ is in cc), rest)
+
+traces_once_in : (w : Way) (ts : List (TraceBy w)) → EachOnce (last_ones w ts)
+traces_once_in w = last_once (eq_by w) (eq_by_self w)
 
 -- ---- the batch
 
@@ -147,9 +152,9 @@ no_chain (k ∷ ks) is = cc
 
 module _ (K : Kept) (names keys : List (List ℕ)) (named : IsStrictlySortedBy name_cmp names) (listed : IsStrictlySortedBy name_cmp keys) (once : EachOnce (map digest_of K.values)) (B : Batch) (all : IsAllOf K names keys B) where
   traces_once : (w : Way) → EachOnce (batch_traces w B)
-  traces_once Verifying = subst EachOnce (sym all.verifying) (last_once K.verifying)
-  traces_once Constructive = subst EachOnce (sym all.constructive) (last_once K.constructive)
-  traces_once Deep = subst EachOnce (sym all.deep) (last_once K.deep)
+  traces_once Verifying = subst EachOnce (sym all.verifying) (traces_once_in Verifying K.verifying)
+  traces_once Constructive = subst EachOnce (sym all.constructive) (traces_once_in Constructive K.constructive)
+  traces_once Deep = subst EachOnce (sym all.deep) (traces_once_in Deep K.deep)
 
   still_there : (k : List ℕ) → Among (stale_at K.entries keys) k → Among (map (λ (e : Entry). e.key) (found_at (entry_at K.entries) keys)) k
   still_there k there =

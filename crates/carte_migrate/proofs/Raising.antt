@@ -4,7 +4,6 @@ use Rattle.std.specs.Prelude.{if◌then◌else◌}
 use Rattle.carte_name.specs.Names.{name_eq}
 use Rattle.carte_value.specs.declared.digest.Digest.{Digest}
 use Rattle.carte_book.specs.Book.{Book}
-use Rattle.carte_book.specs.Digest.{rules_digest_of}
 use Rattle.carte_book.specs.Task.{task_now}
 use Rattle.carte_table.specs.Lookups.{digest_eq, first_link, first_value}
 use Rattle.carte_table.proofs.Names.{name_eq_is}
@@ -21,8 +20,8 @@ use Rattle.carte_record_one.specs.declared.kept.KeptOne.{KeptOne}
 use Rattle.carte_record_one.specs.declared.trace.TraceOne.{TraceOne}
 use Rattle.carte_record_one.specs.Kept.{kept_one_traces, kept_one_view, newest_one, trace_one_eq, traces_one_in}
 use Rattle.carte_record_one.specs.Lookups.{first_entry_one, is_entry_one_of}
-use Rattle.carte_sound.specs.True.{or_none, wanted_task}
-use Rattle.carte_sound_one.specs.Up.{raised, raised_entry, raised_trace}
+use Rattle.carte_sound.specs.True.{or_none}
+use Rattle.carte_sound_one.specs.Up.{raised, raised_entry, raised_trace, raised_traces}
 use Rattle.carte_migrate.specs.Tasks.{KnowsTasks}
 
 -- ---- entries
@@ -36,8 +35,8 @@ raised_found b (e ∷ es) k = on (name_eq k e.key) (raised_found b es k)
     on true same = refl
     on false same = same
 
-pub tasks_known : (b : Book) (es : List EntryOne) (xs : List Entry) (rules : Digest) → xs ≡ map (raised_entry b) es → rules ≡ rules_digest_of b → KnowsTasks b xs rules
-tasks_known b es xs rules are is = record { entries = λ k e found. on k e (first_entry_one es k) refl (sym (raised_found b es k) ∙ ap (λ ys. first_entry ys k) (sym are) ∙ found); rules = is }
+pub tasks_known : (b : Book) (es : List EntryOne) (xs : List Entry) → xs ≡ map (raised_entry b) es → KnowsTasks b xs
+tasks_known b es xs are k e found = on k e (first_entry_one es k) refl (sym (raised_found b es k) ∙ ap (λ ys. first_entry ys k) (sym are) ∙ found)
   where
     on : (k : List ℕ) (e : Entry) (o : Option EntryOne) → first_entry_one es k ≡ o → option_map (raised_entry b) o ≡ Some e → e.task ≡ or_none (task_now b k)
     on k e None found same = cc
@@ -55,12 +54,12 @@ filter_map {A = A} f p q same (x ∷ xs) = on (q x) (same x) (filter_map f p q s
     on true is rest = rw is (ap (λ ys. f x ∷ ys) rest)
     on false is rest = rw is rest
 
-module _ (w : Way) (b : Book) where
+module _ (b : Book) where
   abbrev task_of : List ℕ → Digest
-  task_of k = or_none (wanted_task w b k)
+  task_of k = or_none (task_now b k)
 
   -- traces of one key have one task, so those that were equal are, and no others
-  alike : (s t : TraceOne) → trace_eq (raised_trace w b s) (raised_trace w b t) ≡ trace_one_eq s t
+  alike : (s t : TraceOne) → trace_eq (raised_trace b s) (raised_trace b t) ≡ trace_one_eq s t
   alike s t = on (name_eq s.key t.key) refl
     where
       on : (c : Bool) → name_eq s.key t.key ≡ c
@@ -70,27 +69,27 @@ module _ (w : Way) (b : Book) where
           ap (λ c. (c && digest_eq s.result t.result) && links_eq s.links t.links) same
       on false is = refl
 
-  newest_raised : (t : TraceOne) (ts : List TraceOne) → newest (raised_trace w b t) (map (raised_trace w b) ts) ≡ map (raised_trace w b) (newest_one t ts)
-  newest_raised t ts = ap (λ us. raised_trace w b t ∷ us) (filter_map (raised_trace w b) (λ s. not (trace_eq s (raised_trace w b t))) (λ s. not (trace_one_eq s t)) (λ s. ap not (alike s t)) ts)
+  newest_raised : (t : TraceOne) (ts : List TraceOne) → newest trace_eq (raised_trace b t) (map (raised_trace b) ts) ≡ map (raised_trace b) (newest_one t ts)
+  newest_raised t ts = ap (λ us. raised_trace b t ∷ us) (filter_map (raised_trace b) (λ s. not (trace_eq s (raised_trace b t))) (λ s. not (trace_one_eq s t)) (λ s. ap not (alike s t)) ts)
 
-  traces_raised : (k : List ℕ) (ts old : List TraceOne) → traces_in k (map (raised_trace w b) ts) (map (raised_trace w b) old) ≡ map (raised_trace w b) (traces_one_in k ts old)
+  traces_raised : (k : List ℕ) (ts old : List TraceOne) → traces_in Verifying k (map (raised_trace b) ts) (map (raised_trace b) old) ≡ map (raised_trace b) (traces_one_in k ts old)
   traces_raised k [] old = refl
   traces_raised k (t ∷ ts) old = on (name_eq k t.key) (λ o. traces_raised k ts o)
     where
-      on : (c : Bool) → ((o : List TraceOne) → traces_in k (map (raised_trace w b) ts) (map (raised_trace w b) o) ≡ map (raised_trace w b) (traces_one_in k ts o))
-          → traces_in k (map (raised_trace w b) ts) (if c then newest (raised_trace w b t) (map (raised_trace w b) old) else map (raised_trace w b) old) ≡ map (raised_trace w b) (traces_one_in k ts (if c then newest_one t old else old))
-      on true rest = ap (traces_in k (map (raised_trace w b) ts)) (newest_raised t old) ∙ rest (newest_one t old)
+      on : (c : Bool) → ((o : List TraceOne) → traces_in Verifying k (map (raised_trace b) ts) (map (raised_trace b) o) ≡ map (raised_trace b) (traces_one_in k ts o))
+          → traces_in Verifying k (map (raised_trace b) ts) (if c then newest trace_eq (raised_trace b t) (map (raised_trace b) old) else map (raised_trace b) old) ≡ map (raised_trace b) (traces_one_in k ts (if c then newest_one t old else old))
+      on true rest = ap (traces_in Verifying k (map (raised_trace b) ts)) (newest_raised t old) ∙ rest (newest_one t old)
       on false rest = rest old
 
 -- ---- all of it
 
 pub kept_raised : (b : Book) (old : KeptOne) (K : Kept) → K.seen ≡ old.seen → K.entries ≡ map (raised_entry b) old.entries
-    → K.verifying ≡ map (raised_trace Verifying b) old.verifying → K.constructive ≡ map (raised_trace Constructive b) old.constructive → K.deep ≡ map (raised_trace Deep b) old.deep
+    → K.verifying ≡ map (raised_trace b) old.verifying → K.constructive ≡ map (raised_trace b) old.constructive → K.deep ≡ []
     → K.chain ≡ old.chain → ((d : Digest) → first_value K.values d ≡ first_value old.values d) → kept_view K ≡ raised (kept_one_view old) b
 kept_raised b old K seen entries verifying constructive deep chain values =
     kept_same (kept_view K) (raised (kept_one_view old) b) (λ k. ap (λ ls. first_link ls k) seen) (λ k. ap (λ es. first_entry es k) entries ∙ raised_found b old.entries k) traces chain values
   where
-    traces : (w : Way) (k : List ℕ) → traces_in k (kept_traces w K) [] ≡ map (raised_trace w b) (traces_one_in k (kept_one_traces w old) [])
-    traces Verifying k = ap (λ ts. traces_in k ts []) verifying ∙ traces_raised Verifying b k old.verifying []
-    traces Constructive k = ap (λ ts. traces_in k ts []) constructive ∙ traces_raised Constructive b k old.constructive []
-    traces Deep k = ap (λ ts. traces_in k ts []) deep ∙ traces_raised Deep b k old.deep []
+    traces : (w : Way) (k : List ℕ) → traces_in w k (kept_traces w K) [] ≡ raised_traces w b (traces_one_in k (kept_one_traces w old) [])
+    traces Verifying k = ap (λ ts. traces_in Verifying k ts []) verifying ∙ traces_raised b k old.verifying []
+    traces Constructive k = ap (λ ts. traces_in Constructive k ts []) constructive ∙ traces_raised b k old.constructive []
+    traces Deep k = ap (λ ts. traces_in Deep k ts []) deep

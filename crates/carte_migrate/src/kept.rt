@@ -1,6 +1,5 @@
 ghost use Rattle.std.specs.Prelude.{◌≡◌, map, IfOk};
 ghost use Rattle.carte_book.specs.Book.{book_view};
-ghost use Rattle.carte_book.specs.Digest.{rules_digest_of};
 ghost use Rattle.carte_record.specs.Kept.{kept_view};
 ghost use Rattle.carte_record_one.specs.Kept.{kept_one_view};
 ghost use Rattle.carte_sound.specs.Begun.{is_digest};
@@ -12,10 +11,10 @@ ghost use Rattle.carte_value.specs.declared.digest.Digest.{Digest as SomeDigest}
 
 use crate::entries::raised_entries;
 use crate::tasks::Tasks;
-use crate::traces::all_traces;
+use crate::traces::raised_traces;
 use crate::values::first_values;
 use carte_book::Book;
-use carte_record::{Kept, Seen, Store};
+use carte_record::{DeepTraces, Kept, Seen, Store};
 use carte_record_one::KeptOne;
 use carte_value::{Digest, Names, NoMemory};
 use std::alloc::Global;
@@ -27,7 +26,7 @@ pub fn raise(alloc: Global, old: &KeptOne, book: &Book) -> Result<Kept, NoMemory
 {
     let rules = book.rules_digest(alloc)?;
     if is_about(old, rules) {
-        return raised(alloc, old, book, rules);
+        return raised(alloc, old, book);
     }
     Ok(Kept::empty(alloc, old.seen.hasher()))
 }
@@ -42,25 +41,25 @@ fn is_about(old: &KeptOne, rules: Digest) -> bool
     }
 }
 
-fn raised(alloc: Global, old: &KeptOne, book: &Book, rules: Digest) -> Result<Kept, NoMemory>
-    requires { rules ≡ rules_digest_of (book_view book.now) }
+fn raised(alloc: Global, old: &KeptOne, book: &Book) -> Result<Kept, NoMemory>
     ensures view { IfOk result (λ kept. kept_view kept ≡ raised (kept_one_view old.now) (book_view book.now)) }
     ensures once { IfOk result (λ kept. EachOnce (map digest_of kept.values)) }
 {
-    let entries = raised_entries(alloc, &old.entries, book, old.seen.hasher())?;
+    let hasher = old.seen.hasher();
+    let entries = raised_entries(alloc, &old.entries, book, hasher)?;
     let tasks = Tasks {
         book,
         entries: &entries,
-        rules,
     };
-    let traces = all_traces(alloc, old, &tasks)?;
+    let verifying = raised_traces(alloc, &old.verifying, &tasks, hasher)?;
+    let constructive = raised_traces(alloc, &old.constructive, &tasks, hasher)?;
     let rest = rest_of(alloc, old)?;
     Ok(Kept {
         seen: rest.seen,
         entries,
-        verifying: traces.verifying,
-        constructive: traces.constructive,
-        deep: traces.deep,
+        verifying,
+        constructive,
+        deep: DeepTraces::new(alloc, hasher),
         chain: rest.chain,
         values: rest.values,
     })

@@ -1,8 +1,9 @@
 //! Migration: what was kept in version 1 of the state file, as what is kept today.
 //!
 //! Version 1 keeps the digest of all rules, and no tasks. Where these are the rules of the book that is to be built, each
-//! entry and each trace gets the task that its key has in that book, and a deep trace the digest of the rules; where they
-//! are others, nothing is kept. That it stays sound is a law of `carte_sound_one` (`up_is_sound`).
+//! entry and each trace gets the task that its key has in that book; where they are others, nothing is kept. That it
+//! stays sound is a law of `carte_sound_one` (`up_is_sound`). Deep traces aren't kept, since they don't name the rules
+//! beneath their key. Turned down: to give them these from the entries, which may be of several books.
 //!
 //! `raise` gives what is kept then, for whoever only looks. `up` gives it as one batch that begins cleared, by which the
 //! file becomes one of version 2: it is the live information of what is kept, as a rewriting would write it, so nothing

@@ -1,11 +1,11 @@
 ghost use Rattle.std.specs.Prelude.{◌≡◌, IfOk};
 ghost use Rattle.carte_book.specs.Book.{book_view};
 ghost use Rattle.carte_book.specs.Task.{task_now};
-ghost use Rattle.carte_sound.specs.True.{or_none, wanted_task};
+ghost use Rattle.carte_sound.specs.True.{or_none};
 ghost use Rattle.carte_migrate.specs.Tasks.{KnowsTasks};
 
 use carte_book::Book;
-use carte_record::{Entries, Way};
+use carte_record::Entries;
 use carte_value::{Digest, Name, NoMemory};
 use std::alloc::Global;
 
@@ -14,23 +14,12 @@ use std::alloc::Global;
 pub(crate) struct Tasks<'a> {
     pub(crate) book: &'a Book,
     pub(crate) entries: &'a Entries,
-    pub(crate) rules: Digest,
 }
 
 impl Tasks<'_> {
-    /// The digest that a trace of a key has as its task.
-    pub(crate) fn wanted(&self, alloc: Global, way: Way, key: &Name) -> Result<Digest, NoMemory>
-        requires { KnowsTasks (book_view self.now.book.now) self.now.entries.now self.now.rules }
-        ensures { IfOk result (λ d. d ≡ or_none (wanted_task way (book_view self.now.book.now) key.now)) }
-    {
-        match way {
-            Way::Verifying | Way::Constructive => self.own(alloc, key),
-            Way::Deep => Ok(self.rules),
-        }
-    }
-
-    fn own(&self, alloc: Global, key: &Name) -> Result<Digest, NoMemory>
-        requires { KnowsTasks (book_view self.now.book.now) self.now.entries.now self.now.rules }
+    /// The digest of a key's task.
+    pub(crate) fn of(&self, alloc: Global, key: &Name) -> Result<Digest, NoMemory>
+        requires { KnowsTasks (book_view self.now.book.now) self.now.entries.now }
         ensures { IfOk result (λ d. d ≡ or_none (task_now (book_view self.now.book.now) key.now)) }
     {
         match self.entries.find(key) {

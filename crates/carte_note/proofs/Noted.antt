@@ -10,11 +10,11 @@ use Rattle.carte_book.specs.Book.{Book, clean}
 use Rattle.carte_record.specs.declared.batch.Batch.{Batch}
 use Rattle.carte_record.specs.declared.entry.Entry.{Entry}
 use Rattle.carte_record.specs.declared.kept.Kept.{Kept}
-use Rattle.carte_record.specs.declared.trace.Trace.{Trace}
 use Rattle.carte_record.specs.declared.way.Way.{Way}
 use Rattle.carte_record.specs.declared.way.Way.TheVariants.{Verifying, Constructive, Deep}
 use Rattle.carte_record.specs.Folds.{batch_traces}
 use Rattle.carte_record.specs.Kept.{SomeKept, kept_view, newest, traces_in, put_at}
+use Rattle.carte_record.specs.Ways.{TraceBy, eq_by}
 use Rattle.carte_table.specs.Lookups.{digest_eq, first_link, first_value}
 use Rattle.carte_record.specs.Lookups.{first_entry}
 use Rattle.carte_record.proofs.Growing.{traces_on}
@@ -23,11 +23,12 @@ use Rattle.carte_sound.specs.Held.{How}
 use Rattle.carte_sound.specs.Left.{add, entry_left, is_kept, is_way, or_first, seen_left}
 use Rattle.carte_sound.specs.True.{digest_or, links_to, trace_of}
 use Rattle.carte_sound.proofs.Entries.{kept_is}
+use Rattle.carte_sound.proofs.Traces.{trace_key}
 use Rattle.carte_note.specs.declared.finished.Finished.{Finished}
 use Rattle.carte_note.specs.Methods.{is_dirty}
 use Rattle.carte_note.specs.Notes.{AreUnmarked, Notes, trace_made}
 use Rattle.carte_note.specs.Right.{has_run}
-use Rattle.carte_note.specs.Writes.{links_noted, names_in, trace_noted, entry_noted, values_noted, traces_noted, named_task, task_made, brings_nothing, with_finished, with_value, all_seen, stays_as, stays, seen_noted, entries_noted, with_run, with_entry}
+use Rattle.carte_note.specs.Writes.{links_noted, names_in, trace_noted, entry_noted, values_noted, traces_noted, task_made, brings_nothing, with_finished, with_value, all_seen, stays_as, stays, seen_noted, entries_noted, with_run, with_entry}
 use Rattle.carte_note.proofs.Entered.{EntriesIn, entered, entries_alike, put_same, entry_self}
 use Rattle.carte_note.proofs.Rightly.{Leaves, kept, written, leaves, trace_right}
 use Rattle.carte_note.proofs.Seeing.{SeenIn, seen_alike, links_seen, clean_tells, names_linked}
@@ -74,14 +75,17 @@ module _ (b : Book) (K L : SomeKept) (k : List ℕ) (ks : List Link) (e : Entry)
           (entered K.entries L.entries es k e s (same ∙ sym at) key (λ there. let t : false ≡ true = sym is ∙ (ap (λ x. is_kept x e) (sym at ∙ there) ∙ entry_self e) in cc))
 
 -- its trace
-traces_more : (w : Way) (h : How) (b : Book) (k q : List ℕ) (f : Finished) (ts now old : List Trace) (ran : Bool) → (ran ≡ true → is_way h w ≡ true → trace_noted h (named_task w b (task_made b f)) f ≡ trace_of w b k) → now ≡ traces_in q ts old
-    → cond ((ran && is_way h w) && name_eq q k) (newest (trace_of w b k) now) now ≡ traces_in q (cond (ran && is_way h w) (ts ++ trace_noted h (named_task w b (task_made b f)) f ∷ []) ts) old
+traces_more : (w : Way) (h : How) (b : Book) (k q : List ℕ) (f : Finished) (ts now old : List (TraceBy w)) (ran : Bool) → (ran ≡ true → is_way h w ≡ true → trace_noted w (task_made b f) f ≡ trace_of w b k) → now ≡ traces_in w q ts old
+    → cond ((ran && is_way h w) && name_eq q k) (newest (eq_by w) (trace_of w b k) now) now ≡ traces_in w q (cond (ran && is_way h w) (ts ++ trace_noted w (task_made b f) f ∷ []) ts) old
 traces_more w h b k q f ts now old true right is = on (is_way h w) refl
   where
-    on : (t : Bool) → is_way h w ≡ t → cond (t && name_eq q k) (newest (trace_of w b k) now) now ≡ traces_in q (cond t (ts ++ trace_noted h (named_task w b (task_made b f)) f ∷ []) ts) old
+    one_trace : (xs : List (TraceBy w)) → traces_in w q (trace_of w b k ∷ []) xs ≡ cond (name_eq q k) (newest (eq_by w) (trace_of w b k) xs) xs
+    one_trace xs = ap (λ j. cond (name_eq q j) (newest (eq_by w) (trace_of w b k) xs) xs) (trace_key w b k)
+
+    on : (t : Bool) → is_way h w ≡ t → cond (t && name_eq q k) (newest (eq_by w) (trace_of w b k) now) now ≡ traces_in w q (cond t (ts ++ trace_noted w (task_made b f) f ∷ []) ts) old
     on true way =
-        ap (λ xs. cond (name_eq q k) (newest (trace_of w b k) xs) xs) is
-        ∙ sym (ap (λ t. traces_in q (ts ++ t ∷ []) old) (right refl way) ∙ traces_on q ts (trace_of w b k ∷ []) old)
+        ap (λ xs. cond (name_eq q k) (newest (eq_by w) (trace_of w b k) xs) xs) is
+        ∙ sym (ap (λ t. traces_in w q (ts ++ t ∷ []) old) (right refl way) ∙ traces_on w q ts (trace_of w b k ∷ []) old ∙ one_trace (traces_in w q ts old))
     on false way = is
 traces_more w h b k q f ts now old false right is = is
 
@@ -90,7 +94,7 @@ traces_by Verifying h b K f B = refl
 traces_by Constructive h b K f B = refl
 traces_by Deep h b K f B = refl
 
-traces_end : (w : Way) (h : How) (b : Book) (k : List ℕ) (f : Finished) (ts : List Trace) (t : Bool) → (t ≡ true → trace_noted h (named_task w b (task_made b f)) f ≡ trace_of w b k) → cond t (ts ++ trace_noted h (named_task w b (task_made b f)) f ∷ []) ts ≡ ts ++ cond t (trace_of w b k ∷ []) []
+traces_end : (w : Way) (h : How) (b : Book) (k : List ℕ) (f : Finished) (ts : List (TraceBy w)) (t : Bool) → (t ≡ true → trace_noted w (task_made b f) f ≡ trace_of w b k) → cond t (ts ++ trace_noted w (task_made b f) f ∷ []) ts ≡ ts ++ cond t (trace_of w b k ∷ []) []
 traces_end w h b k f ts true right = ap (λ t. ts ++ t ∷ []) (right refl)
 traces_end w h b k f ts false right = sym (append-nil ts)
 
@@ -136,7 +140,7 @@ noted h K b f old L k now c same right = record { carries = carries; traces = tr
       entries_differ = entries.differ;
       entries_once = entries.once;
       traces = λ w q. traces_more w h b k q f (batch_traces w old) (L.traces w q) ((kept_view K).traces w q) (has_run f.made) (trace_right h w (kept_view K) b k f right) (c.traces w q)
-          ∙ ap (λ ts. traces_in q ts ((kept_view K).traces w q)) (sym (traces_by w h b K f old));
+          ∙ ap (λ ts. traces_in w q ts ((kept_view K).traces w q)) (sym (traces_by w h b K f old));
       chain = c.chain;
       chain_differs = c.chain_differs;
     }

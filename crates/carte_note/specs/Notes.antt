@@ -4,10 +4,10 @@ use Rattle.carte_value.specs.Lists.{Has}
 use Rattle.carte_book.specs.Book.{Book}
 use Rattle.carte_record.specs.declared.batch.Batch.{Batch}
 use Rattle.carte_record.specs.declared.entry.Entry.{Entry}
-use Rattle.carte_record.specs.declared.trace.Trace.{Trace}
 use Rattle.carte_record.specs.declared.way.Way.{Way}
 use Rattle.carte_record.specs.Folds.{batch_traces}
 use Rattle.carte_record.specs.Kept.{SomeKept}
+use Rattle.carte_record.specs.Ways.{TraceBy}
 use Rattle.carte_sound.specs.Base.{AllNow}
 use Rattle.carte_sound.specs.Carries.{Carries}
 use Rattle.carte_sound.specs.Held.{How}
@@ -17,7 +17,7 @@ use Rattle.carte_note.specs.declared.finished.Finished.{Finished}
 use Rattle.carte_note.specs.Right.{IsRightFinished, has_run}
 
 -- of a key that ran one trace, and else none
-abbrev pub trace_made : How → Book → List ℕ → Finished → Way → List Trace
+abbrev pub trace_made : How → Book → List ℕ → Finished → (w : Way) → List (TraceBy w)
 trace_made h b k f w = if has_run f.made && is_way h w then trace_of w b k ∷ [] else []
 
 -- no entry is stale

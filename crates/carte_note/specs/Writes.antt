@@ -6,15 +6,16 @@ use Rattle.carte_value.specs.declared.value.Value.{Value}
 use Rattle.carte_value.specs.Spelling.{digest_of}
 use Rattle.carte_effect.specs.Jobs.{outcome_of}
 use Rattle.carte_book.specs.Book.{Book}
-use Rattle.carte_book.specs.Digest.{rules_digest_of}
 use Rattle.carte_book.specs.Task.{task_now}
 use Rattle.carte_record.specs.declared.batch.Batch.{Batch}
+use Rattle.carte_record.specs.declared.deep_trace.DeepTrace.{DeepTrace}
 use Rattle.carte_record.specs.declared.entry.Entry.{Entry}
 use Rattle.carte_record.specs.declared.kept.Kept.{Kept}
 use Rattle.carte_record.specs.declared.trace.Trace.{Trace}
 use Rattle.carte_record.specs.declared.way.Way.{Way}
 use Rattle.carte_record.specs.declared.way.Way.TheVariants.{Verifying, Constructive, Deep}
 use Rattle.carte_record.specs.Kept.{is_fresh}
+use Rattle.carte_record.specs.Ways.{TraceBy}
 use Rattle.carte_table.specs.Lookups.{first_link, first_value}
 use Rattle.carte_record.specs.Lookups.{first_entry}
 use Rattle.carte_sound.specs.Begun.{is_digest}
@@ -26,7 +27,7 @@ use Rattle.carte_note.specs.declared.finished.Finished.{Finished}
 use Rattle.carte_note.specs.Methods.{is_dirty}
 use Rattle.carte_note.specs.Right.{key_of, has_run}
 
--- the links of the key's trace and entry: those of the inputs beneath it, or those that it was made by
+-- the links of what the key's entry names: of the inputs beneath it, or those that it was made by
 abbrev pub links_noted : How → Finished → List Link
 links_noted h f = if gathers h then f.beneath else (outcome_of f.made).links
 
@@ -40,14 +41,18 @@ digest_made f = digest_of (outcome_of f.made).value
 abbrev pub task_made : Book → Finished → Digest
 task_made b f = or_none (task_now b (key_of f))
 
--- the digest that a trace of this kind names as its task: that one, and of a deep trace that of all rules
-abbrev pub named_task : Way → Book → Digest → Digest
-named_task Verifying b t = t
-named_task Constructive b t = t
-named_task Deep b t = rules_digest_of b
+-- a trace with this task and the links that the key was made by, and one with the rules and the inputs beneath it
+abbrev pub needs_noted : Digest → Finished → Trace
+needs_noted t f = record { key = key_of f; task = t; links = (outcome_of f.made).links; result = digest_made f }
 
-abbrev pub trace_noted : How → Digest → Finished → Trace
-trace_noted h t f = record { key = key_of f; task = t; links = links_noted h f; result = digest_made f }
+abbrev pub deep_noted : Finished → DeepTrace
+deep_noted f = record { key = key_of f; tasks = f.tasks; links = f.beneath; result = digest_made f }
+
+-- the trace of each kind
+abbrev pub trace_noted : (w : Way) → Digest → Finished → TraceBy w
+trace_noted Verifying t f = needs_noted t f
+trace_noted Constructive t f = needs_noted t f
+trace_noted Deep t f = deep_noted f
 
 abbrev pub entry_noted : How → Digest → Finished → Entry
 entry_noted h t f = record { key = key_of f; task = t; result = digest_made f; needs = names_in (links_noted h f); stale = false; shallow = gathers h }
@@ -60,14 +65,14 @@ with_value kept v vs = if is_some (first_value kept (digest_of v)) || is_some (f
 abbrev pub values_noted : List Value → Finished → List Value → List Value
 values_noted kept f vs = if has_run f.made then with_value kept (outcome_of f.made).value vs else vs
 
-abbrev pub traces_noted : How → Way → Book → Finished → List Trace → List Trace
-traces_noted h w b f ts = if has_run f.made && is_way h w then ts ++ trace_noted h (named_task w b (task_made b f)) f ∷ [] else ts
+abbrev pub traces_noted : How → (w : Way) → Book → Finished → List (TraceBy w) → List (TraceBy w)
+traces_noted h w b f ts = if has_run f.made && is_way h w then ts ++ trace_noted w (task_made b f) f ∷ [] else ts
 
--- the batch with one trace more
-abbrev pub traced : Way → Trace → Batch → Batch
-traced Verifying t B = record B { verifying = B.verifying ++ t ∷ [] }
-traced Constructive t B = record B { constructive = B.constructive ++ t ∷ [] }
-traced Deep t B = record B { deep = B.deep ++ t ∷ [] }
+-- the batch with the key's trace of this kind
+abbrev pub traced : Way → Digest → Finished → Batch → Batch
+traced Verifying t f B = record B { verifying = B.verifying ++ needs_noted t f ∷ [] }
+traced Constructive t f B = record B { constructive = B.constructive ++ needs_noted t f ∷ [] }
+traced Deep t f B = record B { deep = B.deep ++ deep_noted f ∷ [] }
 
 -- an input with its digest behind those of the batch, where the name isn't there yet and isn't kept with this digest
 abbrev pub with_seen : Book → List Link → Link → List Link → List Link

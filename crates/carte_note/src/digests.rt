@@ -2,11 +2,10 @@ ghost use Rattle.std.specs.Prelude.{◌≡◌, IfOk};
 ghost use Rattle.carte_book.specs.Book.{book_view};
 ghost use Rattle.carte_book.specs.Task.{task_now};
 ghost use Rattle.carte_sound.specs.True.{or_none};
-ghost use Rattle.carte_note.specs.Writes.{digest_made, named_task, task_made};
+ghost use Rattle.carte_note.specs.Writes.{digest_made, task_made};
 
 use crate::Finished;
 use carte_book::Book;
-use carte_record::Way;
 use carte_value::{Digest, Name, NoMemory};
 use std::alloc::Global;
 
@@ -38,21 +37,5 @@ fn task(alloc: Global, book: &Book, key: &Name) -> Result<Digest, NoMemory>
     match book.task_digest(alloc, key)? {
         Some(digest) => Ok(digest),
         None => Err(NoMemory),
-    }
-}
-
-/// The digest that a trace of this kind names as its task.
-pub(crate) fn named_task(
-    alloc: Global,
-    way: Way,
-    book: &Book,
-    task: Digest,
-) -> Result<Digest, NoMemory>
-    ensures { IfOk result (λ d. d ≡ named_task way (book_view book.now) task) }
-{
-    match way {
-        Way::Verifying => Ok(task),
-        Way::Constructive => Ok(task),
-        Way::Deep => book.rules_digest(alloc),
     }
 }

@@ -11,9 +11,9 @@
 //! entry is as it should be brings nothing: a build that changes nothing has an empty batch, and compares without copying.
 //!
 //! The digest of the value is taken once, those of inputs are the links', and that of the task is the book's, which is asked
-//! for it but once a key. A deep trace names the digest of all rules as its task. Turned down: a function for each rebuilder,
-//! which is four proofs of one thing; and the batch as the difference of two stations, worked out at the end, which would
-//! go through all that is kept.
+//! for it but once a key. What a deep trace names is gathered as the key is finished, and copied here. Turned down: a function
+//! for each rebuilder, which is four proofs of one thing; and the batch as the difference of two stations, worked out at the
+//! end, which would go through all that is kept.
 #![tactic(auto)]
 
 mod digests;

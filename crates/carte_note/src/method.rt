@@ -12,7 +12,7 @@ pub enum Method {
 }
 
 impl Method {
-    /// Whether the inputs beneath a key are gathered as it is finished, so that its entry names these.
+    /// Whether the rules and the inputs beneath a key are gathered as it is finished, so that its trace names them.
     pub fn gathers_beneath(self) -> bool
         ensures { result ≡ gathers (how_of self) }
     {

@@ -4,15 +4,15 @@ ghost use Rattle.carte_book.specs.Book.{book_view};
 ghost use Rattle.carte_record.specs.Kept.{kept_view};
 ghost use Rattle.carte_note.specs.Methods.{how_of};
 ghost use Rattle.carte_note.specs.Notes.{Notes, AreUnmarked};
-ghost use Rattle.carte_note.specs.Writes.{brings_nothing, digest_made, task_made, trace_noted, traced, with_value, with_run, with_entry, with_finished};
+ghost use Rattle.carte_note.specs.Writes.{brings_nothing, deep_noted, digest_made, needs_noted, task_made, traced, with_value, with_run, with_entry, with_finished};
 
-use crate::digests::{Digests, named_task};
+use crate::digests::Digests;
 use crate::entry::{brings_nothing, entry, stays_as};
-use crate::finished::{has_run, links_noted, links_shared};
+use crate::finished::{has_run, links_noted};
 use crate::see::see_all;
 use crate::{Finished, Method};
 use carte_book::Book;
-use carte_record::{Batch, Kept, Store, Trace, Way};
+use carte_record::{Batch, DeepTrace, Kept, Store, Trace, Way};
 use carte_value::{Digest, NoMemory, Value};
 use std::alloc::Global;
 
@@ -83,11 +83,7 @@ fn note_run(
     )?;
     match method {
         Method::Dirty => Ok(()),
-        Method::Tracing(way) => {
-            let task = named_task(alloc, way, book, digests.task)?;
-            let trace = trace(alloc, method, finished, digests.result, task)?;
-            note_trace(trace, way, batch)
-        }
+        Method::Tracing(way) => note_trace(alloc, way, finished, digests, batch),
     }
 }
 
@@ -107,32 +103,50 @@ fn note_value(
     values.push_with(value.copy(alloc)?, digest)
 }
 
-fn trace(
+fn note_trace(
     alloc: Global,
-    method: Method,
+    way: Way,
     finished: &Finished,
-    digest: Digest,
-    task: Digest,
-) -> Result<Trace, NoMemory>
-    requires { digest ≡ digest_made finished.now }
-    ensures { IfOk result (λ t. t ≡ trace_noted (how_of method) task finished.now) }
+    digests: Digests,
+    batch: &mut Batch,
+) -> Result<(), NoMemory>
+    requires { digests.result ≡ digest_made finished.now }
+    ensures { OnOk result (batch.new ≡ traced way digests.task finished.now batch.old) }
+{
+    match way {
+        Way::Verifying => batch.verifying.push(needs_trace(alloc, finished, digests)?),
+        Way::Constructive => batch
+            .constructive
+            .push(needs_trace(alloc, finished, digests)?),
+        Way::Deep => batch
+            .deep
+            .push(deep_trace(alloc, finished, digests.result)?),
+    }
+}
+
+// The links are shared with what was made.
+fn needs_trace(alloc: Global, finished: &Finished, digests: Digests) -> Result<Trace, NoMemory>
+    requires { digests.result ≡ digest_made finished.now }
+    ensures { IfOk result (λ t. t ≡ needs_noted digests.task finished.now) }
 {
     Ok(Trace {
         key: finished.made.key().copy(alloc)?,
-        task,
-        links: links_shared(alloc, method, finished)?,
-        result: digest,
+        task: digests.task,
+        links: finished.made.shared_links().copy()?,
+        result: digests.result,
     })
 }
 
-fn note_trace(trace: Trace, way: Way, batch: &mut Batch) -> Result<(), NoMemory>
-    ensures { OnOk result (batch.new ≡ traced way trace batch.old) }
+fn deep_trace(alloc: Global, finished: &Finished, digest: Digest) -> Result<DeepTrace, NoMemory>
+    requires { digest ≡ digest_made finished.now }
+    ensures { IfOk result (λ t. t ≡ deep_noted finished.now) }
 {
-    match way {
-        Way::Verifying => batch.verifying.push(trace),
-        Way::Constructive => batch.constructive.push(trace),
-        Way::Deep => batch.deep.push(trace),
-    }
+    Ok(DeepTrace {
+        key: finished.made.key().copy(alloc)?,
+        tasks: finished.tasks.copy(alloc)?,
+        links: finished.beneath.copy(alloc)?,
+        result: digest,
+    })
 }
 
 fn note_entry(

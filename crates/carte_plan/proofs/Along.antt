@@ -18,7 +18,7 @@ use Rattle.carte_sound.specs.Left.{is_way}
 use Rattle.carte_sound.specs.Marks.{present}
 use Rattle.carte_note.specs.declared.finished.Finished.{Finished}
 use Rattle.carte_note.specs.Right.{has_run}
-use Rattle.carte_note.specs.Writes.{all_seen, entry_noted, links_noted, named_task, stays, task_made, trace_noted, traces_noted, values_noted, with_finished, with_seen}
+use Rattle.carte_note.specs.Writes.{all_seen, entry_noted, links_noted, stays, task_made, trace_noted, traces_noted, values_noted, with_finished, with_seen}
 use Rattle.carte_plan.specs.Cuts.{cut_off, with_all}
 
 -- a list that begins with another one
@@ -108,7 +108,7 @@ module _ (h : How) (b : Book) (K : Kept) (W R : Batch) where
     seen_begin = begins_more R.seen S.seen (cond (stays h K (task_made b f) f) S.seen (all_seen b K.seen (links_noted h f) S.seen)) so.seen_begin (seen_on (stays h K (task_made b f) f));
     entries = ap (λ es. cond (stays h K (task_made b f) f) es (es ++ entry_noted h (task_made b f) f ∷ [])) so.entries ∙ none_behind (stays h K (task_made b f) f) W.entries S.entries (entry_noted h (task_made b f) f);
     traces = λ w. traces_with w h b K f V ∙ (ap (traces_noted h w b f) (so.traces w)
-        ∙ (more_behind (has_run f.made && is_way h w) (batch_traces w W) (batch_traces w S) (trace_noted h (named_task w b (task_made b f)) f)
+        ∙ (more_behind (has_run f.made && is_way h w) (batch_traces w W) (batch_traces w S) (trace_noted w (task_made b f) f)
         ∙ ap (λ ts. batch_traces w W ++ ts) (sym (traces_with w h b K f S))));
     chain = so.chain;
     starts = so.starts;

@@ -65,7 +65,7 @@ puts_carries b L N chain B C (inr (other, is)) c = subst (λ D. Carries b L (rec
   entries = c.entries;
   entries_differ = c.entries_differ;
   entries_once = c.entries_once;
-  traces = λ w q. c.traces w q ∙ ap (λ ts. traces_in q ts (L.traces w q)) (sym (puts_traces B chain w));
+  traces = λ w q. c.traces w q ∙ ap (λ ts. traces_in w q ts (L.traces w q)) (sym (puts_traces B chain w));
   chain = refl;
   chain_differs = λ ks is_chain. (let same : chain ≡ ks = cc in λ was. other (was ∙ sym same));
 })

@@ -43,7 +43,7 @@ opening_carries b M gs ms = record {
   entries = λ q. refl;
   entries_differ = λ q e is. cc;
   entries_once = tt;
-  traces = λ w q. sym (ap (λ ts. traces_in q ts (M.traces w q)) (open_none gs ms w));
+  traces = λ w q. sym (ap (λ ts. traces_in w q ts (M.traces w q)) (open_none gs ms w));
   chain = refl;
   chain_differs = λ ks is. cc;
 }

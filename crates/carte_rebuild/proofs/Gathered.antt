@@ -9,17 +9,17 @@ use Rattle.std.specs.Cmp.Lexicographic.{bytes_decides}
 use Rattle.carte_value.specs.declared.digest.Digest.{Digest}
 use Rattle.carte_value.specs.declared.link.Link.{Link}
 use Rattle.carte_name.specs.Names.{name_eq}
-use Rattle.carte_value.specs.Truths.{Truth}
 use Rattle.carte_value.specs.Asks.{firsts}
 use Rattle.carte_tree.specs.Firsts.{seen_also, seen_all}
 use Rattle.carte_tree.proofs.Once.{firsts_all, seen_both}
 use Rattle.carte_sound.specs.Beneath.{gathered}
-use Rattle.carte_sound.specs.True.{digest_or, links_to}
+use Rattle.carte_sound.specs.True.{linked_by}
 use Rattle.carte_sound.proofs.Tests.{name_self}
 use Rattle.carte_book.specs.Book.{Book, content}
 use Rattle.carte_note.specs.declared.finished.Finished.{Finished}
 use Rattle.carte_note.specs.Lists.{finished_of}
-use Rattle.carte_rebuild.specs.Gathering.{Gathered, put_link, put_links, links_in, brought, brought_by}
+use Rattle.carte_rebuild.specs.declared.gather.Role.{Role}
+use Rattle.carte_rebuild.specs.Gathering.{Gathered, put_link, put_links, links_in, brought, brought_by, picks, picked}
 
 -- 1. names, each once
 
@@ -69,11 +69,8 @@ seen_firsts : (js xs : List (List ℕ)) → seen_all js (firsts xs) ≡ seen_all
 seen_firsts js [] = refl
 seen_firsts js (k ∷ xs) = seen_without (seen_also js k) k (firsts xs) (seen_after js k) ∙ seen_firsts (seen_also js k) xs
 
-pub firsts_seen : (xs : List (List ℕ)) → seen_all [] xs ≡ firsts xs
+firsts_seen : (xs : List (List ℕ)) → seen_all [] xs ≡ firsts xs
 firsts_seen xs = firsts_all [] xs
-
-pub firsts_twice : (xs : List (List ℕ)) → firsts (firsts xs) ≡ firsts xs
-firsts_twice xs = sym (firsts_seen (firsts xs)) ∙ seen_firsts [] xs ∙ firsts_seen xs
 
 seen_gathered : (f : List ℕ → List (List ℕ)) (js ks : List (List ℕ)) → seen_all js (gathered (λ j. firsts (f j)) ks) ≡ seen_all js (gathered f ks)
 seen_gathered f js [] = refl
@@ -83,9 +80,14 @@ seen_gathered f js (k ∷ ks) =
     ∙ seen_gathered f (seen_all js (f k)) ks
     ∙ sym (seen_both js (f k) (gathered f ks))
 
--- it is the same whether the names are taken once before they are gathered, or not
-pub firsts_gathered : (f : List ℕ → List (List ℕ)) (ks : List (List ℕ)) → firsts (gathered (λ j. firsts (f j)) ks) ≡ firsts (gathered f ks)
-firsts_gathered f ks = sym (firsts_seen (gathered (λ j. firsts (f j)) ks)) ∙ seen_gathered f [] ks ∙ firsts_seen (gathered f ks)
+-- behind some names it is the same whether the others are taken once before they are gathered, or not
+pub firsts_behind : (f : List ℕ → List (List ℕ)) (xs ks : List (List ℕ)) → firsts (xs ++ gathered (λ j. firsts (f j)) ks) ≡ firsts (xs ++ gathered f ks)
+firsts_behind f xs ks =
+    sym (firsts_seen (xs ++ gathered (λ j. firsts (f j)) ks))
+    ∙ seen_both [] xs (gathered (λ j. firsts (f j)) ks)
+    ∙ seen_gathered f (seen_all [] xs) ks
+    ∙ sym (seen_both [] xs (gathered f ks))
+    ∙ firsts_seen (xs ++ gathered f ks)
 
 -- 2. links
 
@@ -93,45 +95,46 @@ pub put_both : (es : Gathered) (ls ms : List Link) → put_links es (ls ++ ms) �
 put_both es [] ms = refl
 put_both es (l ∷ ls) ms = put_both (put_link es l) ls ms
 
--- names with the digests that they have in a truth
-abbrev entries_to : Truth → List (List ℕ) → Gathered
-entries_to t [] = []
-entries_to t (k ∷ ks) = (k, digest_or (t k)) ∷ entries_to t ks
+module _ (g : List ℕ → Digest) where
+  -- names with the digests that the function gives them
+  abbrev pub entries_by : List (List ℕ) → Gathered
+  entries_by [] = []
+  entries_by (k ∷ ks) = (k, g k) ∷ entries_by ks
 
-entries_links : (t : Truth) (ks : List (List ℕ)) → links_in (entries_to t ks) ≡ links_to t ks
-entries_links t [] = refl
-entries_links t (k ∷ ks) = ap (λ ls. record { name = k; digest = digest_or (t k) } ∷ ls) (entries_links t ks)
+  entries_links : (ks : List (List ℕ)) → links_in (entries_by ks) ≡ linked_by g ks
+  entries_links [] = refl
+  entries_links (k ∷ ks) = ap (λ ls. record { name = k; digest = g k } ∷ ls) (entries_links ks)
 
-entries_end : (t : Truth) (ks : List (List ℕ)) (k : List ℕ) → entries_to t (ks ++ k ∷ []) ≡ entries_to t ks ++ (k, digest_or (t k)) ∷ []
-entries_end t [] k = refl
-entries_end t (j ∷ ks) k = ap (λ es. (j, digest_or (t j)) ∷ es) (entries_end t ks k)
+  entries_end : (ks : List (List ℕ)) (k : List ℕ) → entries_by (ks ++ k ∷ []) ≡ entries_by ks ++ (k, g k) ∷ []
+  entries_end [] k = refl
+  entries_end (j ∷ ks) k = ap (λ es. (j, g j) ∷ es) (entries_end ks k)
 
-entries_any : (t : Truth) (k : List ℕ) (ks : List (List ℕ)) → is_some (lookup (name_eq k) (entries_to t ks)) ≡ list_any (name_eq k) ks
-entries_any t k [] = refl
-entries_any t k (j ∷ ks) =
-    elim (name_eq k j) as (λ b. is_some (cond b (Some (digest_or (t j))) (lookup (name_eq k) (entries_to t ks))) ≡ (b || list_any (name_eq k) ks)) [
-      | true ↦ refl
-      | false ↦ entries_any t k ks
-    ]
+  entries_any : (k : List ℕ) (ks : List (List ℕ)) → is_some (lookup (name_eq k) (entries_by ks)) ≡ list_any (name_eq k) ks
+  entries_any k [] = refl
+  entries_any k (j ∷ ks) =
+      elim (name_eq k j) as (λ b. is_some (cond b (Some (g j)) (lookup (name_eq k) (entries_by ks))) ≡ (b || list_any (name_eq k) ks)) [
+        | true ↦ refl
+        | false ↦ entries_any k ks
+      ]
 
-put_seen : (t : Truth) (js : List (List ℕ)) (k : List ℕ) → put_link (entries_to t js) (record { name = k; digest = digest_or (t k) }) ≡ entries_to t (seen_also js k)
-put_seen t js k = ap (λ b. cond b (entries_to t js) (entries_to t js ++ (k, digest_or (t k)) ∷ [])) (entries_any t k js) ∙ on (list_any (name_eq k) js)
-  where
-    on : (b : Bool) → cond b (entries_to t js) (entries_to t js ++ (k, digest_or (t k)) ∷ []) ≡ entries_to t (cond b js (js ++ k ∷ []))
-    on true = refl
-    on false = sym (entries_end t js k)
+  put_seen : (js : List (List ℕ)) (k : List ℕ) → put_link (entries_by js) (record { name = k; digest = g k }) ≡ entries_by (seen_also js k)
+  put_seen js k = ap (λ b. cond b (entries_by js) (entries_by js ++ (k, g k) ∷ [])) (entries_any k js) ∙ on (list_any (name_eq k) js)
+    where
+      on : (b : Bool) → cond b (entries_by js) (entries_by js ++ (k, g k) ∷ []) ≡ entries_by (cond b js (js ++ k ∷ []))
+      on true = refl
+      on false = sym (entries_end js k)
 
-puts_seen : (t : Truth) (js ks : List (List ℕ)) → put_links (entries_to t js) (links_to t ks) ≡ entries_to t (seen_all js ks)
-puts_seen t js [] = refl
-puts_seen t js (k ∷ ks) = ap (λ es. put_links es (links_to t ks)) (put_seen t js k) ∙ puts_seen t (seen_also js k) ks
+  puts_seen : (js ks : List (List ℕ)) → put_links (entries_by js) (linked_by g ks) ≡ entries_by (seen_all js ks)
+  puts_seen js [] = refl
+  puts_seen js (k ∷ ks) = ap (λ es. put_links es (linked_by g ks)) (put_seen js k) ∙ puts_seen (seen_also js k) ks
 
--- links of one truth that are put one after the other are those of the names, each once
-pub put_firsts : (t : Truth) (ks : List (List ℕ)) → links_in (put_links [] (links_to t ks)) ≡ links_to t (firsts ks)
-put_firsts t ks = ap links_in (puts_seen t [] ks) ∙ entries_links t (seen_all [] ks) ∙ ap (links_to t) (firsts_seen ks)
+  -- links by one function that are put one after the other are those of the names, each once
+  pub put_firsts : (ks : List (List ℕ)) → links_in (put_links [] (linked_by g ks)) ≡ linked_by g (firsts ks)
+  put_firsts ks = ap links_in (puts_seen [] ks) ∙ entries_links (seen_all [] ks) ∙ ap (linked_by g) (firsts_seen ks)
 
-pub links_join : (t : Truth) (js ks : List (List ℕ)) → links_to t (js ++ ks) ≡ links_to t js ++ links_to t ks
-links_join t [] ks = refl
-links_join t (j ∷ js) ks = ap (λ ls. record { name = j; digest = digest_or (t j) } ∷ ls) (links_join t js ks)
+  pub links_join : (js ks : List (List ℕ)) → linked_by g (js ++ ks) ≡ linked_by g js ++ linked_by g ks
+  links_join [] ks = refl
+  links_join (j ∷ js) ks = ap (λ ls. record { name = j; digest = g j } ∷ ls) (links_join js ks)
 
 -- 3. in the code
 
@@ -148,17 +151,32 @@ pub put_more : (xs : List Link) (at : ℕ) (l : Link) (start now new : Gathered)
 put_more xs at l start now new within is before after =
     after ∙ ap (λ es. put_link es l) before ∙ sym (put_both start (take at xs) (l ∷ [])) ∙ ap (put_links start) (ap (λ x. take at xs ++ x ∷ []) is ∙ sym (take_more xs at l within))
 
-brought_end : (b : Book) (before : List Finished) (ls : List Link) (l : Link) → brought_by b before (ls ++ l ∷ []) ≡ brought_by b before ls ++ brought (content b l.name) (finished_of before l.name) l
-brought_end b before [] l = append-nil (brought (content b l.name) (finished_of before l.name) l)
-brought_end b before (m ∷ ls) l =
-    ap (λ xs. brought (content b m.name) (finished_of before m.name) m ++ xs) (brought_end b before ls l)
-    ∙ sym (append_assoc (brought (content b m.name) (finished_of before m.name) m) (brought_by b before ls) (brought (content b l.name) (finished_of before l.name) l))
+module _ (r : Role) (b : Book) where
+  brought_end : (before : List Finished) (ls : List Link) (l : Link) → brought_by r b before (ls ++ l ∷ []) ≡ brought_by r b before ls ++ brought r (content b l.name) (finished_of before l.name) l
+  brought_end before [] l = append-nil (brought r (content b l.name) (finished_of before l.name) l)
+  brought_end before (m ∷ ls) l =
+      ap (λ xs. brought r (content b m.name) (finished_of before m.name) m ++ xs) (brought_end before ls l)
+      ∙ sym (append_assoc (brought r (content b m.name) (finished_of before m.name) m) (brought_by r b before ls) (brought r (content b l.name) (finished_of before l.name) l))
 
--- what one link more brings was put
-pub brought_more : (b : Book) (before : List Finished) (xs : List Link) (at : ℕ) (l : Link) (now new : Gathered) → at < length xs → l ≡ get_or xs at l → now ≡ put_links [] (brought_by b before (take at xs)) → new ≡ put_links now (brought (content b l.name) (finished_of before l.name) l) → new ≡ put_links [] (brought_by b before (take (at + 1) xs))
-brought_more b before xs at l now new within is so_far after =
-    after
-    ∙ ap (λ es. put_links es (brought (content b l.name) (finished_of before l.name) l)) so_far
-    ∙ sym (put_both [] (brought_by b before (take at xs)) (brought (content b l.name) (finished_of before l.name) l))
-    ∙ ap (put_links []) (sym (brought_end b before (take at xs) l))
-    ∙ ap (λ ls. put_links [] (brought_by b before ls)) (ap (λ x. take at xs ++ x ∷ []) is ∙ sym (take_more xs at l within))
+  -- what one link more brings was put
+  pub brought_more : (before : List Finished) (xs : List Link) (at : ℕ) (l : Link) (start now new : Gathered) → at < length xs → l ≡ get_or xs at l → now ≡ put_links start (brought_by r b before (take at xs)) → new ≡ put_links now (brought r (content b l.name) (finished_of before l.name) l) → new ≡ put_links start (brought_by r b before (take (at + 1) xs))
+  brought_more before xs at l start now new within is so_far after =
+      after
+      ∙ ap (λ es. put_links es (brought r (content b l.name) (finished_of before l.name) l)) so_far
+      ∙ sym (put_both start (brought_by r b before (take at xs)) (brought r (content b l.name) (finished_of before l.name) l))
+      ∙ ap (put_links start) (sym (brought_end before (take at xs) l))
+      ∙ ap (λ ls. put_links start (brought_by r b before ls)) (ap (λ x. take at xs ++ x ∷ []) is ∙ sym (take_more xs at l within))
+
+  picked_end : (ls : List Link) (l : Link) → picked r b (ls ++ l ∷ []) ≡ picked r b ls ++ picks r (content b l.name) l
+  picked_end [] l = append-nil (picks r (content b l.name) l)
+  picked_end (m ∷ ls) l =
+      ap (λ xs. picks r (content b m.name) m ++ xs) (picked_end ls l)
+      ∙ sym (append_assoc (picks r (content b m.name) m) (picked r b ls) (picks r (content b l.name) l))
+
+  -- one link more was looked at
+  pub picked_more : (xs : List Link) (at : ℕ) (l : Link) (now new : List Link) → at < length xs → l ≡ get_or xs at l → now ≡ picked r b (take at xs) → new ≡ now ++ picks r (content b l.name) l → new ≡ picked r b (take (at + 1) xs)
+  picked_more xs at l now new within is so_far after =
+      after
+      ∙ ap (λ ls. ls ++ picks r (content b l.name) l) so_far
+      ∙ sym (picked_end (take at xs) l)
+      ∙ ap (picked r b) (ap (λ x. take at xs ++ x ∷ []) is ∙ sym (take_more xs at l within))

@@ -11,19 +11,19 @@ use Rattle.carte_tree.specs.Tree.{Tree}
 use Rattle.carte_tree.specs.Meaning.{asks, fetched}
 use Rattle.carte_book.specs.Book.{Book, rule, content, clean}
 use Rattle.carte_book.specs.Needs.{needs}
-use Rattle.carte_book.specs.Task.{task_now}
 use Rattle.carte_task.specs.Checking.{Checking}
 use Rattle.carte_task.specs.Checks.{compares, rest_from}
-use Rattle.carte_record.specs.declared.trace.Trace.{Trace}
 use Rattle.carte_record.specs.declared.way.Way.{Way}
 use Rattle.carte_record.specs.declared.way.Way.TheVariants.{Verifying, Constructive, Deep}
 use Rattle.carte_record.specs.Kept.{SomeKept}
-use Rattle.carte_sound.specs.True.{digest_or, or_none, wanted_task, links_to, linked}
+use Rattle.carte_record.specs.Ways.{TraceBy, links_by, result_by}
+use Rattle.carte_sound.specs.True.{digest_or, links_to, linked}
 use Rattle.carte_sound.specs.Sound.{IsTraceOfSome}
 use Rattle.carte_sound.specs.Base.{IsBase}
-use Rattle.carte_sound.specs.Held.{tracing, AreLinks, digest_now, IsHeldBy, looks_into_held}
+use Rattle.carte_sound.specs.Held.{tracing, AreLinks, digest_now, IsTasked, IsHeldBy, looks_into_held}
 use Rattle.carte_sound.specs.Results.{HasResult}
-use Rattle.carte_sound.proofs.Held.{needs_rule, need_has_value, same_rule, verifying_held, constructive_held}
+use Rattle.carte_sound.proofs.Held.{needs_rule, need_has_value, needs_linked, same_rule, verifying_held, constructive_held}
+use Rattle.carte_sound.proofs.Traces.{trace_links}
 use Rattle.carte_note.specs.Right.{reused_links}
 use Rattle.carte_rebuild.specs.Traced.{IsCheckOf}
 use Rattle.carte_rebuild.specs.Goes.{may_ask}
@@ -41,15 +41,7 @@ pub of_constructive : OfNeeds Constructive
 of_constructive = record { looks = refl }
 
 pub links_needs : (w : Way) → OfNeeds w → (b : Book) (k : List ℕ) → linked w b k ≡ needs b k
-links_needs Verifying of b k = refl
-links_needs Constructive of b k = refl
-links_needs Deep of b k = (let never : false ≡ true = of.looks in cc)
-
--- and name the key's own task
-pub wanted_needs : (w : Way) → OfNeeds w → (b : Book) (k : List ℕ) → wanted_task w b k ≡ task_now b k
-wanted_needs Verifying of b k = refl
-wanted_needs Constructive of b k = refl
-wanted_needs Deep of b k = (let never : false ≡ true = of.looks in cc)
+links_needs w of b k = needs_linked w of.looks b k
 
 pub reused_needs : (w : Way) → OfNeeds w → (b : Book) (k : List ℕ) → reused_links (tracing w) b k ≡ links_to (clean b) (needs b k)
 reused_needs Verifying of b k = refl
@@ -61,17 +53,17 @@ asks_needs Verifying of b k = refl
 asks_needs Constructive of b k = refl
 asks_needs Deep of b k = (let never : false ≡ true = of.looks in cc)
 
-pub links_now : (w : Way) → OfNeeds w → (b : Book) (t : Trace) → AreLinks (digests_in (clean b)) t.links → AreLinks (digest_now w b) t.links
+pub links_now : (w : Way) → OfNeeds w → (b : Book) (t : TraceBy w) → AreLinks (digests_in (clean b)) (links_by w t) → AreLinks (digest_now w b) (links_by w t)
 links_now Verifying of b t are = are
 links_now Constructive of b t are = are
 links_now Deep of b t are = (let never : false ≡ true = of.looks in cc)
 
-pub links_then : (w : Way) → OfNeeds w → (b : Book) (t : Trace) → AreLinks (digest_now w b) t.links → AreLinks (digests_in (clean b)) t.links
+pub links_then : (w : Way) → OfNeeds w → (b : Book) (t : TraceBy w) → AreLinks (digest_now w b) (links_by w t) → AreLinks (digests_in (clean b)) (links_by w t)
 links_then Verifying of b t are = are
 links_then Constructive of b t are = are
 links_then Deep of b t are = (let never : false ≡ true = of.looks in cc)
 
-pub held_needs : (w : Way) → OfNeeds w → (K : SomeKept) (b : Book) (H : List Book) → IsBase K b H → (k : List ℕ) (t : Trace) → IsHeldBy w K b k t → HasResult K b k t.result × (t.links ≡ links_to (clean b) (needs b k))
+pub held_needs : (w : Way) → OfNeeds w → (K : SomeKept) (b : Book) (H : List Book) → IsBase K b H → (k : List ℕ) (t : TraceBy w) → IsHeldBy w K b k t → HasResult K b k (result_by w t) × (links_by w t ≡ links_to (clean b) (needs b k))
 held_needs Verifying of K b H base k t held = verifying_held K b H base k t held
 held_needs Constructive of K b H base k t held = constructive_held K b H base k t held
 held_needs Deep of K b H base k t held = (let never : false ≡ true = of.looks in cc)
@@ -97,7 +89,7 @@ pub record LooksAt (b : Book) (p : Truth) (k j : List ℕ) : Type 0 where
   pub known : (i : List ℕ) → Among before i → HasValue p i
 
 module _ (w : Way) (of : OfNeeds w) (K : SomeKept) (b : Book) (H : List Book) (base : IsBase K b H) (k : List ℕ) (p : Truth) (part : Extends p (clean b)) where
-  trace_looks : (t : Trace) (s : IsTraceOfSome K H w k t) → wanted_task w b k ≡ Some t.task → (j : List ℕ) → Among (asked p (compares 0 t.links)) j → LooksAt b p k j
+  trace_looks : (t : TraceBy w) (s : IsTraceOfSome K H w k t) → IsTasked w b k t → (j : List ℕ) → Among (asked p (compares 0 (links_by w t))) j → LooksAt b p k j
   trace_looks t s task j among = record {
     formula = f;
     is_rule = same.1;
@@ -115,13 +107,13 @@ module _ (w : Way) (of : OfNeeds w) (K : SomeKept) (b : Book) (H : List Book) (b
       f = s.trace.formula
 
       same : (c.kind ≡ b.kind) × (content b k ≡ Some (rule f))
-      same = same_rule K b H base w k t s (ap (λ (x : Trace). x.task) s.trace.trace ∙ ap or_none (wanted_needs w of c k)) (sym (wanted_needs w of b k) ∙ task)
+      same = same_rule K b H base w of.looks k t s task
 
       names : needs c k ≡ firsts (asked (clean c) (asks b.kind f))
       names = needs_rule c k f s.trace.is_rule ∙ ap (λ q. fetched q (clean c) f) same.0
 
-      links : t.links ≡ links_to (clean c) (needs c k)
-      links = ap (λ (x : Trace). x.links) s.trace.trace ∙ ap (links_to (clean c)) (links_needs w of c k)
+      links : links_by w t ≡ links_to (clean c) (needs c k)
+      links = ap (links_by w) s.trace.trace ∙ trace_links w c k ∙ ap (links_to (clean c)) (links_needs w of c k)
 
       split : Parted (needs c k) j (HasDigestOf p (clean c))
       split = compares_parted p (clean c) (needs c k) 0 j (subst (λ ls. Among (asked p (compares 0 ls)) j) links among)
@@ -167,5 +159,5 @@ module _ (w : Way) (of : OfNeeds w) (K : SomeKept) (b : Book) (H : List Book) (b
       ]
 
   -- what a check that holds says: its trace holds the key
-  pub check_holds : (c : Checking) → (x : IsCheckOf w K b k c) → run p (rest_from c) ≡ Ok None → AreLinks (digests_in p) x.trace.links
-  check_holds c x holds = same_links_are p 0 x.trace.links (subst (λ d. run p (rest_from d) ≡ Ok None) x.is holds)
+  pub check_holds : (c : Checking) → (x : IsCheckOf w K b k c) → run p (rest_from c) ≡ Ok None → AreLinks (digests_in p) (links_by w x.trace)
+  check_holds c x holds = same_links_are p 0 (links_by w x.trace) (subst (λ d. run p (rest_from d) ≡ Ok None) x.is holds)

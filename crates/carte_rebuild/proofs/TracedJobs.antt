@@ -15,6 +15,7 @@ use Rattle.carte_task.specs.Checking.{Checking}
 use Rattle.carte_task.specs.Checks.{rest_from}
 use Rattle.carte_record.specs.declared.way.Way.{Way}
 use Rattle.carte_record.specs.Kept.{SomeKept}
+use Rattle.carte_record.specs.Ways.{links_by}
 use Rattle.carte_sound.specs.True.{links_to}
 use Rattle.carte_sound.specs.Base.{IsBase}
 use Rattle.carte_sound.specs.Held.{tracing, AreLinks, IsHeldBy, IsHeld}
@@ -40,8 +41,8 @@ module _ (w : Way) (of : OfNeeds w) (K : SomeKept) (b : Book) (H : List Book) (b
   not_held : AllDiffer (clean b) cs → ¬ (IsHeld (tracing w) K b k)
   not_held differ (t, held) =
       let stored = base.sound.trace_stored w k t held.kept in
-      let d = differ (check_of k t stored.0) (tried.each t stored.0 held.kept held.task held.trusted stored.1) in
-      let same : run (clean b) (rest_from (check_of k t stored.0)) ≡ Ok None = are_links_same (clean b) 0 t.links (links_then w of b t held.links) in
+      let d = differ (check_of k (links_by w t) stored.0) (tried.each t stored.0 held.kept held.task held.trusted stored.1) in
+      let same : run (clean b) (rest_from (check_of k (links_by w t) stored.0)) ≡ Ok None = are_links_same (clean b) 0 (links_by w t) (links_then w of b t held.links) in
       let both : Ok (Some d.0) ≡ Ok None = sym d.1 ∙ same in
       cc
 
@@ -54,7 +55,7 @@ module _ (w : Way) (of : OfNeeds w) (K : SomeKept) (b : Book) (H : List Book) (b
       let held = held_by c x holds in
       let r = held_needs w of K b H base k x.trace held in
       let value : r.0.value ≡ x.value = (let e : Some r.0.value ≡ Some x.value = sym r.0.stored ∙ x.stored in cc) in
-      let right : IsRightMade (tracing w) K b k (Reused (record { key = k; value = x.value; links = x.trace.links })) = record {
+      let right : IsRightMade (tracing w) K b k (Reused (record { key = k; value = x.value; links = links_by w x.trace })) = record {
         key = refl;
         value = r.0.clean ∙ ap Some value;
         came = ((x.trace, held), r.1 ∙ sym (reused_needs w of b k));
@@ -86,9 +87,9 @@ module _ (w : Way) (of : OfNeeds w) (K : SomeKept) (b : Book) (H : List Book) (b
   traced_there part more m ends j among = elim (tries_cases part cs (task_left k (asks b.kind f)) m ends) [
     | inl (c, has, holds, is) ↦
         let x = tried.only c has in
-        let here : AreLinks (digests_in part) x.trace.links = check_holds w of K b H base k part more c x holds in
+        let here : AreLinks (digests_in part) (links_by w x.trace) = check_holds w of K b H base k part more c x holds in
         let now = held_by c x (run_kept part (clean b) (rest_from c) None more holds) in
-        let links : x.trace.links ≡ links_to (clean b) (needs b k) = (held_needs w of K b H base k x.trace now).1 in
+        let links : links_by w x.trace ≡ links_to (clean b) (needs b k) = (held_needs w of K b H base k x.trace now).1 in
         linked_names part (clean b) (needs b k) (subst (AreLinks (digests_in part)) links here) j among
     | inr (differ, ran) ↦ alone_there b k f is_rule part more m ran j among
   ]

@@ -1,19 +1,20 @@
 -- The checks of the traces of a key.
 use Rattle.std.specs.Prelude.{ℕ, Bool, true, ◌&&◌, List, [], ◌∷◌, ◌++◌, Option, Some, None, if◌then◌else◌}
 use Rattle.carte_value.specs.declared.digest.Digest.{Digest}
+use Rattle.carte_value.specs.declared.link.Link.{Link}
 use Rattle.carte_value.specs.declared.value.Value.{Value}
 use Rattle.carte_task.specs.Checking.{Checking}
 use Rattle.carte_record.specs.declared.trace.Trace.{Trace}
 use Rattle.carte_table.specs.Lookups.{digest_eq, first_value}
 use Rattle.carte_record.specs.Lookups.{is_trace_of}
 
--- the check of a trace that tells of this value
-abbrev pub check_of : List ℕ → Trace → Value → Checking
-check_of k t v = record { earlier = record { key = k; value = v; links = t.links }; at = 0 }
+-- the check of a trace with these links that tells of this value
+abbrev pub check_of : List ℕ → List Link → Value → Checking
+check_of k ls v = record { earlier = record { key = k; value = v; links = ls }; at = 0 }
 
 abbrev pub check_at : Option Value → List ℕ → Trace → List Checking
 check_at None k t = []
-check_at (Some v) k t = check_of k t v ∷ []
+check_at (Some v) k t = check_of k t.links v ∷ []
 
 abbrev pub is_wanted : Option Digest → Digest → Bool
 is_wanted None d = true

@@ -7,30 +7,29 @@ use Rattle.carte_tree.specs.Tree.{Tree}
 use Rattle.carte_tree.specs.Meaning.{asks}
 use Rattle.carte_task.specs.Checking.{Checking}
 use Rattle.carte_book.specs.Book.{Book, rule, content, clean}
-use Rattle.carte_record.specs.declared.trace.Trace.{Trace}
 use Rattle.carte_record.specs.declared.way.Way.{Way}
 use Rattle.carte_record.specs.Kept.{SomeKept}
+use Rattle.carte_record.specs.Ways.{TraceBy, links_by, result_by}
 use Rattle.carte_value.specs.Lists.{Has}
-use Rattle.carte_sound.specs.Held.{IsTrusted}
-use Rattle.carte_sound.specs.True.{wanted_task}
+use Rattle.carte_sound.specs.Held.{IsTasked, IsTrusted}
 use Rattle.carte_rebuild.specs.declared.tries.Tries.{Tries}
 use Rattle.carte_rebuild.specs.Earlier.{check_of}
 use Rattle.carte_rebuild.specs.Trying.{task_left, tries}
 use Rattle.carte_rebuild.specs.Left.{left_of}
 
 pub record IsCheckOf (w : Way) (K : SomeKept) (b : Book) (k : List ℕ) (c : Checking) : Type 0 where
-  pub trace : Trace
+  pub trace : TraceBy w
   pub kept : Has (K.traces w k) trace
-  pub task : wanted_task w b k ≡ Some trace.task
+  pub task : IsTasked w b k trace
   pub trusted : IsTrusted w K k trace
   pub value : Value
-  pub stored : K.stored trace.result ≡ Some value
-  pub is : c ≡ check_of k trace value
+  pub stored : K.stored (result_by w trace) ≡ Some value
+  pub is : c ≡ check_of k (links_by w trace) value
 
 -- the checks of all traces of the key that have the task that is wanted now, may be reused and have their values in the store
 pub record AreTried (w : Way) (K : SomeKept) (b : Book) (k : List ℕ) (cs : List Checking) : Type 0 where
   pub only : (c : Checking) → Has cs c → IsCheckOf w K b k c
-  pub each : (t : Trace) (v : Value) → Has (K.traces w k) t → wanted_task w b k ≡ Some t.task → IsTrusted w K k t → K.stored t.result ≡ Some v → Has cs (check_of k t v)
+  pub each : (t : TraceBy w) (v : Value) → Has (K.traces w k) t → IsTasked w b k t → IsTrusted w K k t → K.stored (result_by w t) ≡ Some v → Has cs (check_of k (links_by w t) v)
 
 -- answers of this truth, a part of the clean values, lead from the start of such checks and the rule's task to what is left
 pub record IsTracedJob (w : Way) (K : SomeKept) (b : Book) (t : Truth) (k : List ℕ) (p : Tries) : Type 0 where

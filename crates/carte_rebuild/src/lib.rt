@@ -14,8 +14,9 @@
 //! meaning is one computation, what it still asks for, and a drive leads from what was left to what is left. Until the
 //! checks have failed it holds only what the task is made of: most jobs of a build that changes little never run.
 //!
-//! A finished key gets the inputs beneath it, where the rebuilder gathers these, from its links alone: those beneath the
-//! rules among them were gathered as these were finished, so nothing walks over the book.
+//! A finished key gets the rules and the inputs beneath it, where the rebuilder gathers these, from its links alone: what is
+//! beneath the rules among them was gathered as these were finished, and a held key links what its trace names, so nothing
+//! walks over the book.
 //!
 //! Turned down:
 //! - A meaning of "held" for each rebuilder: what a build leaves would be proved once for each.
@@ -32,6 +33,7 @@ mod made;
 mod rebuilder;
 mod recipe;
 mod store;
+mod tasks;
 mod tries;
 mod work;
 
@@ -41,5 +43,6 @@ pub use laws::driven_right;
 pub use made::finish;
 pub use rebuilder::Rebuilder;
 pub use store::stored;
+pub use tasks::are_tasks;
 pub use tries::Tries;
 pub use work::{PlanFault, Work, WorkEnd};

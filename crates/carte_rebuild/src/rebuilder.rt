@@ -71,7 +71,7 @@ pub trait Rebuilder {
         self.method().looks_beneath()
     }
 
-    /// Whether the inputs beneath a key are gathered as it is finished.
+    /// Whether the rules and the inputs beneath a key are gathered as it is finished.
     fn gathers_beneath(&self) -> bool
         ensures { result ≡ gathers (how self.now) }
     {

@@ -56,10 +56,10 @@ empty_same B K is =
     unmarked None = refl
     unmarked (Some e) = refl
 
-    traces : length B.verifying == 0 ≡ true → length B.constructive == 0 ≡ true → length B.deep == 0 ≡ true → (w : Way) (k : List ℕ) → traces_in k (batch_traces w B) (K.traces w k) ≡ K.traces w k
-    traces v c d Verifying k = ap (λ ts. traces_in k ts (K.traces Verifying k)) (nil_from B.verifying v)
-    traces v c d Constructive k = ap (λ ts. traces_in k ts (K.traces Constructive k)) (nil_from B.constructive c)
-    traces v c d Deep k = ap (λ ts. traces_in k ts (K.traces Deep k)) (nil_from B.deep d)
+    traces : length B.verifying == 0 ≡ true → length B.constructive == 0 ≡ true → length B.deep == 0 ≡ true → (w : Way) (k : List ℕ) → traces_in w k (batch_traces w B) (K.traces w k) ≡ K.traces w k
+    traces v c d Verifying k = ap (λ ts. traces_in Verifying k ts (K.traces Verifying k)) (nil_from B.verifying v)
+    traces v c d Constructive k = ap (λ ts. traces_in Constructive k ts (K.traces Constructive k)) (nil_from B.constructive c)
+    traces v c d Deep k = ap (λ ts. traces_in Deep k ts (K.traces Deep k)) (nil_from B.deep d)
 
 -- a batch that begins with all that is kept
 pub nothing_dropped : (B : Batch) (K : SomeKept) → drops_nothing B ≡ true → apply B K ≡ put_in B K

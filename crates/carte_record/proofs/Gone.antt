@@ -2,7 +2,6 @@
 use Rattle.std.proofs.Common.{◌≡◌, ℕ, Bool, true, false, cond, List, [], ◌∷◌, Option, Some, None, refl, ap, sym, ◌∙◌}
 use Rattle.std.specs.Prelude.{filter, find, is_some, not, option_map, ◌||◌, if◌then◌else◌}
 use Rattle.carte_name.specs.Names.{name_eq}
-use Rattle.carte_record.specs.declared.trace.Trace.{Trace}
 use Rattle.carte_record.specs.declared.batch.Batch.{Batch}
 use Rattle.carte_record.specs.declared.kept.Kept.{Kept}
 use Rattle.carte_record.specs.declared.way.Way.{Way}
@@ -10,7 +9,8 @@ use Rattle.carte_record.specs.declared.way.Way.TheVariants.{Verifying, Construct
 use Rattle.carte_table.specs.Changes.{is_of_none}
 use Rattle.carte_table.specs.Lookups.{first_link, first_value, is_link_of}
 use Rattle.carte_record.specs.Lookups.{first_entry}
-use Rattle.carte_record.specs.Kept.{SomeKept, kept_traces, kept_view, newest, nothing_kept, traces_in}
+use Rattle.carte_record.specs.Ways.{key_by, eq_by}
+use Rattle.carte_record.specs.Kept.{SomeKept, kept_traces, kept_view, newest, newest_in, nothing_kept, traces_in}
 use Rattle.carte_record.specs.Folds.{carried, is_among, without}
 use Rattle.carte_record.specs.Growth.{put_in}
 use Rattle.carte_table.proofs.Names.{name_eq_is, name_eq_sym}
@@ -51,21 +51,21 @@ module _ {A : Type 0} (key : A → List ℕ) (ks : List (List ℕ)) where
       on false is true stays g among same = ap (λ here. cond here (Some x) (find (λ y. name_eq k (key y)) rest)) is ∙ same
       on false is false stays g among same = same
 
-traces_left : (ks : List (List ℕ)) (k : List ℕ) (ts old : List Trace) → traces_in k (filter (is_of_none (λ t. t.key) ks) ts) old ≡ (if is_among ks k then old else traces_in k ts old)
-traces_left ks k [] old = sym (either old (is_among ks k))
-traces_left ks k (t ∷ ts) old = on (name_eq k t.key) refl (is_of_none (λ t. t.key) ks t) refl (is_among ks k) refl (traces_left ks k ts)
-  where
-    rest : List Trace
-    rest = filter (is_of_none (λ t. t.key) ks) ts
+  pub newest_left : (alike : A → A → Bool) (k : List ℕ) (xs old : List A) → newest_in key alike k (filter (is_of_none key ks) xs) old ≡ (if is_among ks k then old else newest_in key alike k xs old)
+  newest_left alike k [] old = sym (either old (is_among ks k))
+  newest_left alike k (x ∷ xs) old = on (name_eq k (key x)) refl (is_of_none key ks x) refl (is_among ks k) refl (newest_left alike k xs)
+    where
+      rest : List A
+      rest = filter (is_of_none key ks) xs
 
-    on : (b : Bool) → name_eq k t.key ≡ b → (s : Bool) → is_of_none (λ t. t.key) ks t ≡ s → (g : Bool) → is_among ks k ≡ g → ((us : List Trace) → traces_in k rest us ≡ (if g then us else traces_in k ts us))
-        → traces_in k (cond s (t ∷ rest) rest) old ≡ (if g then old else traces_in k ts (if b then newest t old else old))
-    on true is true stays true among same = let no : true ≡ false = sym stays ∙ keeps (λ t. t.key) ks k t is ∙ ap not among in cc
-    on true is true stays false among same = ap (λ here. traces_in k rest (if here then newest t old else old)) is ∙ same (newest t old)
-    on true is false stays true among same = same old
-    on true is false stays false among same = let no : false ≡ true = sym stays ∙ keeps (λ t. t.key) ks k t is ∙ ap not among in cc
-    on false is true stays g among same = ap (λ here. traces_in k rest (if here then newest t old else old)) is ∙ same old
-    on false is false stays g among same = same old
+      on : (b : Bool) → name_eq k (key x) ≡ b → (s : Bool) → is_of_none key ks x ≡ s → (g : Bool) → is_among ks k ≡ g → ((ys : List A) → newest_in key alike k rest ys ≡ (if g then ys else newest_in key alike k xs ys))
+          → newest_in key alike k (cond s (x ∷ rest) rest) old ≡ (if g then old else newest_in key alike k xs (if b then newest alike x old else old))
+      on true is true stays true among same = let no : true ≡ false = sym stays ∙ keeps k x is ∙ ap not among in cc
+      on true is true stays false among same = ap (λ here. newest_in key alike k rest (if here then newest alike x old else old)) is ∙ same (newest alike x old)
+      on true is false stays true among same = same old
+      on true is false stays false among same = let no : false ≡ true = sym stays ∙ keeps k x is ∙ ap not among in cc
+      on false is true stays g among same = ap (λ here. newest_in key alike k rest (if here then newest alike x old else old)) is ∙ same old
+      on false is false stays g among same = same old
 
 mapped : {A B : Type 0} (f : A → B) (g : Bool) (o : Option A) → option_map f (if g then None else o) ≡ (if g then None else option_map f o)
 mapped f true o = refl
@@ -80,10 +80,10 @@ without_view K L ks seen entries verifying constructive deep chain values =
     (λ k. ap (λ es. first_entry es k) entries ∙ found_left (λ e. e.key) ks k K.entries)
     traces chain (λ d. ap (λ vs. first_value vs d) values)
   where
-    traces : (w : Way) (k : List ℕ) → traces_in k (kept_traces w L) [] ≡ (if is_among ks k then [] else traces_in k (kept_traces w K) [])
-    traces Verifying k = ap (λ ts. traces_in k ts []) verifying ∙ traces_left ks k K.verifying []
-    traces Constructive k = ap (λ ts. traces_in k ts []) constructive ∙ traces_left ks k K.constructive []
-    traces Deep k = ap (λ ts. traces_in k ts []) deep ∙ traces_left ks k K.deep []
+    traces : (w : Way) (k : List ℕ) → traces_in w k (kept_traces w L) [] ≡ (if is_among ks k then [] else traces_in w k (kept_traces w K) [])
+    traces Verifying k = ap (λ ts. traces_in Verifying k ts []) verifying ∙ newest_left (key_by Verifying) ks (eq_by Verifying) k K.verifying []
+    traces Constructive k = ap (λ ts. traces_in Constructive k ts []) constructive ∙ newest_left (key_by Constructive) ks (eq_by Constructive) k K.constructive []
+    traces Deep k = ap (λ ts. traces_in Deep k ts []) deep ∙ newest_left (key_by Deep) ks (eq_by Deep) k K.deep []
 
 -- where nothing is dropped
 pub without_none : (K : SomeKept) → without [] K ≡ K

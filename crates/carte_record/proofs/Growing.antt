@@ -1,12 +1,11 @@
 -- What is kept, after a batch is taken in, and where it isn't.
-use Rattle.std.proofs.Common.{◌≡◌, ℕ, List, [], ◌∷◌, ◌++◌, refl, ap, ◌∙◌, take, length, cond}
+use Rattle.std.proofs.Common.{◌≡◌, ℕ, Bool, List, [], ◌∷◌, ◌++◌, refl, ap, ◌∙◌, take, length, cond}
 use Rattle.std.proofs.Math.Seq.{take-append_seam}
 use Rattle.std.specs.Prelude.{find, option_map, unwrap_or}
 use Rattle.std.specs.Option.{option_or}
 use Rattle.carte_value.specs.declared.digest.Digest.{Digest}
 use Rattle.carte_name.specs.Names.{name_eq}
 use Rattle.carte_record.specs.declared.entry.Entry.{Entry}
-use Rattle.carte_record.specs.declared.trace.Trace.{Trace}
 use Rattle.carte_record.specs.declared.way.Way.{Way}
 use Rattle.carte_record.specs.declared.way.Way.TheVariants.{Verifying, Constructive, Deep}
 use Rattle.carte_record.specs.declared.kept.Kept.{Kept}
@@ -14,8 +13,9 @@ use Rattle.carte_record.specs.declared.batch.Batch.{Batch}
 use Rattle.carte_record.specs.declared.lengths.Lengths.{Lengths}
 use Rattle.carte_table.specs.Lookups.{first_link, link_in, first_value, digest_in, find_last, is_link_of}
 use Rattle.carte_record.specs.Lookups.{first_entry, entry_in, is_entry_of}
+use Rattle.carte_record.specs.Ways.{TraceBy, key_by, eq_by}
 use Rattle.carte_table.specs.Steps.{Begins, IsReady}
-use Rattle.carte_record.specs.Kept.{SomeKept, kept_view, kept_traces, newest, traces_in, staled}
+use Rattle.carte_record.specs.Kept.{SomeKept, kept_view, kept_traces, newest, newest_in, traces_in, staled}
 use Rattle.carte_record.specs.Folds.{is_among, batch_traces}
 use Rattle.carte_record.specs.Growth.{Grows, AreLengthsOf, HasTraces, IsReadyIn, TakesEntries, Settles, put_in}
 use Rattle.carte_table.proofs.Found.{map_or}
@@ -27,14 +27,17 @@ pub kept_same : (K L : SomeKept) → ((k : List ℕ) → K.seen k ≡ L.seen k) 
     → K.chain ≡ L.chain → ((d : Digest) → K.stored d ≡ L.stored d) → K ≡ L
 kept_same K L seen entries traces chain stored i = record { seen = λ k. seen k i; entries = λ k. entries k i; traces = λ w k. traces w k i; chain = chain i; stored = λ d. stored d i }
 
-pub traces_on : (k : List ℕ) (xs ys old : List Trace) → traces_in k (xs ++ ys) old ≡ traces_in k ys (traces_in k xs old)
-traces_on k [] ys old = refl
-traces_on k (x ∷ xs) ys old = traces_on k xs ys (cond (name_eq k x.key) (newest x old) old)
+pub newest_on : {A : Type 0} (key : A → List ℕ) (alike : A → A → Bool) (k : List ℕ) (xs ys old : List A) → newest_in key alike k (xs ++ ys) old ≡ newest_in key alike k ys (newest_in key alike k xs old)
+newest_on key alike k [] ys old = refl
+newest_on key alike k (x ∷ xs) ys old = newest_on key alike k xs ys (cond (name_eq k (key x)) (newest alike x old) old)
 
-pub no_traces : (K : Kept) → K.verifying ≡ [] → K.constructive ≡ [] → K.deep ≡ [] → (w : Way) (k : List ℕ) → traces_in k (kept_traces w K) [] ≡ []
-no_traces K v c d Verifying k = ap (λ ts. traces_in k ts []) v
-no_traces K v c d Constructive k = ap (λ ts. traces_in k ts []) c
-no_traces K v c d Deep k = ap (λ ts. traces_in k ts []) d
+pub traces_on : (w : Way) (k : List ℕ) (xs ys old : List (TraceBy w)) → traces_in w k (xs ++ ys) old ≡ traces_in w k ys (traces_in w k xs old)
+traces_on w = newest_on (key_by w) (eq_by w)
+
+pub no_traces : (K : Kept) → K.verifying ≡ [] → K.constructive ≡ [] → K.deep ≡ [] → (w : Way) (k : List ℕ) → traces_in w k (kept_traces w K) [] ≡ []
+no_traces K v c d Verifying k = ap (λ ts. traces_in Verifying k ts []) v
+no_traces K v c d Constructive k = ap (λ ts. traces_in Constructive k ts []) c
+no_traces K v c d Deep k = ap (λ ts. traces_in Deep k ts []) d
 
 entries_taken : (ks : List (List ℕ)) (es old mid new : List Entry) → IsReady is_entry_of es old mid → TakesEntries ks es mid new → (k : List ℕ) → first_entry new k ≡ option_map (staled (is_among ks k)) (option_or (entry_in es k) (first_entry old k))
 entries_taken ks es old mid new ready (taken, takes, is) k = ap (λ xs. first_entry xs k) is ∙ marked_found taken ks k ∙ ap (option_map (staled (is_among ks k))) (brought (λ e. e.key) es old mid taken ready takes k)
@@ -49,10 +52,10 @@ carried_by B old mid new grows more room settles = kept_same (kept_view new) (pu
     entries : (k : List ℕ) → first_entry new.entries k ≡ option_map (staled (is_among B.stale k)) (option_or (entry_in B.entries k) (first_entry old.entries k))
     entries = entries_taken B.stale B.entries old.entries mid.entries new.entries room.entries settles.entries
 
-    traces : (w : Way) (k : List ℕ) → traces_in k (kept_traces w new) [] ≡ traces_in k (batch_traces w B) (traces_in k (kept_traces w old) [])
-    traces Verifying k = ap (λ ts. traces_in k ts []) (settles.verifying ∙ more.verifying) ∙ traces_on k old.verifying B.verifying []
-    traces Constructive k = ap (λ ts. traces_in k ts []) (settles.constructive ∙ more.constructive) ∙ traces_on k old.constructive B.constructive []
-    traces Deep k = ap (λ ts. traces_in k ts []) (settles.deep ∙ more.deep) ∙ traces_on k old.deep B.deep []
+    traces : (w : Way) (k : List ℕ) → traces_in w k (kept_traces w new) [] ≡ traces_in w k (batch_traces w B) (traces_in w k (kept_traces w old) [])
+    traces Verifying k = ap (λ ts. traces_in Verifying k ts []) (settles.verifying ∙ more.verifying) ∙ traces_on Verifying k old.verifying B.verifying []
+    traces Constructive k = ap (λ ts. traces_in Constructive k ts []) (settles.constructive ∙ more.constructive) ∙ traces_on Constructive k old.constructive B.constructive []
+    traces Deep k = ap (λ ts. traces_in Deep k ts []) (settles.deep ∙ more.deep) ∙ traces_on Deep k old.deep B.deep []
 
     stored : (d : Digest) → first_value new.values d ≡ option_or (first_value old.values d) (first_value B.values d)
     stored d = ap (λ vs. first_value vs d) settles.values ∙ room.values d

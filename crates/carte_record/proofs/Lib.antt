@@ -6,3 +6,4 @@ pub mod Looked
 pub mod Unmarking
 pub mod Links
 pub mod Gone
+pub mod Threes

@@ -14,7 +14,7 @@ use Rattle.carte_record.specs.Lookups.{is_entry_of}
 use Rattle.carte_record.specs.Kept.{kept_view}
 use Rattle.carte_table.proofs.Names.{name_eq_is}
 use Rattle.carte_table.proofs.Found.{or_none}
-pub use Rattle.carte_record.specs.Alike.{digest_eq_is, digest_eq_self, links_eq_is, links_eq_self, trace_eq_is, trace_eq_self}
+pub use Rattle.carte_record.specs.Alike.{digest_eq_is, digest_eq_self, links_eq_is, links_eq_self, trace_eq_is, trace_eq_self, deep_eq_is, deep_eq_self, eq_by_is, eq_by_self}
 
 pub find_passes : {A : Type 0} (p : A → Bool) (xs : List A) (x : A) → find p xs ≡ Some x → p x ≡ true
 find_passes p [] x is = cc

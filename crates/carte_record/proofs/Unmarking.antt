@@ -75,7 +75,7 @@ marked_view K L ks is =
     ap kept_view is
     ∙ kept_same (kept_view (lists_marked K ks)) (with_marks (kept_view K) ks) (λ k. refl) (λ k. marked_found K.entries ks k) (λ w k. traces w k) refl (λ d. refl)
   where
-    traces : (w : Way) (k : List ℕ) → traces_in k (kept_traces w (lists_marked K ks)) [] ≡ traces_in k (kept_traces w K) []
+    traces : (w : Way) (k : List ℕ) → traces_in w k (kept_traces w (lists_marked K ks)) [] ≡ traces_in w k (kept_traces w K) []
     traces Verifying k = refl
     traces Constructive k = refl
     traces Deep k = refl

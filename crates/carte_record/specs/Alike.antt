@@ -5,8 +5,12 @@ use Rattle.carte_value.specs.declared.digest.Digest.{Digest}
 use Rattle.carte_value.specs.declared.link.Link.{Link}
 use Rattle.carte_name.specs.Names.{name_eq}
 use Rattle.carte_record.specs.declared.trace.Trace.{Trace}
+use Rattle.carte_record.specs.declared.deep_trace.DeepTrace.{DeepTrace}
+use Rattle.carte_record.specs.declared.way.Way.{Way}
+use Rattle.carte_record.specs.declared.way.Way.TheVariants.{Verifying, Constructive, Deep}
 use Rattle.carte_table.specs.Lookups.{digest_eq}
-use Rattle.carte_record.specs.Lookups.{links_eq, trace_eq}
+use Rattle.carte_record.specs.Lookups.{links_eq, trace_eq, deep_eq}
+use Rattle.carte_record.specs.Ways.{TraceBy, eq_by}
 use Rattle.carte_table.proofs.Names.{name_eq_is, name_eq_self}
 
 pub digest_eq_is : (c d : Digest) → digest_eq c d ≡ true → c ≡ d
@@ -48,3 +52,27 @@ links_eq_self (l ∷ ls) = rw (name_eq_self l.name, digest_eq_self l.digest, lin
 
 pub trace_eq_self : (t : Trace) → trace_eq t t ≡ true
 trace_eq_self t = rw (name_eq_self t.key, digest_eq_self t.task, digest_eq_self t.result, links_eq_self t.links) refl
+
+pub deep_eq_is : (s t : DeepTrace) → deep_eq s t ≡ true → s ≡ t
+deep_eq_is s t is =
+    let parts = both ((name_eq s.key t.key && digest_eq s.result t.result) && links_eq s.tasks t.tasks) (links_eq s.links t.links) is in
+    let two = both (name_eq s.key t.key && digest_eq s.result t.result) (links_eq s.tasks t.tasks) parts.0 in
+    let one = both (name_eq s.key t.key) (digest_eq s.result t.result) two.0 in
+    join (name_eq_is s.key t.key one.0) (links_eq_is s.tasks t.tasks two.1) (digest_eq_is s.result t.result one.1) (links_eq_is s.links t.links parts.1)
+  where
+    join : s.key ≡ t.key → s.tasks ≡ t.tasks → s.result ≡ t.result → s.links ≡ t.links → s ≡ t
+    join keys tasks results links i = record { key = keys i; tasks = tasks i; links = links i; result = results i }
+
+pub deep_eq_self : (t : DeepTrace) → deep_eq t t ≡ true
+deep_eq_self t = rw (name_eq_self t.key, digest_eq_self t.result, links_eq_self t.tasks, links_eq_self t.links) refl
+
+-- and so it is for each kind
+pub eq_by_is : (w : Way) (s t : TraceBy w) → eq_by w s t ≡ true → s ≡ t
+eq_by_is Verifying = trace_eq_is
+eq_by_is Constructive = trace_eq_is
+eq_by_is Deep = deep_eq_is
+
+pub eq_by_self : (w : Way) (t : TraceBy w) → eq_by w t t ≡ true
+eq_by_self Verifying = trace_eq_self
+eq_by_self Constructive = trace_eq_self
+eq_by_self Deep = deep_eq_self

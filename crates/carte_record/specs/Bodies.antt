@@ -8,6 +8,7 @@ use Rattle.carte_record.specs.declared.start.Start.{Start}
 use Rattle.carte_record.specs.declared.start.Start.TheVariants.{GoOn, Cleared}
 use Rattle.carte_record.specs.declared.entry.Entry.{Entry}
 use Rattle.carte_record.specs.declared.trace.Trace.{Trace}
+use Rattle.carte_record.specs.declared.deep_trace.DeepTrace.{DeepTrace}
 use Rattle.carte_record.specs.declared.batch.Batch.{Batch}
 
 abbrev pub spelled_names : List (List ℕ) → List ℕ
@@ -16,12 +17,12 @@ spelled_names = spelled_list spelled_name
 abbrev pub FitsNames : List (List ℕ) → Type 0
 FitsNames = FitsList FitsName
 
--- the kind of a body that is a batch of version 2
+-- the kind of a body that is a batch of version 2 whose deep traces name rules
 abbrev pub the_kind : Kind
 the_kind = record {}
 
 abbrev pub spelled_kind : Kind → List ℕ
-spelled_kind k = 3 ∷ []
+spelled_kind k = 4 ∷ []
 
 abbrev pub spelled_start : Start → List ℕ
 spelled_start GoOn = 0 ∷ []
@@ -49,6 +50,13 @@ spelled_trace t = spelled_name t.key ++ (spelled_digest t.task ++ (spelled_list 
 abbrev pub FitsTrace : Trace → Type 0
 FitsTrace t = FitsName t.key × FitsDigest t.task × FitsList FitsLink t.links × FitsDigest t.result
 
+-- the key, the rules beneath it with the digests of their tasks, its links, and the digest of the result
+abbrev pub spelled_deep : DeepTrace → List ℕ
+spelled_deep t = spelled_name t.key ++ (spelled_list spelled_link t.tasks ++ (spelled_list spelled_link t.links ++ spelled_digest t.result))
+
+abbrev pub FitsDeep : DeepTrace → Type 0
+FitsDeep t = FitsName t.key × FitsList FitsLink t.tasks × FitsList FitsLink t.links × FitsDigest t.result
+
 -- what a batch begins with, the values, the names that are dropped, the names seen, the entries, and the keys that are stale
 abbrev pub spelled_front : Batch → List ℕ
 spelled_front b = spelled_start b.start ++ (spelled_list spelling b.values ++ (spelled_names b.gone ++ (spelled_list spelled_link b.seen ++ (spelled_list spelled_entry b.entries ++ spelled_names b.stale))))
@@ -58,14 +66,14 @@ FitsFront b = FitsStart b.start × (FitsList IsValue b.values × (FitsNames b.go
 
 -- the traces of the three kinds, and the chain
 abbrev pub spelled_back : Batch → List ℕ
-spelled_back b = spelled_list spelled_trace b.verifying ++ (spelled_list spelled_trace b.constructive ++ (spelled_list spelled_trace b.deep ++ spelled_option spelled_names b.chain))
+spelled_back b = spelled_list spelled_trace b.verifying ++ (spelled_list spelled_trace b.constructive ++ (spelled_list spelled_deep b.deep ++ spelled_option spelled_names b.chain))
 
 abbrev pub FitsBack : Batch → Type 0
-FitsBack b = FitsList FitsTrace b.verifying × (FitsList FitsTrace b.constructive × (FitsList FitsTrace b.deep × FitsOption FitsNames b.chain))
+FitsBack b = FitsList FitsTrace b.verifying × (FitsList FitsTrace b.constructive × (FitsList FitsDeep b.deep × FitsOption FitsNames b.chain))
 
--- 3 for the kind, and the ten parts
+-- 4 for the kind, and the ten parts
 abbrev pub spelled_batch : Batch → List ℕ
-spelled_batch b = 3 ∷ (spelled_front b ++ spelled_back b)
+spelled_batch b = 4 ∷ (spelled_front b ++ spelled_back b)
 
 -- what holds of each batch whose entries aren't stale: its names are names, its texts and its lists aren't too long
 abbrev pub FitsBatch : Batch → Type 0

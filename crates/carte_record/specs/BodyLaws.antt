@@ -12,8 +12,9 @@ use Rattle.carte_record.specs.declared.start.Start.{Start}
 use Rattle.carte_record.specs.declared.start.Start.TheVariants.{GoOn, Cleared}
 use Rattle.carte_record.specs.declared.entry.Entry.{Entry}
 use Rattle.carte_record.specs.declared.trace.Trace.{Trace}
+use Rattle.carte_record.specs.declared.deep_trace.DeepTrace.{DeepTrace}
 use Rattle.carte_record.specs.declared.batch.Batch.{Batch}
-use Rattle.carte_record.specs.Bodies.{spelled_names, FitsNames, spelled_start, FitsStart, spelled_entry, FitsEntry, spelled_trace, FitsTrace, spelled_kind, the_kind, spelled_batch, FitsBatch, OneBody}
+use Rattle.carte_record.specs.Bodies.{spelled_names, FitsNames, spelled_start, FitsStart, spelled_entry, FitsEntry, spelled_trace, FitsTrace, spelled_deep, FitsDeep, spelled_kind, the_kind, spelled_batch, FitsBatch, OneBody}
 
 starts_same : (v w : Start) (r s : List ℕ) → FitsStart v → FitsStart w → spelled_start v ++ r ≡ spelled_start w ++ s → (v ≡ w) × (r ≡ s)
 starts_same GoOn GoOn r s is is' same = (refl, cc)
@@ -50,6 +51,18 @@ trace_of p = record { key = p.0; task = p.1.0; links = p.1.1.0; result = p.1.1.1
 pub trace_one : OneSpelling spelled_trace FitsTrace
 trace_one = as_one trace_parts trace_of FitsTrace (λ t fit. ((fit.0, (fit.1, (fit.2, fit.3))), refl)) (pair_one name_one (pair_one digest_one (pair_one (list_one link_one) digest_one)))
 
+abbrev pub DeepParts : Type 0
+DeepParts = List ℕ × (List Link × (List Link × Digest))
+
+abbrev pub deep_parts : DeepTrace → DeepParts
+deep_parts t = (t.key, (t.tasks, (t.links, t.result)))
+
+abbrev pub deep_of : DeepParts → DeepTrace
+deep_of p = record { key = p.0; tasks = p.1.0; links = p.1.1.0; result = p.1.1.1 }
+
+pub deep_one : OneSpelling spelled_deep FitsDeep
+deep_one = as_one deep_parts deep_of FitsDeep (λ t fit. ((fit.0, (fit.1, (fit.2, fit.3))), refl)) (pair_one name_one (pair_one (list_one link_one) (pair_one (list_one link_one) digest_one)))
+
 -- the kind of a body has one spelling, and no value
 pub kind_one : OneSpelling spelled_kind (λ k. Unit {0})
 kind_one = record { one = λ j k r s is is' same. (refl, cc) }
@@ -64,13 +77,13 @@ pub front_one : OneSpelling (spelled_pair spelled_start (spelled_pair (spelled_l
 front_one = pair_one start_one (pair_one (list_one value_one) (pair_one names_one (pair_one (list_one link_one) (pair_one (list_one entry_one) names_one))))
 
 abbrev pub Back : Type 0
-Back = List Trace × (List Trace × (List Trace × Option (List (List ℕ))))
+Back = List Trace × (List Trace × (List DeepTrace × Option (List (List ℕ))))
 
 abbrev pub back_of : Batch → Back
 back_of b = (b.verifying, (b.constructive, (b.deep, b.chain)))
 
-pub back_one : OneSpelling (spelled_pair (spelled_list spelled_trace) (spelled_pair (spelled_list spelled_trace) (spelled_pair (spelled_list spelled_trace) (spelled_option spelled_names)))) (FitsPair (FitsList FitsTrace) (FitsPair (FitsList FitsTrace) (FitsPair (FitsList FitsTrace) (FitsOption FitsNames))))
-back_one = pair_one (list_one trace_one) (pair_one (list_one trace_one) (pair_one (list_one trace_one) (option_one names_one)))
+pub back_one : OneSpelling (spelled_pair (spelled_list spelled_trace) (spelled_pair (spelled_list spelled_trace) (spelled_pair (spelled_list spelled_deep) (spelled_option spelled_names)))) (FitsPair (FitsList FitsTrace) (FitsPair (FitsList FitsTrace) (FitsPair (FitsList FitsDeep) (FitsOption FitsNames))))
+back_one = pair_one (list_one trace_one) (pair_one (list_one trace_one) (pair_one (list_one deep_one) (option_one names_one)))
 
 abbrev pub BatchParts : Type 0
 BatchParts = Kind × (Front × Back)

@@ -2,7 +2,6 @@
 use Rattle.std.specs.Prelude.{ℕ, Bool, ◌||◌, List, [], ◌∷◌, None, option_map, unwrap_or, false, if◌then◌else◌}
 use Rattle.std.specs.Option.{option_or}
 use Rattle.carte_name.specs.Names.{name_eq}
-use Rattle.carte_record.specs.declared.trace.Trace.{Trace}
 use Rattle.carte_record.specs.declared.way.Way.{Way}
 use Rattle.carte_record.specs.declared.way.Way.TheVariants.{Verifying, Constructive, Deep}
 use Rattle.carte_record.specs.declared.start.Start.{Start}
@@ -10,13 +9,14 @@ use Rattle.carte_record.specs.declared.start.Start.TheVariants.{GoOn, Cleared}
 use Rattle.carte_record.specs.declared.batch.Batch.{Batch}
 use Rattle.carte_table.specs.Lookups.{link_in, first_value}
 use Rattle.carte_record.specs.Lookups.{entry_in}
+use Rattle.carte_record.specs.Ways.{TraceBy}
 use Rattle.carte_record.specs.Kept.{SomeKept, nothing_kept, traces_in, staled}
 
 abbrev pub is_among : List (List ℕ) → List ℕ → Bool
 is_among [] k = false
 is_among (j ∷ js) k = name_eq j k || is_among js k
 
-abbrev pub batch_traces : Way → Batch → List Trace
+abbrev pub batch_traces : (w : Way) → Batch → List (TraceBy w)
 batch_traces Verifying B = B.verifying
 batch_traces Constructive B = B.constructive
 batch_traces Deep B = B.deep
@@ -43,7 +43,7 @@ abbrev pub carried : Batch → SomeKept → SomeKept
 carried B K = record {
   seen = λ k. option_or (link_in B.seen k) ((without B.gone K).seen k);
   entries = λ k. option_map (staled (is_among B.stale k)) (option_or (entry_in B.entries k) ((without B.gone K).entries k));
-  traces = λ w k. traces_in k (batch_traces w B) ((without B.gone K).traces w k);
+  traces = λ w k. traces_in w k (batch_traces w B) ((without B.gone K).traces w k);
   chain = unwrap_or B.chain K.chain;
   stored = λ d. option_or (K.stored d) (first_value B.values d);
 }

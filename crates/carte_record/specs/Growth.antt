@@ -6,6 +6,7 @@ use Rattle.carte_value.specs.declared.link.Link.{Link}
 use Rattle.carte_value.specs.declared.value.Value.{Value}
 use Rattle.carte_record.specs.declared.entry.Entry.{Entry}
 use Rattle.carte_record.specs.declared.trace.Trace.{Trace}
+use Rattle.carte_record.specs.declared.deep_trace.DeepTrace.{DeepTrace}
 use Rattle.carte_record.specs.declared.kept.Kept.{Kept}
 use Rattle.carte_record.specs.declared.lengths.Lengths.{Lengths}
 use Rattle.carte_record.specs.declared.batch.Batch.{Batch}
@@ -36,7 +37,7 @@ pub record AreLengthsOf (K : Kept) (n : Lengths) : Type 0 where
   pub values : n.values ≡ length K.values
 
 -- with traces behind the others
-pub record HasTraces (vs cs ds : List Trace) (old new : Kept) : Type 0 where
+pub record HasTraces (vs cs : List Trace) (ds : List DeepTrace) (old new : Kept) : Type 0 where
   pub verifying : new.verifying ≡ old.verifying ++ vs
   pub constructive : new.constructive ≡ old.constructive ++ cs
   pub deep : new.deep ≡ old.deep ++ ds
@@ -66,7 +67,7 @@ abbrev pub put_in : Batch → SomeKept → SomeKept
 put_in B K = record {
   seen = λ k. option_or (link_in B.seen k) (K.seen k);
   entries = λ k. option_map (staled (is_among B.stale k)) (option_or (entry_in B.entries k) (K.entries k));
-  traces = λ w k. traces_in k (batch_traces w B) (K.traces w k);
+  traces = λ w k. traces_in w k (batch_traces w B) (K.traces w k);
   chain = unwrap_or B.chain K.chain;
   stored = λ d. option_or (K.stored d) (first_value B.values d);
 }

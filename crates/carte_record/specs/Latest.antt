@@ -1,14 +1,9 @@
 -- Of equal traces the last.
-use Rattle.std.specs.Prelude.{ℕ, List}
+use Rattle.std.specs.Prelude.{List}
 use Rattle.carte_table.specs.Latest as latest
-use Rattle.carte_record.specs.declared.trace.Trace.{Trace}
-use Rattle.carte_record.specs.Bodies.{spelled_trace}
-use Rattle.carte_record.specs.Lookups.{trace_eq}
+use Rattle.carte_record.specs.declared.way.Way.{Way}
+use Rattle.carte_record.specs.Ways.{TraceBy, eq_by}
 
 -- those behind which no equal one comes, in their order
-abbrev pub last_ones : List Trace → List Trace
-last_ones = latest.last_ones trace_eq
-
--- in how many bytes these are spelled
-abbrev pub latest_length : List Trace → ℕ
-latest_length = latest.latest_length trace_eq spelled_trace
+abbrev pub last_ones : (w : Way) → List (TraceBy w) → List (TraceBy w)
+last_ones w = latest.last_ones (eq_by w)

@@ -1,8 +1,11 @@
 pub mod Lookups
+pub mod Ways
 pub mod Kept
 pub mod Folds
 pub mod Bodies
 pub mod BodyLaws
+pub mod Three
+pub mod ThreeLaws
 pub mod Empty
 pub mod Growth
 pub mod Marked

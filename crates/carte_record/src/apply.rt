@@ -5,7 +5,7 @@ ghost use Rattle.carte_record.specs.Folds.{apply, started, without};
 ghost use Rattle.carte_record.specs.Growth.{Grows, HasTraces, IsReadyIn, Settles, AreLengthsOf, put_in};
 
 use crate::lengths::Lengths;
-use crate::{Batch, Entries, Kept, Seen, Start, Store, Traces};
+use crate::{Batch, DeepTraces, Entries, Kept, Seen, Start, Store, Traces};
 use carte_value::{Names, NoMemory};
 
 impl Kept {
@@ -91,7 +91,7 @@ impl Kept {
         values: Store,
         verifying: Traces,
         constructive: Traces,
-        deep: Traces,
+        deep: DeepTraces,
         seen: &Seen,
         entries: &Entries,
     ) -> Result<(), NoMemory>
@@ -109,7 +109,7 @@ impl Kept {
         &mut self,
         verifying: Traces,
         constructive: Traces,
-        deep: Traces,
+        deep: DeepTraces,
     ) -> Result<(), NoMemory>
         ensures front { Grows self.old self.new }
         ensures traces { OnOk result (HasTraces verifying constructive deep self.old self.new) }

@@ -1,7 +1,7 @@
 ghost use Rattle.std.specs.Prelude.{◌≡◌, IfOk, true};
 ghost use Rattle.carte_record.specs.Empty.{is_empty, brings_no_key, brings_no_trace, drops_nothing};
 
-use crate::{Entries, Seen, Start, Store, Traces};
+use crate::{DeepTraces, Entries, Seen, Start, Store, Traces};
 use carte_value::{Names, NoMemory, Seeded};
 use std::alloc::Global;
 
@@ -18,7 +18,7 @@ pub struct Batch {
     pub stale: Names,
     pub verifying: Traces,
     pub constructive: Traces,
-    pub deep: Traces,
+    pub deep: DeepTraces,
     pub chain: Option<Names>,
 }
 
@@ -36,7 +36,7 @@ impl Batch {
             stale: Names::new(alloc),
             verifying: Traces::new(alloc, hasher),
             constructive: Traces::new(alloc, hasher),
-            deep: Traces::new(alloc, hasher),
+            deep: DeepTraces::new(alloc, hasher),
             chain: None,
         }
     }

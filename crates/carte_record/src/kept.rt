@@ -1,10 +1,10 @@
 ghost use Rattle.std.specs.Prelude.{◌≡◌, IfOk};
-ghost use Rattle.carte_record.specs.Kept.{kept_view, kept_traces, nothing_kept};
+ghost use Rattle.carte_record.specs.Kept.{kept_view, nothing_kept};
 ghost use Rattle.carte_record.specs.Folds.{with_marks, without};
 ghost use Rattle.carte_record.specs.Marked.{CanBeMarked, lists_marked};
 ghost use Rattle.carte_record.specs.declared.kept.Kept.{Kept as SomeLists};
 
-use crate::{Entries, Seen, Store, Traces, Way};
+use crate::{DeepTraces, Entries, Seen, Store, Traces};
 use carte_table::{NameTable, name_table};
 use carte_value::{Names, NoMemory, Seeded};
 use std::alloc::Global;
@@ -16,7 +16,7 @@ pub struct Kept {
     pub entries: Entries,
     pub verifying: Traces,
     pub constructive: Traces,
-    pub deep: Traces,
+    pub deep: DeepTraces,
     pub chain: Names,
     pub values: Store,
 }
@@ -31,7 +31,7 @@ impl Kept {
             entries: Entries::new(alloc, hasher),
             verifying: Traces::new(alloc, hasher),
             constructive: Traces::new(alloc, hasher),
-            deep: Traces::new(alloc, hasher),
+            deep: DeepTraces::new(alloc, hasher),
             chain: Names::new(alloc),
             values: Store::new(alloc, hasher),
         }
@@ -40,17 +40,6 @@ impl Kept {
     /// What its tables are made with, and those of a batch for it can be.
     pub fn hasher(&self) -> Seeded {
         self.seen.hasher()
-    }
-
-    /// The traces of one kind.
-    pub fn traces(&self, way: Way) -> &Traces
-        ensures { result.now ≡ kept_traces way self.now }
-    {
-        match way {
-            Way::Verifying => &self.verifying,
-            Way::Constructive => &self.constructive,
-            Way::Deep => &self.deep,
-        }
     }
 
     /// Marks the entries of these keys stale, where they stand. It takes no memory.

@@ -3,8 +3,10 @@
 //! `Kept` and `Batch` are plain data: the links, entries, traces and values of a state file. Contracts read them through
 //! `kept_view`, a record of functions (what each name was seen with, the entry of each key, its traces newest first and
 //! each once, the first value of each digest), so that two of them that are alike are equal, and a batch is a function
-//! on it. Links and values stand in the lists of `carte_table`, and `Entries` and `Traces` are made as those are, with a
-//! table from keys to places beside them: of entries the first place of each key, of traces all.
+//! on it. They stand in the lists of `carte_table`, each with a table from keys to places beside it: of entries the first
+//! place of each key, of traces all. A deep trace names the rules beneath its key with their tasks, so it has a type of
+//! its own; contracts speak of the traces of one kind by `TraceBy`. Turned down: one type for all traces, in which those
+//! of two kinds hold a list of one task.
 //!
 //! A batch is taken in by two steps. First each list grows behind what it has: values and traces are put there, and an
 //! entry for each key that has none. This can fail, and is undone by cutting the lists. Then entries are replaced and
@@ -21,6 +23,7 @@
 mod apply;
 mod batch;
 mod codec;
+mod deep_trace;
 mod entries;
 mod entry;
 mod kept;
@@ -30,17 +33,16 @@ mod lengths;
 mod measured;
 mod start;
 mod trace;
-mod traces;
 mod way;
 
 pub use batch::Batch;
 pub use carte_table::{Seen, Store};
-pub use codec::one_body;
+pub use codec::{one_body, one_body_three};
+pub use deep_trace::{DeepTrace, DeepTraces};
 pub use entries::Entries;
 pub use entry::Entry;
 pub use kept::Kept;
 pub use laws::empty_changes_nothing;
 pub use start::Start;
-pub use trace::Trace;
-pub use traces::Traces;
+pub use trace::{Trace, Traces};
 pub use way::Way;

@@ -1,9 +1,9 @@
 //! Lengths of the spellings of what is kept, without writing them.
 ghost use Rattle.std.specs.Prelude.{◌≡◌, length, IfSome};
 ghost use Rattle.carte_codec.specs.Parts.{spelled_option};
-ghost use Rattle.carte_record.specs.Bodies.{spelled_back, spelled_batch, spelled_entry, spelled_front, spelled_names, spelled_start, spelled_trace};
+ghost use Rattle.carte_record.specs.Bodies.{spelled_back, spelled_batch, spelled_deep, spelled_entry, spelled_front, spelled_names, spelled_start, spelled_trace};
 
-use crate::{Batch, Entry, Start, Trace};
+use crate::{Batch, DeepTrace, Entry, Start, Trace};
 use carte_codec::{Measured, list_length};
 use carte_value::Names;
 
@@ -35,6 +35,18 @@ impl Measured for Trace {
         self.key
             .length()?
             .checked_add(self.task.length()?)?
+            .checked_add(list_length(self.links.as_slice())?)?
+            .checked_add(self.result.length()?)
+    }
+}
+
+impl Measured for DeepTrace {
+    ghost spelled = { spelled_deep };
+
+    fn length(&self) -> Option<u64> {
+        self.key
+            .length()?
+            .checked_add(list_length(self.tasks.as_slice())?)?
             .checked_add(list_length(self.links.as_slice())?)?
             .checked_add(self.result.length()?)
     }

@@ -1,11 +1,12 @@
 ghost use Rattle.std.specs.Prelude.{◌≡◌, IfOk};
 ghost use Rattle.carte_record.specs.Lookups.{links_eq, trace_eq};
 
+use carte_table::All;
 use carte_value::{Digest, Link, Name, NoMemory, Same, SharedLinks};
 use std::alloc::Global;
 
-/// A run of a key: the digest of the task that it ran, of a deep one that of all rules; the digests that its links had,
-/// and that of its result. Checks of it, and what they make, share the links.
+/// A run of a key: the digest of the task that it ran, the digests that its links had, and that of its result. Checks of
+/// it, and what they make, share the links.
 #[derive(Debug, Drop)]
 pub struct Trace {
     pub key: Name,
@@ -13,6 +14,9 @@ pub struct Trace {
     pub links: SharedLinks,
     pub result: Digest,
 }
+
+/// A list of at most 2^32 - 1 traces, seen as these traces, in which the traces of a key are looked up at once.
+pub type Traces = All<Trace>;
 
 impl Same for Trace {
     fn same(&self, alloc: Global) -> Result<Trace, NoMemory> {
@@ -37,7 +41,7 @@ impl Trace {
     }
 }
 
-fn are_equal(links: &[Link], others: &[Link]) -> bool
+pub(crate) fn are_equal(links: &[Link], others: &[Link]) -> bool
     ensures { result ≡ links_eq links.now others.now }
 {
     if links.len() != others.len() {

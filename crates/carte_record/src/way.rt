@@ -5,6 +5,6 @@ pub enum Way {
     Verifying,
     /// Links of a key's needs; the result is taken from the store.
     Constructive,
-    /// Links of the inputs beneath a key; the result is taken from the store.
+    /// The rules beneath a key with their tasks, and links of the inputs beneath it; the result is taken from the store.
     Deep,
 }

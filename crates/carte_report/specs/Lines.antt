@@ -15,7 +15,7 @@ use Rattle.carte_report.specs.Texts.{path_text, reason_text}
 abbrev pub set_fault_text : List ℕ → SetFault → List ℕ
 set_fault_text k NotInput = k ++ codes " is a rule"
 set_fault_text k NoSuchName = k ++ codes " is unknown"
-set_fault_text k Limit = codes "more than 65536 keys"
+set_fault_text k Limit = codes "more than 262144 keys"
 set_fault_text k NoMemory = codes "out of memory"
 
 abbrev pub set_line : List ℕ → List ℕ

@@ -30,7 +30,7 @@ fn set_fault_text(alloc: Global, name: &Name, fault: SetFault) -> Result<String,
     match fault {
         SetFault::NotInput => after(alloc, name.text(), " is a rule"),
         SetFault::NoSuchName => after(alloc, name.text(), " is unknown"),
-        SetFault::Limit => plain(alloc, "more than 65536 keys"),
+        SetFault::Limit => plain(alloc, "more than 262144 keys"),
         SetFault::NoMemory => plain(alloc, "out of memory"),
     }
 }

@@ -91,7 +91,7 @@ fine_rules (member k d ms) m o (r, is, h) = then r (λ e. RulesInto ms (insert m
 
 -- the book
 fine_book : (m : Content) → Fine (book_of m)
-fine_book m = either (nat_lt 65536 (length (entries m))) _ _ tt tt
+fine_book m = either (nat_lt 262144 (length (entries m))) _ _ tt tt
 
 fine_with : (ms : Members) (m : Content) (o : Result Book BookFault) → WithRules ms m o → Fine o
 fine_with ms m o (r, h, is) = subst Fine (sym is) (bound r book_of (fine_rules ms m r h) fine_book)

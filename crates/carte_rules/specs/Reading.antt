@@ -68,7 +68,7 @@ abbrev pub RulesInto : Members → Content → Result Content BookFault → Type
 RulesInto no_members m o = o ≡ Ok m
 RulesInto (member k d ms) m o = (r : Result Tree BookFault) × RuleAt k d m r × Then r (λ e. RulesInto ms (insert m k (rule e))) o
 
--- at most 65,536 keys
+-- at most 262,144 keys
 abbrev pub book_of : Content → Result Book BookFault
 book_of m = drafts.book_of Rules m
 

@@ -26,7 +26,7 @@ use toml::Table;
 const MOST_BYTES: usize = 16_777_216;
 
 /// Reads a rule file: a TOML document of at most 16,777,216 bytes, whose top keys are at most the tables `inputs`,
-/// of names with integers and texts, and `rules`, of names with formulas, with at most 65,536 keys in all.
+/// of names with integers and texts, and `rules`, of names with formulas, with at most 262,144 keys in all.
 ///
 /// The fault is the first of these: `Limit` of bytes; `NotToml`; `BadTable` of the first other top key in byte order,
 /// or that is no table; for each input in byte order `BadName`, then `BadValue` of what is neither an integer nor a

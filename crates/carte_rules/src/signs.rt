@@ -1,9 +1,9 @@
 // How much structure a document has, told before its tree is made.
 
 /// The signs outside of texts and comments that make a part of a document's tree: each takes some hundred bytes of memory
-/// there. A book of 65,536 keys has 65,536 `=`, as many `.` or `,` where its keys are dotted or stand in tables on one line,
-/// and two tables.
-const MOST_SIGNS: usize = 262_144;
+/// there. A book of 262,144 keys has 262,144 `=`, as many `.` or `,` where its keys are dotted or stand in tables on one
+/// line, and two tables.
+const MOST_SIGNS: usize = 1_048_576;
 
 /// Where the next byte stands, with the quote that the text began with.
 #[derive(Drop)]

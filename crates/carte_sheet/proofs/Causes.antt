@@ -80,7 +80,7 @@ bound (Ok a) f h g = g a
 bound (Err fault) f h g = h
 
 fine_book : (m : Content) → Fine (book_of m)
-fine_book m = either (nat_lt 65536 (length (entries m))) _ _ tt tt
+fine_book m = either (nat_lt 262144 (length (entries m))) _ _ tt tt
 
 fine_in : (rows : List (List (List ℕ))) (o : Result Book BookFault) → InRows rows o → Fine o
 fine_in rows o (r, h, is) = subst Fine (sym is) (bound r book_of (fine_rows 1 rows empty r h) fine_book)

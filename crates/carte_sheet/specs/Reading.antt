@@ -103,7 +103,7 @@ abbrev pub RowsInto : ℕ → List (List (List ℕ)) → Content → Result Cont
 RowsInto r [] m o = o ≡ Ok m
 RowsInto r (fs ∷ rows) m o = (x : Result Content BookFault) × RowInto r fs m x × Then x (RowsInto (r + 1) rows) o
 
--- at most 65,536 keys
+-- at most 262,144 keys
 abbrev pub book_of : Content → Result Book BookFault
 book_of m = drafts.book_of Sheet m
 

@@ -8,7 +8,7 @@ use std::alloc::Global;
 
 const MOST_BYTES: usize = 16_777_216;
 
-/// Reads a sheet: a CSV text of at most 16,777,216 bytes, with at most 65,536 fields that aren't empty, in the first
+/// Reads a sheet: a CSV text of at most 16,777,216 bytes, with at most 262,144 fields that aren't empty, in the first
 /// 9,999 records and the first 702 fields of each. A byte order mark in front is passed over.
 ///
 /// The field number c of record number r, counted from 1, stands in the cell of column c and row r. One that begins

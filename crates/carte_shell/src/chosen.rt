@@ -79,16 +79,6 @@ pub(crate) fn preview(
     }
 }
 
-/// Whether the rebuilder compares the digest of all rules.
-pub(crate) fn compares_rules(rebuilder: Rebuilder4) -> bool {
-    match rebuilder {
-        Rebuilder4::Dirty => false,
-        Rebuilder4::Verifying => false,
-        Rebuilder4::Constructive => false,
-        Rebuilder4::Deep => true,
-    }
-}
-
 pub(crate) fn kind_of(rebuilder: Rebuilder4) -> RebuilderKind
     ensures { how_of_kind result ≡ how_of rebuilder }
 {

@@ -12,8 +12,8 @@
 //! lines that build or explain, whatever end comes and wherever a crash cuts it off.
 //!
 //! A line costs what it does: none reads the book or the state again. The digest of all rules, which no line changes, is
-//! worked out at the first line that needs it and known to the book from then on: deep traces need it, and a state of version
-//! 1, which the first line that builds makes version 2 of. An explanation over such a state makes what it asks about anew.
+//! worked out at the first line that needs it and known to the book from then on: a state of version 1 needs it, which the
+//! first line that builds makes version 2 of. An explanation over such a state makes what it asks about anew.
 //!
 //! Turned down: a shell that holds its disk, since the disk's last value would have to be taken back out of it; and
 //! relations over shell and disk themselves, since each theorem above would speak of one type of disk.

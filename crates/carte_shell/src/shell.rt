@@ -5,7 +5,7 @@ ghost use Rattle.carte_state.specs.States.{any_in};
 ghost use Rattle.carte_engine.specs.Clearing.{clearing};
 ghost use Rattle.carte_words.specs.declared.line.Line.TheVariants.{Build as build_line, Clean as clean_line};
 
-use crate::chosen::{compares_rules, plan};
+use crate::chosen::plan;
 use crate::inputs::set_input;
 use crate::stops::{build_reply, stopped};
 use crate::why::explanation;
@@ -114,14 +114,13 @@ impl Shell {
         }
     }
 
-    // The digest of all rules is worked out once, and no input changes it. It is wanted for deep traces, and to read what is
-    // kept in version 1.
+    // The digest of all rules is worked out once, and no input changes it. It is wanted to read what is kept in version 1.
     fn know_digest(&mut self, alloc: Global) -> Result<(), NoMemory>
         ensures choices { self.new.choices ≡ self.old.choices }
         ensures book { book_view self.new.book ≡ book_view self.old.book }
         ensures engine { self.new.engine ≡ self.old.engine }
     {
-        if compares_rules(self.choices.rebuilder) || self.engine.is_old() {
+        if self.engine.is_old() {
             self.book.know_digest(alloc)?;
         }
         Ok(())

@@ -5,11 +5,11 @@ use Rattle.carte_value.specs.Spelling.{digest_of}
 use Rattle.carte_book.specs.Book.{Book, clean}
 use Rattle.carte_book.specs.Edits.{IsInput}
 use Rattle.carte_record.specs.declared.entry.Entry.{Entry}
-use Rattle.carte_record.specs.declared.trace.Trace.{Trace}
+use Rattle.carte_record.specs.Ways.{TraceBy, result_by}
 use Rattle.carte_record.specs.declared.way.Way.{Way}
 use Rattle.carte_record.specs.Kept.{SomeKept, is_fresh, put_at}
 use Rattle.carte_value.specs.Lists.{Has}
-use Rattle.carte_sound.specs.True.{digest_or, IsTraceOf, IsEntryOf}
+use Rattle.carte_sound.specs.True.{digest_or, trace_of, IsTraceOf, IsEntryOf}
 use Rattle.carte_sound.specs.Sound.{IsStored, IsEntryOfSome, IsTraceOfSome, IsSound}
 use Rattle.carte_sound.specs.Base.{IsBase}
 use Rattle.carte_sound.specs.Held.{How}
@@ -19,6 +19,7 @@ use Rattle.carte_sound.proofs.Begun.{present_input, not_both}
 use Rattle.carte_sound.proofs.Entries.{Leaves, full, old, shallow, leaves}
 use Rattle.carte_sound.proofs.Written.{seen_back, stored_grows, stored_ran, stored_back, traces_back}
 use Rattle.carte_sound.proofs.NowFresh.{now_fresh}
+use Rattle.carte_sound.proofs.Traces.{trace_result}
 use Rattle.carte_sound.proofs.AddedNow.{now_entry, IsNext, leaves_entry, added_now, added_rule}
 
 module _ (h : How) (b : Book) (H : List Book) (K : SomeKept) (k : List ℕ) (ran : Bool) (p : IsNext h b H K k ran) where
@@ -34,6 +35,9 @@ module _ (h : How) (b : Book) (H : List Book) (K : SomeKept) (k : List ℕ) (ran
     | inl yes_ran ↦ stored_ran h b K k ran p.value p.clean yes_ran
     | inr before ↦ (before.0, stored_grows h b K k ran (digest_of p.value) before.0 before.1)
   ])
+
+  result_stored : (w : Way) → IsStored (add h b K k ran) (result_by w (trace_of w b k))
+  result_stored w = subst (IsStored (add h b K k ran)) (sym (trace_result w b k)) value_stored
 
   stored_on : (d : Digest) → IsStored K d → IsStored (add h b K k ran) d
   stored_on d before = (before.0, stored_grows h b K k ran d before.0 before.1)
@@ -62,7 +66,7 @@ module _ (h : How) (b : Book) (H : List Book) (K : SomeKept) (k : List ℕ) (ran
     ] refl
   ]
 
-  trace_sound : (w : Way) (q : List ℕ) (t : Trace) → Has ((add h b K k ran).traces w q) t → IsTraceOfSome (add h b K k ran) H w q t
+  trace_sound : (w : Way) (q : List ℕ) (t : TraceBy w) → Has ((add h b K k ran).traces w q) t → IsTraceOfSome (add h b K k ran) H w q t
   trace_sound w q t there = elim (traces_back h b K k ran w q t there) [
     | inl before ↦
         let s = p.base.sound.traces w q t before in
@@ -97,8 +101,8 @@ module _ (h : How) (b : Book) (H : List Book) (K : SomeKept) (k : List ℕ) (ran
       | inr before ↦ stored_on e.result (p.base.sound.entry_stored q e before.1)
     ];
     trace_stored = λ w q t there. elim (traces_back h b K k ran w q t there) [
-      | inl before ↦ stored_on t.result (p.base.sound.trace_stored w q t before)
-      | inr new ↦ subst (λ (x : Trace). IsStored (add h b K k ran) x.result) (sym new.1) value_stored
+      | inl before ↦ stored_on (result_by w t) (p.base.sound.trace_stored w q t before)
+      | inr new ↦ subst (λ (x : TraceBy w). IsStored (add h b K k ran) (result_by w x)) (sym new.1) (result_stored w)
     ];
     chain = p.base.sound.chain;
     apart = λ i d e seen kept. let v = added_input i d seen in let r = added_rule h b H K k ran p i e kept in not_both b i v.0 r.0 v.1 r.1;

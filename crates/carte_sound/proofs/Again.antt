@@ -1,37 +1,31 @@
 -- A key that was finished is held from then on, until what it was made of changes.
-use Rattle.std.proofs.Common.{◌≡◌, ℕ, Bool, true, false, List, [], ◌∷◌, Some, refl, ap, sym, ◌∙◌, inl, inr, subst}
+use Rattle.std.proofs.Common.{◌≡◌, ℕ, Bool, true, false, List, [], ◌∷◌, refl, ap, sym, ◌∙◌, inl, inr, subst}
 use Rattle.carte_name.specs.Names.{name_eq}
 use Rattle.carte_value.specs.Truths.{Among}
 use Rattle.carte_book.specs.Book.{Book, clean}
 use Rattle.carte_book.specs.Needs.{IsRule}
 use Rattle.carte_book.specs.Reason.{IsClean}
-use Rattle.carte_book.proofs.Tasks.{task_of_rule}
 use Rattle.carte_record.specs.declared.trace.Trace.{Trace}
 use Rattle.carte_record.specs.declared.way.Way.{Way}
 use Rattle.carte_record.specs.declared.way.Way.TheVariants.{Verifying, Constructive, Deep}
 use Rattle.carte_record.specs.Kept.{SomeKept}
+use Rattle.carte_record.specs.Ways.{TraceBy}
 use Rattle.carte_value.specs.Lists.{Has}
-use Rattle.carte_sound.specs.True.{digest_or, or_none, wanted_task, trace_of, full_entry}
+use Rattle.carte_sound.specs.True.{digest_or, trace_of, full_entry}
 use Rattle.carte_sound.specs.Base.{IsBase}
 use Rattle.carte_sound.specs.Held.{How, dirty, tracing, IsTrusted, IsHeld}
 use Rattle.carte_sound.specs.Left.{entry_left, add, Finishes, add_all}
 use Rattle.carte_sound.specs.Finished.{RanOrHeld, IsFinishedAfter, AreFinished}
 use Rattle.carte_sound.proofs.Tests.{name_self, eq_or_apart, put_here, put_there}
 use Rattle.carte_sound.proofs.Held.{verifying_held}
-use Rattle.carte_sound.proofs.Minimal.{held_links}
+use Rattle.carte_sound.proofs.Minimal.{held_links, own_tasked}
 use Rattle.carte_sound.proofs.TracesKept.{traces_grow, trace_there}
 use Rattle.carte_sound.proofs.LeftSound.{finished_before, fresh_here}
 
 -- what a build still has of the traces that it began with, and that the keys finished so far are held
 pub record IsHolding (h : How) (b : Book) (M L : SomeKept) (before : List (List ℕ)) : Type 0 where
-  pub traces : (w : Way) (q : List ℕ) (t : Trace) → Has (M.traces w q) t → Has (L.traces w q) t
+  pub traces : (w : Way) (q : List ℕ) (t : TraceBy w) → Has (M.traces w q) t → Has (L.traces w q) t
   pub held : (j : List ℕ) → Among before j → IsHeld h L b j
-
--- a rule has the task that its new trace has
-pub own_wanted : (w : Way) (b : Book) (k : List ℕ) → IsRule b k → wanted_task w b k ≡ Some (trace_of w b k).task
-own_wanted Verifying b k r = let t = task_of_rule b k r.0 r.1 in t ∙ ap (λ o. Some (or_none o)) (sym t)
-own_wanted Constructive b k r = let t = task_of_rule b k r.0 r.1 in t ∙ ap (λ o. Some (or_none o)) (sym t)
-own_wanted Deep b k r = refl
 
 full_result : (b : Book) (L : SomeKept) (k : List ℕ) (ran : Bool) (t : Trace) → t.result ≡ digest_or (clean b k) → IsTrusted Verifying (add (tracing Verifying) b L k ran) k t
 full_result b L k ran t is = (full_entry b k, put_here L.entries k (full_entry b k), sym is)
@@ -47,7 +41,7 @@ module _ (b : Book) (H : List Book) (M : SomeKept) (begun : IsBase M b H) where
     trace_of Verifying b k,
     record {
       kept = trace_there Verifying b L k refl;
-      task = own_wanted Verifying b k is_rule;
+      task = own_tasked Verifying b k is_rule;
       links = held_links Verifying b k is_rule has;
       trusted = full_result b L k true (trace_of Verifying b k) refl;
     },
@@ -66,7 +60,7 @@ module _ (b : Book) (H : List Book) (M : SomeKept) (begun : IsBase M b H) where
     trace_of Constructive b k,
     record {
       kept = trace_there Constructive b L k refl;
-      task = own_wanted Constructive b k is_rule;
+      task = own_tasked Constructive b k is_rule;
       links = held_links Constructive b k is_rule has;
       trusted = tt;
     },
@@ -84,7 +78,7 @@ module _ (b : Book) (H : List Book) (M : SomeKept) (begun : IsBase M b H) where
     trace_of Deep b k,
     record {
       kept = trace_there Deep b L k refl;
-      task = own_wanted Deep b k is_rule;
+      task = own_tasked Deep b k is_rule;
       links = held_links Deep b k is_rule has;
       trusted = tt;
     },

@@ -45,7 +45,7 @@ module _ (h : How) (b : Book) (K : SomeKept) (x : Beginning) (fs : Finishes) (ch
   carried_left = kept_same (carried B K) (left h b (begin K x) fs chain)
       (λ q. ap (λ ks. option_or (link_in B.seen q) (cond (is_among ks q) None (K.seen q))) gone ∙ sym (carries.seen q))
       carried_entry
-      (λ w q. ap (λ ks. traces_in q (batch_traces w B) (cond (is_among ks q) [] (K.traces w q))) gone ∙ sym (carries.traces w q))
+      (λ w q. ap (λ ks. traces_in w q (batch_traces w B) (cond (is_among ks q) [] (K.traces w q))) gone ∙ sym (carries.traces w q))
       (sym carries.chain)
       (λ d. sym (carries.values d))
 

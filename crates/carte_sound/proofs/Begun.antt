@@ -13,7 +13,7 @@ use Rattle.carte_book.specs.Needs.{IsRule, needs, needs_of}
 use Rattle.carte_book.specs.Task.{task_digest_of, task_now}
 use Rattle.carte_book.proofs.Clean.{clean_input}
 use Rattle.carte_record.specs.declared.entry.Entry.{Entry}
-use Rattle.carte_record.specs.declared.trace.Trace.{Trace}
+use Rattle.carte_record.specs.Ways.{TraceBy}
 use Rattle.carte_record.specs.declared.way.Way.{Way}
 use Rattle.carte_record.specs.Folds.{is_among}
 use Rattle.carte_record.specs.Kept.{SomeKept, is_fresh, staled}
@@ -58,7 +58,7 @@ module _ (K : SomeKept) (x : Beginning) where
       on_test true is seen = cc
       on_test false is seen = (is, seen)
 
-  pub trace_before : (w : Way) (k : List ℕ) (t : Trace) → Has ((begin K x).traces w k) t → (is_among x.gone k ≡ false) × Has (K.traces w k) t
+  pub trace_before : (w : Way) (k : List ℕ) (t : TraceBy w) → Has ((begin K x).traces w k) t → (is_among x.gone k ≡ false) × Has (K.traces w k) t
   trace_before w k t = on_test (is_among x.gone k) refl
     where
       on_test : (s : Bool) → is_among x.gone k ≡ s → Has (cond s [] (K.traces w k)) t → (is_among x.gone k ≡ false) × Has (K.traces w k) t
@@ -72,7 +72,7 @@ module _ (K : SomeKept) (x : Beginning) where
   pub seen_there : (i : List ℕ) (d : Digest) → is_among x.gone i ≡ false → K.seen i ≡ Some d → (begin K x).seen i ≡ Some d
   seen_there i d stays seen = ap (λ t. cond t None (K.seen i)) stays ∙ seen
 
-  pub trace_there : (w : Way) (k : List ℕ) (t : Trace) → is_among x.gone k ≡ false → Has (K.traces w k) t → Has ((begin K x).traces w k) t
+  pub trace_there : (w : Way) (k : List ℕ) (t : TraceBy w) → is_among x.gone k ≡ false → Has (K.traces w k) t → Has ((begin K x).traces w k) t
   trace_there w k t stays there = subst (λ s. Has (cond s [] (K.traces w k)) t) (sym stays) there
 
   -- what a key leads to then, it led to before

@@ -13,7 +13,6 @@ use Rattle.carte_book.specs.Book.{Item, input, rule, Book, content, valued, val,
 use Rattle.carte_book.specs.Needs.{IsRule, needs, needs_of}
 use Rattle.carte_book.proofs.Clean.{clean_nothing, val_clean}
 use Rattle.carte_sound.specs.Beneath.{gathered, walk, beneath_item, rules_item, beneath_in, rules_beneath_in}
-use Rattle.carte_sound.specs.Base.{SameRules}
 use Rattle.carte_value.proofs.Agreeing.{same_run, same_asked}
 use Rattle.carte_sound.proofs.Fresh.{val_rule}
 use Rattle.carte_sound.proofs.Held.{needs_rule}
@@ -35,7 +34,7 @@ gathered_same f g [] same = refl
 gathered_same f g (k ∷ ks) same = ap (λ xs. xs ++ gathered f ks) (same k (inl refl)) ∙ ap (λ xs. g k ++ xs) (gathered_same f g ks (λ j among. same j (inr among)))
 
 -- an input has no needs
-no_needs : (c : Book) (k : List ℕ) (x : Value) → content c k ≡ Some (input x) → needs c k ≡ []
+pub no_needs : (c : Book) (k : List ℕ) (x : Value) → content c k ≡ Some (input x) → needs c k ≡ []
 no_needs c k x is = ap (λ o. needs_of o (λ f. fetched c.kind (clean c) f)) is
 
 -- beneath an input there is that input
@@ -49,6 +48,11 @@ beneath_of_rule n c k f is = ap (λ o. beneath_item o k (gathered (λ j. beneath
 -- and among the rules beneath a rule there are it and those beneath its needs
 rules_of_rule : (n : ℕ) (c : Book) (k : List ℕ) (f : Tree) → content c k ≡ Some (rule f) → rules_beneath_in (suc n) c k ≡ k ∷ gathered (λ j. rules_beneath_in n c j) (needs c k)
 rules_of_rule n c k f is = ap (λ o. rules_item o k (gathered (λ j. rules_beneath_in n c j) (needs c k))) is
+
+-- beneath an input there is none
+pub rules_of_input : (n : ℕ) (c : Book) (k : List ℕ) (v : Value) → content c k ≡ Some (input v) → rules_beneath_in n c k ≡ []
+rules_of_input zero c k v is = ap (λ o. rules_item o k []) is
+rules_of_input (suc n) c k v is = ap (λ o. rules_item o k (gathered (λ j. rules_beneath_in n c j) (needs c k))) is
 
 pub rule_itself : (n : ℕ) (c : Book) (k : List ℕ) (f : Tree) → content c k ≡ Some (rule f) → Among (rules_beneath_in n c k) k
 rule_itself zero c k f is = subst (λ o. Among (rules_item o k []) k) (sym is) (inl refl)
@@ -102,10 +106,6 @@ pub record AgreeBeneath (c b : Book) (n : ℕ) (k : List ℕ) : Type 0 where
   pub kind : c.kind ≡ b.kind
   pub rules : (i : List ℕ) → Among (rules_beneath_in n c k) i → content b i ≡ content c i
   pub inputs : (i : List ℕ) → Among (beneath_in n c k) i → content b i ≡ content c i
-
--- books with the same rules have the same at those beneath
-pub agree_by_rules : (c b : Book) (n : ℕ) (k : List ℕ) → SameRules c b → ((i : List ℕ) → Among (beneath_in n c k) i → content b i ≡ content c i) → AgreeBeneath c b n k
-agree_by_rules c b n k same inputs = record { kind = same.kind; rules = λ i among. let f = beneath_rule n c k i among in same.rules i f.0 f.1 ∙ sym f.1; inputs = inputs }
 
 module _ (c b : Book) where
   agree_need : (n : ℕ) (k : List ℕ) (f : Tree) → content c k ≡ Some (rule f) → AgreeBeneath c b (suc n) k → (j : List ℕ) → Among (needs c k) j → AgreeBeneath c b n j

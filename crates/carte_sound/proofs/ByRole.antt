@@ -5,7 +5,7 @@ use Rattle.carte_book.specs.Book.{Book}
 use Rattle.carte_book.specs.Edits.{IsInput}
 use Rattle.carte_book.specs.Needs.{IsRule}
 use Rattle.carte_record.specs.declared.entry.Entry.{Entry}
-use Rattle.carte_record.specs.declared.trace.Trace.{Trace}
+use Rattle.carte_record.specs.Ways.{TraceBy}
 use Rattle.carte_record.specs.declared.way.Way.{Way}
 use Rattle.carte_record.specs.Folds.{is_among}
 use Rattle.carte_record.specs.Kept.{SomeKept, staled}
@@ -43,7 +43,7 @@ module _ (K : SomeKept) (H : List Book) (b : Book) (sound : IsSound K H) (x : Be
   no_trace_of : (w : Way) (k : List ℕ) → K.entries k ≡ None → K.traces w k ≡ []
   no_trace_of w k none = on_traces (K.traces w k) refl
     where
-      on_traces : (ts : List Trace) → K.traces w k ≡ ts → ts ≡ []
+      on_traces : (ts : List (TraceBy w)) → K.traces w k ≡ ts → ts ≡ []
       on_traces [] is = refl
       on_traces (t ∷ ts) is =
           let s = sound.traces w k t (rw is (inl refl)) in

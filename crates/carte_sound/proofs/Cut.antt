@@ -145,7 +145,7 @@ module _ (b : Book) (M L N : SomeKept) (A B C : Batch) (cut : IsCut A B C) (fron
     entries = λ q. whole.entries q ∙ (ap (λ o. option_or o (M.entries q)) (entries_in q) ∙ (or_twice (entry_in C.entries q) (entry_in B.entries q) (M.entries q) ∙ ap (option_or (entry_in C.entries q)) (sym (front.entries q))));
     entries_differ = λ q e is was. (let here = entry_here q e is in whole.entries_differ q e here.0 (sym here.1 ∙ was));
     entries_once = once_behind (map (λ (e : Entry). e.key) B.entries) (map (λ (e : Entry). e.key) C.entries) (subst NoneTwice (map-append (λ (e : Entry). e.key) B.entries C.entries) entries_once);
-    traces = λ w q. whole.traces w q ∙ (ap (λ ts. traces_in q ts (M.traces w q)) (cut.traces w) ∙ (traces_on q (batch_traces w B) (batch_traces w C) (M.traces w q) ∙ ap (traces_in q (batch_traces w C)) (sym (front.traces w q))));
+    traces = λ w q. whole.traces w q ∙ (ap (λ ts. traces_in w q ts (M.traces w q)) (cut.traces w) ∙ (traces_on w q (batch_traces w B) (batch_traces w C) (M.traces w q) ∙ ap (traces_in w q (batch_traces w C)) (sym (front.traces w q))));
     chain = whole.chain ∙ (ap (λ o. unwrap_or o M.chain) cut.chain ∙ ap (unwrap_or C.chain) (sym same_chain));
     chain_differs = λ ks is was. whole.chain_differs ks (cut.chain ∙ is) (sym same_chain ∙ was);
   }

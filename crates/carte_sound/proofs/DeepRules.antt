@@ -1,4 +1,4 @@
--- Deep traces that name the rules beneath their key hold just where these and the inputs there are the present ones.
+-- Deep traces hold just where the rules and the inputs beneath their key are the present ones.
 use Rattle.std.proofs.Common.{◌≡◌, ℕ, ◌+◌, List, [], ◌∷◌, length, Some, refl, ap, sym, ◌∙◌, inl, inr, subst}
 use Rattle.carte_value.specs.declared.digest.Digest.{Digest}
 use Rattle.carte_value.specs.declared.link.Link.{Link}
@@ -9,17 +9,18 @@ use Rattle.carte_tree.specs.Tree.{Tree}
 use Rattle.carte_book.specs.Book.{rule, Book, content, rules_of, clean}
 use Rattle.carte_book.specs.Needs.{IsRule}
 use Rattle.carte_book.specs.Task.{task_now}
-use Rattle.carte_book.proofs.Tasks.{one_task, task_of_rule}
+use Rattle.carte_book.proofs.Tasks.{one_task}
+use Rattle.carte_record.specs.declared.deep_trace.DeepTrace.{DeepTrace}
+use Rattle.carte_record.specs.declared.way.Way.TheVariants.{Deep}
 use Rattle.carte_sound.specs.Base.{HasDistinctDigests}
 use Rattle.carte_sound.specs.Beneath.{beneath_item, rules_item, beneath_in, rules_beneath_in, beneath, rules_beneath}
-use Rattle.carte_sound.specs.DeepRules.{tasks_of, DeepTrace, deep_trace_of, IsDeepTraceOf, IsDeepNow}
 use Rattle.carte_sound.specs.Held.{AreLinks}
 use Rattle.carte_sound.specs.Marks.{present}
-use Rattle.carte_sound.specs.True.{digest_or, or_none, links_to}
+use Rattle.carte_sound.specs.True.{digest_or, or_none, links_to, tasks_of, deep_trace, IsTraceOf}
 use Rattle.carte_sound.proofs.Beneath.{rule_itself, beneath_input, beneath_rule, AgreeBeneath, beneath_value}
-use Rattle.carte_sound.proofs.Deep.{walk_whole, present_agrees, inputs_same}
-use Rattle.carte_sound.proofs.Minimal.{inputs_hold}
+use Rattle.carte_sound.proofs.Minimal.{inputs_hold, tasks_hold}
 use Rattle.carte_sound.proofs.Tasks.{own_task, same_task}
+use Rattle.carte_sound.proofs.Walks.{walk_whole, present_agrees, inputs_same}
 
 -- rules whose tasks are so now are the same rules, in books of one kind
 tasks_agree : (H : List Book) → HasDistinctDigests H → (c b : Book) → Has H c → Has H b → (ks : List (List ℕ)) → AreLinks (task_now b) (tasks_of c ks) → (i : List ℕ) (f : Tree) → Among ks i → content c i ≡ Some (rule f) → (c.kind ≡ b.kind) × (content b i ≡ Some (rule f))
@@ -44,38 +45,50 @@ trace_by k ts ls d = record { key = k; tasks = ts; links = ls; result = d }
 same_trace : (k : List ℕ) (ts us : List Link) (ls ms : List Link) (d e : Digest) → ts ≡ us → ls ≡ ms → d ≡ e → trace_by k ts ls d ≡ trace_by k us ms e
 same_trace k ts us ls ms d e tasks links result = ap (λ xs. trace_by k xs ls d) tasks ∙ ap (λ xs. trace_by k us xs d) links ∙ ap (trace_by k us ms) result
 
--- a trace that is so now is that of the present book
-pub deep_same : (H : List Book) (c b : Book) (k : List ℕ) (t : DeepTrace) → HasDistinctDigests H → Has H c → Has H b → IsDeepTraceOf c k t → IsDeepNow b t → t ≡ deep_trace_of b k
-deep_same H c b k t distinct in_c in_b of now =
-    let n = length (rules_of c) + 1 in
-    let v = of.value in
-    let tasks : AreLinks (task_now b) (tasks_of c (rules_beneath c k)) = subst (λ (x : DeepTrace). AreLinks (task_now b) x.tasks) of.trace now.0 in
-    let links : AreLinks (present b) (links_to (clean c) (beneath c k)) = subst (λ (x : DeepTrace). AreLinks (present b) x.links) of.trace now.1 in
-    let rules = λ (i : List ℕ) (among : Among (rules_beneath_in n c k) i).
-    let f = beneath_rule n c k i among in
-    (tasks_agree H distinct c b in_c in_b (rules_beneath c k) tasks i f.0 (firsts_among (rules_beneath_in n c k) i among) f.1).1 ∙ sym f.1 in
-    let inputs = λ (i : List ℕ) (among : Among (beneath_in n c k) i).
-    let x = beneath_input n c k i among in
-    present_agrees H distinct c b in_c in_b (beneath c k) links i (firsts_among (beneath_in n c k) i among) x.0 x.1 ∙ sym x.1 in
-    let kind = (tasks_agree H distinct c b in_c in_b (rules_beneath c k) tasks k of.formula (firsts_among (rules_beneath_in n c k) k (rule_itself n c k of.formula of.is_rule)) of.is_rule).0 in
-    let agree : AgreeBeneath c b n k = record { kind = kind; rules = rules; inputs = inputs } in
-    of.trace ∙ same_trace k (tasks_of c (rules_beneath c k)) (tasks_of b (rules_beneath b k)) (links_to (clean c) (beneath c k)) (links_to (clean b) (beneath b k)) (digest_or (clean c k)) (digest_or (clean b k))
-    (tasks_same c b kind (rules_beneath c k) (λ i among. let there = among_firsts (rules_beneath_in n c k) i among in (beneath_rule n c k i there, rules i there)) ∙ ap (tasks_of b) (sym (walk_whole rules_item c b k v of.clean agree)))
-    (inputs_same c b n k inputs ∙ ap (links_to (clean b)) (sym (walk_whole beneath_item c b k v of.clean agree)))
-    (ap digest_or (of.clean ∙ sym (beneath_value c b n k v of.clean agree)))
+-- a trace of one book whose tasks and links are so in another
+module _ (H : List Book) (distinct : HasDistinctDigests H) (c b : Book) (in_c : Has H c) (in_b : Has H b) (k : List ℕ) (t : DeepTrace) (of : IsTraceOf Deep c k t) (tasks : AreLinks (task_now b) t.tasks) (links : AreLinks (present b) t.links) where
+  abbrev n : ℕ
+  n = length (rules_of c) + 1
 
-tasks_hold : (b c : Book) (ks : List (List ℕ)) → ((i : List ℕ) → Among ks i → IsRule c i) → ((i : List ℕ) → Among ks i → task_now b i ≡ task_now c i) → AreLinks (task_now b) (tasks_of c ks)
-tasks_hold b c [] rules same = tt
-tasks_hold b c (k ∷ ks) rules same =
-    let r = rules k (inl refl) in
-    let t = task_of_rule c k r.0 r.1 in
-    (same k (inl refl) ∙ t ∙ ap (λ o. Some (or_none o)) (sym t), tasks_hold b c ks (λ i among. rules i (inr among)) (λ i among. same i (inr among)))
+  tasks_then : AreLinks (task_now b) (tasks_of c (rules_beneath c k))
+  tasks_then = subst (λ (x : DeepTrace). AreLinks (task_now b) x.tasks) of.trace tasks
+
+  links_then : AreLinks (present b) (links_to (clean c) (beneath c k))
+  links_then = subst (λ (x : DeepTrace). AreLinks (present b) x.links) of.trace links
+
+  rules_agree : (i : List ℕ) → Among (rules_beneath_in n c k) i → content b i ≡ content c i
+  rules_agree i among =
+      let f = beneath_rule n c k i among in
+      (tasks_agree H distinct c b in_c in_b (rules_beneath c k) tasks_then i f.0 (firsts_among (rules_beneath_in n c k) i among) f.1).1 ∙ sym f.1
+
+  inputs_agree : (i : List ℕ) → Among (beneath_in n c k) i → content b i ≡ content c i
+  inputs_agree i among =
+      let x = beneath_input n c k i among in
+      present_agrees H distinct c b in_c in_b (beneath c k) links_then i (firsts_among (beneath_in n c k) i among) x.0 x.1 ∙ sym x.1
+
+  kind_agrees : c.kind ≡ b.kind
+  kind_agrees = (tasks_agree H distinct c b in_c in_b (rules_beneath c k) tasks_then k of.formula (firsts_among (rules_beneath_in n c k) k (rule_itself n c k of.formula of.is_rule)) of.is_rule).0
+
+  -- the other book agrees with it beneath the key
+  pub deep_agree : AgreeBeneath c b n k
+  deep_agree = record { kind = kind_agrees; rules = rules_agree; inputs = inputs_agree }
+
+  -- the key has the same value there
+  pub deep_value : clean b k ≡ Some of.value
+  deep_value = beneath_value c b n k of.value of.clean deep_agree
+
+  -- and the trace is that of the other book
+  pub deep_same : t ≡ deep_trace b k
+  deep_same =
+      of.trace ∙ same_trace k (tasks_of c (rules_beneath c k)) (tasks_of b (rules_beneath b k)) (links_to (clean c) (beneath c k)) (links_to (clean b) (beneath b k)) (digest_or (clean c k)) (digest_or (clean b k))
+      (tasks_same c b kind_agrees (rules_beneath c k) (λ i among. let there = among_firsts (rules_beneath_in n c k) i among in (beneath_rule n c k i there, rules_agree i there)) ∙ ap (tasks_of b) (sym (walk_whole rules_item c b k of.value of.clean deep_agree)))
+      (inputs_same c b n k inputs_agree ∙ ap (links_to (clean b)) (sym (walk_whole beneath_item c b k of.value of.clean deep_agree)))
+      (ap digest_or (of.clean ∙ sym deep_value))
 
 -- and a trace holds where the rules beneath have their tasks and the inputs there their values
-pub deep_unchanged : (b c : Book) (k : List ℕ) (t : DeepTrace) → IsDeepTraceOf c k t → ((i : List ℕ) → Among (rules_beneath c k) i → task_now b i ≡ task_now c i) → ((i : List ℕ) → Among (beneath c k) i → content b i ≡ content c i) → IsDeepNow b t
+pub deep_unchanged : (b c : Book) (k : List ℕ) (t : DeepTrace) → IsTraceOf Deep c k t → ((i : List ℕ) → Among (rules_beneath c k) i → task_now b i ≡ task_now c i) → ((i : List ℕ) → Among (beneath c k) i → content b i ≡ content c i) → AreLinks (task_now b) t.tasks × AreLinks (present b) t.links
 deep_unchanged b c k t of tasks inputs =
-    let n = length (rules_of c) + 1 in
-    subst (λ (x : DeepTrace). IsDeepNow b x) (sym of.trace) (
-      tasks_hold b c (rules_beneath c k) (λ i among. beneath_rule n c k i (among_firsts (rules_beneath_in n c k) i among)) tasks,
-      inputs_hold b c (beneath c k) (λ i among. beneath_input n c k i (among_firsts (beneath_in n c k) i among)) inputs,
+    let n = length (rules_of c) + 1 in (
+      subst (λ (x : DeepTrace). AreLinks (task_now b) x.tasks) (sym of.trace) (tasks_hold b c (rules_beneath c k) (λ i among. beneath_rule n c k i (among_firsts (rules_beneath_in n c k) i among)) tasks),
+      subst (λ (x : DeepTrace). AreLinks (present b) x.links) (sym of.trace) (inputs_hold b c (beneath c k) (λ i among. beneath_input n c k i (among_firsts (beneath_in n c k) i among)) inputs),
     )

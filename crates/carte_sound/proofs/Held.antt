@@ -1,5 +1,5 @@
 -- What a held key has: its clean value, in the store, and by links of its needs those that they have now.
-use Rattle.std.proofs.Common.{◌≡◌, ℕ, List, [], ◌∷◌, Option, Some, None, option_map, Ok, refl, ap, sym, ◌∙◌, inl, inr, subst}
+use Rattle.std.proofs.Common.{◌≡◌, ℕ, true, false, List, [], ◌∷◌, Option, Some, None, option_map, Ok, refl, ap, sym, ◌∙◌, inl, inr, subst}
 use Rattle.carte_value.specs.declared.digest.Digest.{Digest}
 use Rattle.carte_value.specs.declared.value.Value.{Value}
 use Rattle.carte_value.specs.Asks.{firsts, asked}
@@ -14,18 +14,20 @@ use Rattle.carte_book.specs.Needs.{needs, needs_of}
 use Rattle.carte_book.specs.Task.{task_now}
 use Rattle.carte_record.specs.declared.trace.Trace.{Trace}
 use Rattle.carte_record.specs.declared.way.Way.{Way}
-use Rattle.carte_record.specs.declared.way.Way.TheVariants.{Verifying, Constructive}
+use Rattle.carte_record.specs.declared.way.Way.TheVariants.{Verifying, Constructive, Deep}
 use Rattle.carte_record.specs.Kept.{SomeKept}
+use Rattle.carte_record.specs.Ways.{TraceBy, links_by, result_by}
 use Rattle.carte_value.specs.Lists.{Has}
 use Rattle.carte_sound.specs.Marks.{IsFresh}
-use Rattle.carte_sound.specs.True.{digest_or, or_none, links_to, trace_of}
+use Rattle.carte_sound.specs.True.{digest_or, or_none, links_to, linked, trace_of}
 use Rattle.carte_sound.specs.Sound.{IsTraceOfSome, IsStored, IsSound}
 use Rattle.carte_sound.specs.Base.{HasDistinctDigests, IsBase}
-use Rattle.carte_sound.specs.Held.{AreLinks, clean_digest, IsHeldBy}
+use Rattle.carte_sound.specs.Held.{tracing, AreLinks, clean_digest, IsTasked, IsHeldBy, looks_into_held}
 use Rattle.carte_sound.specs.Results.{HasResult}
 use Rattle.carte_value.proofs.Agreeing.{same_run, same_asked}
 use Rattle.carte_sound.proofs.Fresh.{clean_ends, ends_clean}
 use Rattle.carte_sound.proofs.Tasks.{own_task, same_task}
+use Rattle.carte_sound.proofs.Traces.{trace_links, trace_result}
 
 pub needs_rule : (b : Book) (k : List ℕ) (f : Tree) → content b k ≡ Some (rule f) → needs b k ≡ fetched b.kind (clean b) f
 needs_rule b k f is = ap (λ o. needs_of o (λ g. fetched b.kind (clean b) g)) is
@@ -92,36 +94,44 @@ stored_value K H sound distinct c in_c k v has d stored is =
     let s = sound.stored d stored.0 stored.1 in
     stored.1 ∙ ap Some (distinct.values s.1.book c s.1.name k stored.0 v s.1.stood in_c s.1.clean has (s.0 ∙ is))
 
-module _ (K : SomeKept) (b : Book) (H : List Book) (base : IsBase K b H) where
-  -- a trace whose task the key has now tells of the present rule, in a book of the same kind
-  pub same_rule : (w : Way) (k : List ℕ) (t : Trace) (s : IsTraceOfSome K H w k t) → t.task ≡ or_none (task_now s.book k) → task_now b k ≡ Some t.task → (s.book.kind ≡ b.kind) × (content b k ≡ Some (rule s.trace.formula))
-  same_rule w k t s is now = same_task H base.distinct s.book b s.stood base.present k s.trace.formula s.trace.is_rule (now ∙ ap Some (is ∙ own_task s.book k s.trace.formula s.trace.is_rule))
+-- a trace of needs names the task that its key had, and links what it needed
+pub needs_task : (w : Way) → looks_into_held (tracing w) ≡ true → (c b : Book) (k : List ℕ) (t : TraceBy w) → t ≡ trace_of w c k → IsTasked w b k t → task_now b k ≡ Some (or_none (task_now c k))
+needs_task Verifying of c b k t is now = now ∙ ap (λ (x : Trace). Some x.task) is
+needs_task Constructive of c b k t is now = now ∙ ap (λ (x : Trace). Some x.task) is
+needs_task Deep of c b k t is now = (let never : false ≡ true = of in cc)
 
-  -- a trace of needs that is held: its result, and its links
-  needs_held : (k : List ℕ) (t : Trace) (s : (w : Way) × IsTraceOfSome K H w k t) → t ≡ trace_of Constructive s.1.book k → IsStored K t.result → task_now b k ≡ Some t.task → AreLinks (clean_digest b) t.links → HasResult K b k t.result × (t.links ≡ links_to (clean b) (needs b k))
-  needs_held k t s is stored task are =
-      let c = s.1.book in
-      let f = s.1.trace.formula in
-      let v = s.1.trace.value in
-      let same = same_rule s.0 k t s.1 (ap (λ (x : Trace). x.task) is) task in
+pub needs_linked : (w : Way) → looks_into_held (tracing w) ≡ true → (c : Book) (k : List ℕ) → linked w c k ≡ needs c k
+needs_linked Verifying of c k = refl
+needs_linked Constructive of c k = refl
+needs_linked Deep of c k = (let never : false ≡ true = of in cc)
+
+module _ (K : SomeKept) (b : Book) (H : List Book) (base : IsBase K b H) where
+  -- a trace of needs that names the task that the key has now tells of the present rule, in a book of the same kind
+  pub same_rule : (w : Way) → looks_into_held (tracing w) ≡ true → (k : List ℕ) (t : TraceBy w) (s : IsTraceOfSome K H w k t) → IsTasked w b k t → (s.book.kind ≡ b.kind) × (content b k ≡ Some (rule s.trace.formula))
+  same_rule w of k t s now = same_task H base.distinct s.book b s.stood base.present k s.trace.formula s.trace.is_rule (needs_task w of s.book b k t s.trace.trace now ∙ ap Some (own_task s.book k s.trace.formula s.trace.is_rule))
+
+  -- one that is held: its result, and its links
+  needs_held : (w : Way) → looks_into_held (tracing w) ≡ true → (k : List ℕ) (t : TraceBy w) → IsTraceOfSome K H w k t → IsStored K (result_by w t) → IsTasked w b k t → AreLinks (clean_digest b) (links_by w t) → HasResult K b k (result_by w t) × (links_by w t ≡ links_to (clean b) (needs b k))
+  needs_held w of k t s stored task are =
+      let c = s.book in
+      let f = s.trace.formula in
+      let v = s.trace.value in
+      let same = same_rule w of k t s task in
       let rule_b : content b k ≡ Some (rule f) = same.1 in
-      let then : AreLinks (clean_digest b) (links_to (clean c) (needs c k)) = subst (λ (x : Trace). AreLinks (clean_digest b) x.links) is are in
-      let now : clean b k ≡ Some v = same_value H base.distinct c b s.1.stood base.present same.0 k f v s.1.trace.is_rule rule_b s.1.trace.clean then in
-      let of : t.result ≡ digest_of v = ap (λ (x : Trace). x.result) is ∙ ap digest_or s.1.trace.clean in (
-        record { value = v; clean = now; digest = of; stored = stored_value K H base.sound base.distinct c s.1.stood k v s.1.trace.clean t.result stored of },
-        ap (λ (x : Trace). x.links) is ∙ same_links H base.distinct c b s.1.stood base.present same.0 k f v s.1.trace.is_rule rule_b s.1.trace.clean then,
+      let links : links_by w t ≡ links_to (clean c) (needs c k) = ap (links_by w) s.trace.trace ∙ trace_links w c k ∙ ap (links_to (clean c)) (needs_linked w of c k) in
+      let then : AreLinks (clean_digest b) (links_to (clean c) (needs c k)) = subst (AreLinks (clean_digest b)) links are in
+      let now : clean b k ≡ Some v = same_value H base.distinct c b s.stood base.present same.0 k f v s.trace.is_rule rule_b s.trace.clean then in
+      let result : result_by w t ≡ digest_of v = ap (result_by w) s.trace.trace ∙ trace_result w c k ∙ ap digest_or s.trace.clean in (
+        record { value = v; clean = now; digest = result; stored = stored_value K H base.sound base.distinct c s.stood k v s.trace.clean (result_by w t) stored result },
+        links ∙ same_links H base.distinct c b s.stood base.present same.0 k f v s.trace.is_rule rule_b s.trace.clean then,
       )
 
   -- a key held by links of its needs
   pub verifying_held : (k : List ℕ) (t : Trace) → IsHeldBy Verifying K b k t → HasResult K b k t.result × (t.links ≡ links_to (clean b) (needs b k))
-  verifying_held k t held =
-      let s = base.sound.traces Verifying k t held.kept in
-      needs_held k t (Verifying, s) s.trace.trace (base.sound.trace_stored Verifying k t held.kept) held.task held.links
+  verifying_held k t held = needs_held Verifying refl k t (base.sound.traces Verifying k t held.kept) (base.sound.trace_stored Verifying k t held.kept) held.task held.links
 
   pub constructive_held : (k : List ℕ) (t : Trace) → IsHeldBy Constructive K b k t → HasResult K b k t.result × (t.links ≡ links_to (clean b) (needs b k))
-  constructive_held k t held =
-      let s = base.sound.traces Constructive k t held.kept in
-      needs_held k t (Constructive, s) s.trace.trace (base.sound.trace_stored Constructive k t held.kept) held.task held.links
+  constructive_held k t held = needs_held Constructive refl k t (base.sound.traces Constructive k t held.kept) (base.sound.trace_stored Constructive k t held.kept) held.task held.links
 
   -- and one that is held by a fresh entry
   pub fresh_result : (k : List ℕ) (f : IsFresh K k) → HasResult K b k f.entry.result

@@ -1,13 +1,15 @@
 pub mod Fresh
 pub mod Tests
 pub mod Tasks
+pub mod Traces
 pub mod Begun
 pub mod ByRole
 pub mod Histories
 pub mod Held
 pub mod Beneath
-pub mod Deep
+pub mod Walks
 pub mod Entries
+pub mod SoNow
 pub mod Written
 pub mod NowFresh
 pub mod AddedNow
@@ -18,6 +20,7 @@ pub mod LeftSound
 pub mod Reached
 pub mod Minimal
 pub mod DeepRules
+pub mod Deep
 pub mod Begins
 pub mod Finishing
 pub mod Emptied

@@ -5,7 +5,7 @@ use Rattle.carte_value.specs.Truths.{Among, NoneTwice}
 use Rattle.carte_book.specs.Book.{Book}
 use Rattle.carte_book.specs.Needs.{IsRule}
 use Rattle.carte_record.specs.declared.entry.Entry.{Entry}
-use Rattle.carte_record.specs.declared.trace.Trace.{Trace}
+use Rattle.carte_record.specs.Ways.{TraceBy}
 use Rattle.carte_record.specs.declared.way.Way.{Way}
 use Rattle.carte_record.specs.declared.way.Way.TheVariants.{Verifying, Constructive, Deep}
 use Rattle.carte_record.specs.Folds.{is_among}
@@ -27,7 +27,7 @@ use Rattle.carte_sound.proofs.LeftSound.{left_base}
 use Rattle.carte_sound.proofs.Again.{first_holding, holdings}
 use Rattle.carte_sound.proofs.Finishing.{among_finished}
 
-begun_trusted : (w : Way) (K : SomeKept) (x : Beginning) (k : List ℕ) (t : Trace) → is_among x.gone k ≡ false → IsTrusted w K k t → IsTrusted w (begin K x) k t
+begun_trusted : (w : Way) (K : SomeKept) (x : Beginning) (k : List ℕ) (t : TraceBy w) → is_among x.gone k ≡ false → IsTrusted w K k t → IsTrusted w (begin K x) k t
 begun_trusted Verifying K x k t stays trusted = (staled (is_among x.marks k) trusted.0, entry_there K x k trusted.0 stays trusted.1, trusted.2)
 begun_trusted Constructive K x k t stays trusted = tt
 begun_trusted Deep K x k t stays trusted = tt
@@ -45,7 +45,7 @@ rule_stays K H b x sound begins k e at is_rule = not_among x.gone k (λ among. g
     gone (dropped.IsGone.entry f kept none) = none is_rule
 
 -- so a trace of a rule is there in the next build
-pub trace_stays : (w : Way) (K : SomeKept) (H : List Book) (b : Book) (x : Beginning) → IsSound K H → IsBeginning K b x → (k : List ℕ) (t : Trace) → IsRule b k → Has (K.traces w k) t → Has ((begin K x).traces w k) t
+pub trace_stays : (w : Way) (K : SomeKept) (H : List Book) (b : Book) (x : Beginning) → IsSound K H → IsBeginning K b x → (k : List ℕ) (t : TraceBy w) → IsRule b k → Has (K.traces w k) t → Has ((begin K x).traces w k) t
 trace_stays w K H b x sound begins k t is_rule has =
     let s = sound.traces w k t has in
     trace_there K x w k t (rule_stays K H b x sound begins k s.entry s.kept is_rule) has

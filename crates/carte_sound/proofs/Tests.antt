@@ -5,7 +5,6 @@ use Rattle.carte_value.specs.declared.digest.Digest.{Digest}
 use Rattle.carte_name.specs.Names.{name_eq}
 use Rattle.carte_value.specs.Truths.{Among}
 use Rattle.carte_record.specs.declared.entry.Entry.{Entry}
-use Rattle.carte_record.specs.declared.trace.Trace.{Trace}
 use Rattle.carte_record.specs.Folds.{is_among}
 use Rattle.carte_record.specs.Kept.{is_fresh, put_at, staled}
 use Rattle.carte_table.specs.Lookups.{digest_eq}
@@ -102,7 +101,7 @@ fresh_parts e is = (parts e.stale e.shallow is)
     parts false true h = cc
     parts false false h = (refl, refl)
 
-pub has_filter : (p : Trace → Bool) (ts : List Trace) (t : Trace) → Has (filter p ts) t → Has ts t
+pub has_filter : {A : Type 0} (p : A → Bool) (ts : List A) (t : A) → Has (filter p ts) t → Has ts t
 has_filter p [] t h = h
 has_filter p (s ∷ ss) t h = elim (p s) as (λ b. Has (cond b (s ∷ filter p ss) (filter p ss)) t → Has (s ∷ ss) t) [
   | true ↦ λ here. elim here [

@@ -6,39 +6,14 @@ use Rattle.carte_name.specs.Names.{name_eq}
 use Rattle.carte_book.specs.Book.{Book}
 use Rattle.carte_record.specs.declared.trace.Trace.{Trace}
 use Rattle.carte_record.specs.declared.way.Way.{Way}
+use Rattle.carte_record.specs.Alike.{eq_by_is}
 use Rattle.carte_record.specs.Kept.{SomeKept, newest}
-use Rattle.carte_table.specs.Lookups.{digest_eq}
-use Rattle.carte_record.specs.Lookups.{links_eq, trace_eq}
+use Rattle.carte_record.specs.Ways.{TraceBy, eq_by}
 use Rattle.carte_value.specs.Lists.{Has}
 use Rattle.carte_sound.specs.True.{trace_of}
 use Rattle.carte_sound.specs.Held.{How, tracing}
 use Rattle.carte_sound.specs.Left.{is_way, add, Finishes, add_all}
-use Rattle.carte_sound.proofs.Tests.{name_self, same_name, same_digest}
-use Rattle.carte_sound.proofs.Entries.{both_true}
-
-link_by : List ℕ → Digest → Link
-link_by k d = record { name = k; digest = d }
-
-link_parts : (l m : Link) → link_by l.name l.digest ≡ link_by m.name m.digest → l ≡ m
-unfolding link_by
-link_parts l m same = same
-
-same_link : (l m : Link) → (name_eq l.name m.name && digest_eq l.digest m.digest) ≡ true → l ≡ m
-same_link l m is =
-    let both = both_true (name_eq l.name m.name) (digest_eq l.digest m.digest) is in
-    let k : l.name ≡ m.name = same_name l.name m.name both.0 in
-    let d : l.digest ≡ m.digest = same_digest l.digest m.digest both.1 in
-    link_parts l m (cc)
-
-same_links : (ls ms : List Link) → links_eq ls ms ≡ true → ls ≡ ms
-same_links [] [] is = refl
-same_links [] (m ∷ ms) is = cc
-same_links (l ∷ ls) [] is = cc
-same_links (l ∷ ls) (m ∷ ms) is =
-    let both = both_true (name_eq l.name m.name && digest_eq l.digest m.digest) (links_eq ls ms) is in
-    let here : l ≡ m = same_link l m both.0 in
-    let later : ls ≡ ms = same_links ls ms both.1 in
-    cc
+use Rattle.carte_sound.proofs.Tests.{name_self}
 
 trace_by : List ℕ → Digest → List Link → Digest → Trace
 trace_by k a ls d = record { key = k; task = a; links = ls; result = d }
@@ -51,18 +26,7 @@ trace_parts s t same = same
 pub same_parts : (s t : Trace) → s.key ≡ t.key → s.task ≡ t.task → s.links ≡ t.links → s.result ≡ t.result → s ≡ t
 same_parts s t key task links result = trace_parts s t (cc)
 
-pub same_trace : (s t : Trace) → trace_eq s t ≡ true → s ≡ t
-same_trace s t is =
-    let both = both_true ((name_eq s.key t.key && digest_eq s.task t.task) && digest_eq s.result t.result) (links_eq s.links t.links) is in
-    let front = both_true (name_eq s.key t.key && digest_eq s.task t.task) (digest_eq s.result t.result) both.0 in
-    let first = both_true (name_eq s.key t.key) (digest_eq s.task t.task) front.0 in
-    let k : s.key ≡ t.key = same_name s.key t.key first.0 in
-    let a : s.task ≡ t.task = same_digest s.task t.task first.1 in
-    let d : s.result ≡ t.result = same_digest s.result t.result front.1 in
-    let ls : s.links ≡ t.links = same_links s.links t.links both.1 in
-    same_parts s t k a ls d
-
-filter_has : (p : Trace → Bool) (ts : List Trace) (t : Trace) → p t ≡ true → Has ts t → Has (filter p ts) t
+filter_has : {A : Type 0} (p : A → Bool) (ts : List A) (t : A) → p t ≡ true → Has ts t → Has (filter p ts) t
 filter_has p [] t passes there = absurd there
 filter_has p (s ∷ ss) t passes there = elim (p s) as (λ x. p s ≡ x → Has (cond x (s ∷ filter p ss) (filter p ss)) t) [
   | true ↦ λ is. elim there [
@@ -76,21 +40,21 @@ filter_has p (s ∷ ss) t passes there = elim (p s) as (λ x. p s ≡ x → Has 
 ] refl
 
 -- a trace that becomes the newest drives none out
-newest_has : (new : Trace) (ts : List Trace) (t : Trace) → Has ts t → Has (newest new ts) t
-newest_has new ts t there = elim (trace_eq t new) as (λ x. trace_eq t new ≡ x → Has (newest new ts) t) [
-  | true ↦ λ is. inl (same_trace t new is)
-  | false ↦ λ is. inr (filter_has (λ s. not (trace_eq s new)) ts t (ap not is) there)
+newest_has : (w : Way) (new : TraceBy w) (ts : List (TraceBy w)) (t : TraceBy w) → Has ts t → Has (newest (eq_by w) new ts) t
+newest_has w new ts t there = elim (eq_by w t new) as (λ x. eq_by w t new ≡ x → Has (newest (eq_by w) new ts) t) [
+  | true ↦ λ is. inl (eq_by_is w t new is)
+  | false ↦ λ is. inr (filter_has (λ s. not (eq_by w s new)) ts t (ap not is) there)
 ] refl
 
-chosen_has : (x : Bool) (new : Trace) (ts : List Trace) (t : Trace) → Has ts t → Has (cond x (newest new ts) ts) t
-chosen_has true new ts t there = newest_has new ts t there
-chosen_has false new ts t there = there
+chosen_has : (w : Way) (x : Bool) (new : TraceBy w) (ts : List (TraceBy w)) (t : TraceBy w) → Has ts t → Has (cond x (newest (eq_by w) new ts) ts) t
+chosen_has w true new ts t there = newest_has w new ts t there
+chosen_has w false new ts t there = there
 
-pub traces_grow : (h : How) (b : Book) (K : SomeKept) (k : List ℕ) (ran : Bool) (w : Way) (q : List ℕ) (t : Trace) → Has (K.traces w q) t → Has ((add h b K k ran).traces w q) t
-traces_grow h b K k ran w q t there = chosen_has ((ran && is_way h w) && name_eq q k) (trace_of w b k) (K.traces w q) t there
+pub traces_grow : (h : How) (b : Book) (K : SomeKept) (k : List ℕ) (ran : Bool) (w : Way) (q : List ℕ) (t : TraceBy w) → Has (K.traces w q) t → Has ((add h b K k ran).traces w q) t
+traces_grow h b K k ran w q t there = chosen_has w ((ran && is_way h w) && name_eq q k) (trace_of w b k) (K.traces w q) t there
 
 -- nor do the keys of a whole build
-pub traces_grow_all : (h : How) (b : Book) (K : SomeKept) (fs : Finishes) (w : Way) (q : List ℕ) (t : Trace) → Has (K.traces w q) t → Has ((add_all h b K fs).traces w q) t
+pub traces_grow_all : (h : How) (b : Book) (K : SomeKept) (fs : Finishes) (w : Way) (q : List ℕ) (t : TraceBy w) → Has (K.traces w q) t → Has ((add_all h b K fs).traces w q) t
 traces_grow_all h b K [] w q t there = there
 traces_grow_all h b K (f ∷ fs) w q t there = traces_grow_all h b (add h b K f.0 f.1) fs w q t (traces_grow h b K f.0 f.1 w q t there)
 
@@ -101,6 +65,6 @@ trace_there w b K k is_w = on_tests ((true && is_way (tracing w) w) && name_eq k
     tests : (x y : Bool) → x ≡ true → y ≡ true → ((true && x) && y) ≡ true
     tests x y one other = rw (one, other) refl
 
-    on_tests : (x : Bool) → x ≡ true → Has (cond x (newest (trace_of w b k) (K.traces w k)) (K.traces w k)) (trace_of w b k)
+    on_tests : (x : Bool) → x ≡ true → Has (cond x (newest (eq_by w) (trace_of w b k) (K.traces w k)) (K.traces w k)) (trace_of w b k)
     on_tests true is = inl refl
     on_tests false is = cc

@@ -6,12 +6,11 @@ use Rattle.carte_name.specs.Names.{name_eq}
 use Rattle.carte_value.specs.Spelling.{digest_of}
 use Rattle.carte_value.specs.Truths.{Among}
 use Rattle.carte_book.specs.Book.{input, Book, content, clean}
-use Rattle.carte_record.specs.declared.trace.Trace.{Trace}
+use Rattle.carte_record.specs.Ways.{TraceBy, eq_by}
 use Rattle.carte_record.specs.declared.way.Way.{Way}
 use Rattle.carte_record.specs.Folds.{is_among}
 use Rattle.carte_record.specs.Kept.{SomeKept, newest}
 use Rattle.carte_table.specs.Lookups.{digest_eq}
-use Rattle.carte_record.specs.Lookups.{trace_eq}
 use Rattle.carte_value.specs.Lists.{Has}
 use Rattle.carte_sound.specs.Marks.{digest_in, present}
 use Rattle.carte_sound.specs.True.{digest_or, trace_of}
@@ -86,12 +85,12 @@ module _ (h : How) (b : Book) (K : SomeKept) (k : List ℕ) (ran : Bool) where
       first_of_both (Some w) of is = inl is
 
   -- a trace was there before, or is the new one of a key that ran
-  pub traces_back : (w : Way) (q : List ℕ) (t : Trace) → Has ((add h b K k ran).traces w q) t → Has (K.traces w q) t ⊎ ((q ≡ k) × (t ≡ trace_of w b k) × (ran ≡ true))
-  traces_back w q t = elim ((ran && is_way h w) && name_eq q k) as (λ x. ((ran && is_way h w) && name_eq q k) ≡ x → Has (cond x (newest (trace_of w b k) (K.traces w q)) (K.traces w q)) t → Has (K.traces w q) t ⊎ ((q ≡ k) × (t ≡ trace_of w b k) × (ran ≡ true))) [
+  pub traces_back : (w : Way) (q : List ℕ) (t : TraceBy w) → Has ((add h b K k ran).traces w q) t → Has (K.traces w q) t ⊎ ((q ≡ k) × (t ≡ trace_of w b k) × (ran ≡ true))
+  traces_back w q t = elim ((ran && is_way h w) && name_eq q k) as (λ x. ((ran && is_way h w) && name_eq q k) ≡ x → Has (cond x (newest (eq_by w) (trace_of w b k) (K.traces w q)) (K.traces w q)) t → Has (K.traces w q) t ⊎ ((q ≡ k) × (t ≡ trace_of w b k) × (ran ≡ true))) [
     | true ↦ λ tests has. at_new (both_true (ran && is_way h w) (name_eq q k) tests) has
     | false ↦ λ tests has. inl has
   ] refl
     where
-      at_new : (((ran && is_way h w) ≡ true) × (name_eq q k ≡ true)) → Has (newest (trace_of w b k) (K.traces w q)) t → Has (K.traces w q) t ⊎ ((q ≡ k) × (t ≡ trace_of w b k) × (ran ≡ true))
+      at_new : (((ran && is_way h w) ≡ true) × (name_eq q k ≡ true)) → Has (newest (eq_by w) (trace_of w b k) (K.traces w q)) t → Has (K.traces w q) t ⊎ ((q ≡ k) × (t ≡ trace_of w b k) × (ran ≡ true))
       at_new both (inl new) = inr (same_name q k both.1, new, (both_true ran (is_way h w) both.0).0)
-      at_new both (inr later) = inl (has_filter (λ s. not (trace_eq s (trace_of w b k))) (K.traces w q) t later)
+      at_new both (inr later) = inl (has_filter (λ s. not (eq_by w s (trace_of w b k))) (K.traces w q) t later)

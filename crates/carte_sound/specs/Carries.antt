@@ -28,6 +28,6 @@ pub record Carries (b : Book) (K L : SomeKept) (B : Batch) : Type 0 where
   pub entries : (q : List ℕ) → L.entries q ≡ option_or (entry_in B.entries q) (K.entries q)
   pub entries_differ : (q : List ℕ) (e : Entry) → entry_in B.entries q ≡ Some e → ¬ (K.entries q ≡ Some e)
   pub entries_once : NoneTwice (map (λ e. e.key) B.entries)
-  pub traces : (w : Way) (q : List ℕ) → L.traces w q ≡ traces_in q (batch_traces w B) (K.traces w q)
+  pub traces : (w : Way) (q : List ℕ) → L.traces w q ≡ traces_in w q (batch_traces w B) (K.traces w q)
   pub chain : L.chain ≡ unwrap_or B.chain K.chain
   pub chain_differs : (ks : List (List ℕ)) → B.chain ≡ Some ks → ¬ (K.chain ≡ ks)

@@ -4,7 +4,7 @@ use Rattle.carte_book.specs.Book.{Book}
 use Rattle.carte_record.specs.declared.batch.Batch.{Batch}
 use Rattle.carte_record.specs.declared.entry.Entry.{Entry}
 use Rattle.carte_record.specs.declared.start.Start.TheVariants.{GoOn}
-use Rattle.carte_record.specs.declared.trace.Trace.{Trace}
+use Rattle.carte_record.specs.Ways.{TraceBy}
 use Rattle.carte_record.specs.declared.way.Way.{Way}
 use Rattle.carte_record.specs.Folds.{is_among, batch_traces, apply}
 use Rattle.carte_record.specs.Kept.{SomeKept}
@@ -21,7 +21,7 @@ abbrev pub empty_batch : Batch
 empty_batch = record { start = GoOn; values = []; gone = []; seen = []; entries = []; stale = []; verifying = []; constructive = []; deep = []; chain = None }
 
 -- of each key that ran one trace, in the order in which the keys were finished
-abbrev pub traces_made : How → Book → Finishes → Way → List Trace
+abbrev pub traces_made : How → Book → Finishes → (w : Way) → List (TraceBy w)
 traces_made h b [] w = []
 traces_made h b (f ∷ fs) w = if f.1 && is_way h w then trace_of w b f.0 ∷ traces_made h b fs w else traces_made h b fs w
 

@@ -10,6 +10,7 @@ use Rattle.carte_table.specs.Lookups.{digest_eq}
 use Rattle.carte_record.specs.declared.entry.Entry.{Entry}
 use Rattle.carte_record.specs.declared.way.Way.{Way}
 use Rattle.carte_record.specs.declared.way.Way.TheVariants.{Verifying, Constructive, Deep}
+use Rattle.carte_record.specs.Ways.{eq_by}
 use Rattle.carte_sound.specs.Marks.{present}
 use Rattle.carte_sound.specs.True.{digest_or, trace_of, full_entry, shallow_entry}
 use Rattle.carte_sound.specs.Held.{How, dirty, tracing}
@@ -62,7 +63,7 @@ abbrev pub add : How → Book → SomeKept → List ℕ → Bool → SomeKept
 add h b K k ran = record {
   seen = λ q. if is_kept (K.entries k) (entry_left h K b k) then K.seen q else seen_left K.seen b (entry_left h K b k).needs q;
   entries = put_at K.entries k (entry_left h K b k);
-  traces = λ w q. if (ran && is_way h w) && name_eq q k then newest (trace_of w b k) (K.traces w q) else K.traces w q;
+  traces = λ w q. if (ran && is_way h w) && name_eq q k then newest (eq_by w) (trace_of w b k) (K.traces w q) else K.traces w q;
   chain = K.chain;
   stored = λ d. if ran && digest_eq d (digest_or (clean b k)) then or_first (K.stored d) (clean b k) else K.stored d;
 }

@@ -6,7 +6,6 @@ pub mod True
 pub mod Sound
 pub mod Base
 pub mod Held
-pub mod DeepRules
 pub mod Results
 pub mod Left
 pub mod Finished

@@ -9,7 +9,7 @@ use Rattle.carte_book.specs.Needs.{IsRule}
 use Rattle.carte_book.specs.Task.{task_now}
 use Rattle.carte_record.specs.Kept.{SomeKept, is_fresh}
 use Rattle.carte_record.specs.declared.entry.Entry.{Entry}
-use Rattle.carte_record.specs.declared.trace.Trace.{Trace}
+use Rattle.carte_record.specs.Ways.{TraceBy, result_by}
 use Rattle.carte_record.specs.declared.way.Way.{Way}
 use Rattle.carte_value.specs.Lists.{Has}
 use Rattle.carte_sound.specs.Marks.{IsFresh, Leads}
@@ -38,7 +38,7 @@ pub record IsEntryOfSome (K : SomeKept) (H : List Book) (k : List ℕ) (e : Entr
   pub entry : IsEntryOf book k e
   pub fresh : is_fresh e ≡ true → IsFreshIn K book k e
 
-pub record IsTraceOfSome (K : SomeKept) (H : List Book) (w : Way) (k : List ℕ) (t : Trace) : Type 0 where
+pub record IsTraceOfSome (K : SomeKept) (H : List Book) (w : Way) (k : List ℕ) (t : TraceBy w) : Type 0 where
   pub book : Book
   pub stood : Has H book
   pub trace : IsTraceOf w book k t
@@ -57,11 +57,11 @@ abbrev pub IsStored : SomeKept → Digest → Type 0
 IsStored K d = (v : Value) × (K.stored d ≡ Some v)
 
 pub record IsSound (K : SomeKept) (H : List Book) : Type 0 where
-  pub traces : (w : Way) (k : List ℕ) (t : Trace) → Has (K.traces w k) t → IsTraceOfSome K H w k t
+  pub traces : (w : Way) (k : List ℕ) (t : TraceBy w) → Has (K.traces w k) t → IsTraceOfSome K H w k t
   pub entries : (k : List ℕ) (e : Entry) → K.entries k ≡ Some e → IsEntryOfSome K H k e
   pub stored : (d : Digest) (v : Value) → K.stored d ≡ Some v → (digest_of v ≡ d) × IsCleanOfSome H v
   pub entry_stored : (k : List ℕ) (e : Entry) → K.entries k ≡ Some e → IsStored K e.result
-  pub trace_stored : (w : Way) (k : List ℕ) (t : Trace) → Has (K.traces w k) t → IsStored K t.result
+  pub trace_stored : (w : Way) (k : List ℕ) (t : TraceBy w) → Has (K.traces w k) t → IsStored K (result_by w t)
   pub chain : NoneTwice K.chain
   -- no name is both seen and the key of an entry
   pub apart : (i : List ℕ) (d : Digest) (e : Entry) → K.seen i ≡ Some d → ¬ (K.entries i ≡ Some e)

@@ -7,6 +7,7 @@ ghost use Rattle.carte_book.specs.Needs.{IsRule, Reaches};
 ghost use Rattle.carte_book.specs.Reason.{AllClean};
 ghost use Rattle.carte_book.specs.Task.{task_now};
 ghost use Rattle.carte_record.specs.declared.batch.Batch.{Batch};
+ghost use Rattle.carte_record.specs.declared.deep_trace.DeepTrace.{DeepTrace};
 ghost use Rattle.carte_record.specs.declared.start.Start.TheVariants.{GoOn};
 ghost use Rattle.carte_record.specs.declared.way.Way.TheVariants.{Deep};
 ghost use Rattle.carte_record.specs.Folds.{apply};
@@ -15,16 +16,16 @@ ghost use Rattle.carte_sound.specs.Base.{HasDistinctDigests, IsBase};
 ghost use Rattle.carte_sound.specs.Begun.{Beginning, IsBeginning, IsByRole, begin};
 ghost use Rattle.carte_sound.specs.Beneath.{beneath, rules_beneath};
 ghost use Rattle.carte_sound.specs.Carries.{Carries};
-ghost use Rattle.carte_sound.specs.DeepRules.{DeepTrace, IsDeepNow, IsDeepTraceOf, deep_trace_of};
 ghost use Rattle.carte_sound.specs.Finished.{AreFinished};
-ghost use Rattle.carte_sound.specs.Held.{How, IsHeld, tracing};
+ghost use Rattle.carte_sound.specs.Held.{AreLinks, How, IsHeld, tracing};
 ghost use Rattle.carte_sound.specs.LeadsTo.{LeadsInOrder, LeadsRefused, LeadsRestarting, LeadsSuspending, marks_left};
 ghost use Rattle.carte_sound.specs.Left.{Finishes, keys_of, left};
 ghost use Rattle.carte_value.specs.Lists.{Has};
-ghost use Rattle.carte_sound.specs.Marks.{IsFresh};
+ghost use Rattle.carte_sound.specs.Marks.{IsFresh, present};
 ghost use Rattle.carte_sound.specs.Results.{HasResult, IsKeptNow};
 ghost use Rattle.carte_sound.specs.Sound.{IsSound};
 ghost use Rattle.carte_sound.specs.Treated.{IsDoneRestarting, IsDoneSuspending};
+ghost use Rattle.carte_sound.specs.True.{IsTraceOf, deep_trace};
 
 /// Nothing kept is sound for every history.
 pub fn nothing_is_sound()
@@ -92,9 +93,9 @@ pub fn batch_keeps_reached()
     ensures deep_restarting { (h : How) (K : SomeKept) (H : List Book) (b : Book) (targets : List (List ℕ)) (B : Batch) → IsSound K H → HasDistinctDigests (H ++ b ∷ []) → (brings : LeadsRestarting h K b targets B) → (k : List ℕ) → IsDoneRestarting h (begin K brings.begun) b targets k → IsKeptNow (apply B K) b k }
 {}
 
-/// A deep trace that names the rules beneath its key is the key's trace of the present book where these rules and the inputs
-/// beneath are the present ones, and it holds wherever they are.
+/// A deep trace whose rules and inputs are the present ones is the key's trace of the present book, and it holds wherever
+/// they are.
 pub fn deep_rules_hold()
-    ensures held { (H : List Book) (c b : Book) (k : List ℕ) (t : DeepTrace) → HasDistinctDigests H → Has H c → Has H b → IsDeepTraceOf c k t → IsDeepNow b t → t ≡ deep_trace_of b k }
-    ensures unchanged { (b c : Book) (k : List ℕ) (t : DeepTrace) → IsDeepTraceOf c k t → ((i : List ℕ) → Among (rules_beneath c k) i → task_now b i ≡ task_now c i) → ((i : List ℕ) → Among (beneath c k) i → content b i ≡ content c i) → IsDeepNow b t }
+    ensures held { (H : List Book) (c b : Book) (k : List ℕ) (t : DeepTrace) → HasDistinctDigests H → Has H c → Has H b → IsTraceOf Deep c k t → AreLinks (task_now b) t.tasks → AreLinks (present b) t.links → t ≡ deep_trace b k }
+    ensures unchanged { (b c : Book) (k : List ℕ) (t : DeepTrace) → IsTraceOf Deep c k t → ((i : List ℕ) → Among (rules_beneath c k) i → task_now b i ≡ task_now c i) → ((i : List ℕ) → Among (beneath c k) i → content b i ≡ content c i) → AreLinks (task_now b) t.tasks × AreLinks (present b) t.links }
 {}

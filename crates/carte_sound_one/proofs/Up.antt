@@ -11,15 +11,14 @@ use Rattle.carte_book.specs.Task.{task_digest_of, task_now}
 use Rattle.carte_book.proofs.Tasks.{one_task, task_of_rule}
 use Rattle.carte_record.specs.Kept.{nothing_kept}
 use Rattle.carte_record.specs.declared.entry.Entry.{Entry}
-use Rattle.carte_record.specs.declared.trace.Trace.{Trace}
 use Rattle.carte_record.specs.declared.way.Way.{Way}
-use Rattle.carte_record.specs.declared.way.Way.TheVariants.{Verifying, Constructive, Deep}
+use Rattle.carte_record.specs.Ways.{TraceBy}
 use Rattle.carte_record_one.specs.Kept.{SomeKeptOne, is_fresh_one}
 use Rattle.carte_record_one.specs.declared.entry.EntryOne.{EntryOne}
 use Rattle.carte_sound.specs.Begun.{is_digest}
 use Rattle.carte_sound.specs.Base.{SameRules, HasDistinctDigests}
 use Rattle.carte_sound.specs.Sound.{IsRuled, IsFreshIn, IsEntryOfSome, IsTraceOfSome, IsSound}
-use Rattle.carte_sound.specs.True.{or_none, wanted_task, trace_of}
+use Rattle.carte_sound.specs.True.{or_none}
 use Rattle.carte_sound.proofs.Begins.{has_left, has_last}
 use Rattle.carte_sound.proofs.Begun.{not_both}
 use Rattle.carte_sound.proofs.Histories.{nothing_sound}
@@ -28,8 +27,8 @@ use Rattle.carte_sound.proofs.Tests.{same_digest}
 use Rattle.carte_sound_one.specs.Marks.{IsFreshOne, LeadsOne, need, on}
 use Rattle.carte_sound_one.specs.Sound.{StoodOne, IsFreshInOne, IsSoundOne}
 use Rattle.carte_sound_one.specs.True.{IsEntryOfOne}
-use Rattle.carte_sound_one.specs.Up.{raised_entry, raised_trace, raised, up}
-use Rattle.carte_sound_one.proofs.Raised.{raised_from, raised_at, trace_from, led_before, fresh_at}
+use Rattle.carte_sound_one.specs.Up.{raised_entry, raised, up}
+use Rattle.carte_sound_one.proofs.Raised.{raised_from, raised_at, trace_from, raised_result, raised_of, led_before, fresh_at}
 
 module _ (K : SomeKeptOne) (H : List Book) (b : Book) (sound : IsSoundOne K H) (distinct : HasDistinctDigests (H ++ b ∷ [])) (rules : K.rules ≡ Some (rules_digest_of b)) where
   -- a book that stood with the kept rules has the digest of the present ones
@@ -45,11 +44,6 @@ module _ (K : SomeKeptOne) (H : List Book) (b : Book) (sound : IsSoundOne K H) (
 
   task_same : (c : Book) → StoodOne H K c → (k : List ℕ) (f : Tree) → content c k ≡ Some (rule f) → task_now b k ≡ task_now c k
   task_same c stood k f is = let same = to_now c stood in one_task b c k k f (sym same.kind) (same.rules k f is) is
-
-  wanted_same : (w : Way) (c : Book) → StoodOne H K c → (k : List ℕ) (f : Tree) → content c k ≡ Some (rule f) → wanted_task w b k ≡ wanted_task w c k
-  wanted_same Verifying c stood k f is = task_same c stood k f is
-  wanted_same Constructive c stood k f is = task_same c stood k f is
-  wanted_same Deep c stood k f is = ap Some (sym (digest_same c stood))
 
   -- two books that stood have the same rules
   rule_over : (c d : Book) → StoodOne H K c → StoodOne H K d → (k : List ℕ) → IsRule c k → IsRule d k
@@ -110,12 +104,11 @@ module _ (K : SomeKeptOne) (H : List Book) (b : Book) (sound : IsSoundOne K H) (
         fresh = λ fresh. fresh_raised s.book s.stood k d from.1 fresh (s.fresh fresh);
       })
 
-  trace_raised : (w : Way) (k : List ℕ) (t : Trace) → Has ((raised K b).traces w k) t → IsTraceOfSome (raised K b) (H ++ b ∷ []) w k t
+  trace_raised : (w : Way) (k : List ℕ) (t : TraceBy w) → Has ((raised K b).traces w k) t → IsTraceOfSome (raised K b) (H ++ b ∷ []) w k t
   trace_raised w k t there =
       let from = trace_from K b w k t there in
       let s = sound.traces w k from.0 from.1 in
       let o = s.trace in
-      let wanted = wanted_same w s.book s.stood k o.formula o.is_rule in
       record {
         book = s.book;
         stood = has_left H (b ∷ []) s.book s.stood.stood;
@@ -124,7 +117,7 @@ module _ (K : SomeKeptOne) (H : List Book) (b : Book) (sound : IsSoundOne K H) (
           is_rule = o.is_rule;
           value = o.value;
           clean = o.clean;
-          trace = from.2 ∙ ap (raised_trace w b) o.trace ∙ ap (λ (a : Option Digest). let y : Trace = record (trace_of w s.book k) { task = or_none a } in y) wanted;
+          trace = raised_of K b w s.book k t from.0 from.2 o.trace (task_same s.book s.stood k o.formula o.is_rule);
         };
         entry = raised_entry b s.entry;
         kept = raised_at K b k s.entry s.kept;
@@ -142,7 +135,7 @@ module _ (K : SomeKeptOne) (H : List Book) (b : Book) (sound : IsSoundOne K H) (
     trace_stored = λ w k t there.
         let from = trace_from K b w k t there in
         let s = sound.trace_stored w k from.0 from.1 in
-        (s.0, ap (λ (y : Trace). K.stored y.result) from.2 ∙ s.1);
+        (s.0, ap K.stored (raised_result K b w t from.0 from.2) ∙ s.1);
     chain = sound.chain;
     apart = λ i d e seen kept.
         let from = raised_from K b i e kept in

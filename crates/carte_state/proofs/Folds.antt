@@ -1,33 +1,46 @@
 -- Laws of what bodies make, one after another.
-use Rattle.std.proofs.Common.{◌≡◌, ℕ, ◌+◌, ◌<◌, List, [], ◌∷◌, ◌++◌, Some, None, arith, length, take, drop, get_or, sym, ◌∙◌, ap, subst, inl, inr}
+use Rattle.std.proofs.Common.{◌≡◌, ℕ, ◌+◌, ◌<◌, List, [], ◌∷◌, ◌++◌, arith, length, take, drop, get_or, sym, ◌∙◌, ap, subst, inl, inr}
 use Rattle.std.proofs.lemmas.List.{drop_more, take-append-drop}
 use Rattle.carte_journal.specs.Frames.{Bad, BodyAt, Ends, Reading}
 use Rattle.carte_record.specs.Bodies.{IsBody}
 use Rattle.carte_record.specs.BodyLaws as second
+use Rattle.carte_record.specs.Three.{IsBodyThree}
+use Rattle.carte_record.specs.ThreeLaws as third
 use Rattle.carte_record.specs.Folds.{apply}
 use Rattle.carte_record.specs.declared.batch.Batch.{Batch}
 use Rattle.carte_record_one.specs.Bodies.{IsBodyOne}
 use Rattle.carte_record_one.specs.BodyLaws as first
 use Rattle.carte_record_one.specs.declared.batch.BatchOne.{BatchOne}
 use Rattle.carte_state.specs.Folding.{BadAtOne, IsBadBody, IsFolded, KeepsOne, KeepsOrBad, Makes}
-use Rattle.carte_state.specs.Versions.{AnyKept, Begins, InOne, InTwo, IsBodyOf, Phase, Takes, first_byte, kept_of, taken, two_of}
+use Rattle.carte_state.specs.Versions.{AnyKept, Begins, Fresh, InTwo, IsBodyOf, Phase, Takes, first_byte, kept_of, taken, two_of}
 use Rattle.carte_state.specs.declared.any.AnyBatch.{AnyBatch}
-use Rattle.carte_state.specs.declared.any.AnyBatch.TheVariants.{One, Two}
+use Rattle.carte_state.specs.declared.any.AnyBatch.TheVariants.{One, Three, Four}
 
 -- a list, cut at a place
 pub cut_at : {A : Type 0} (xs : List A) (i : ℕ) (x : A) → i < length xs → x ≡ get_or xs i x → xs ≡ take i xs ++ x ∷ drop (i + 1) xs
 cut_at xs i x within is =
     sym (take-append-drop i xs) ∙ ap (λ back. take i xs ++ back) (drop_more xs i x within ∙ ap (λ y. y ∷ drop (i + 1) xs) (sym is))
 
--- bytes are of one batch of either version at most
-pub kinds_differ : (b : BatchOne) (c : Batch) (body : List ℕ) → IsBodyOne b body → IsBody c body → ⊥
-kinds_differ b c body one two = let same : 1 ≡ 3 = ap first_byte (sym one.bytes ∙ two.bytes) in omega (arith, same)
+-- bytes are of one batch of any kind at most
+pub one_not_three : (b : BatchOne) (c : Batch) (body : List ℕ) → IsBodyOne b body → IsBodyThree c body → ⊥
+one_not_three b c body one three = let same : 1 ≡ 3 = ap first_byte (sym one.bytes ∙ three.bytes) in omega (arith, same)
+
+pub one_not_four : (b : BatchOne) (c : Batch) (body : List ℕ) → IsBodyOne b body → IsBody c body → ⊥
+one_not_four b c body one four = let same : 1 ≡ 4 = ap first_byte (sym one.bytes ∙ four.bytes) in omega (arith, same)
+
+three_not_four : (b c : Batch) (body : List ℕ) → IsBodyThree b body → IsBody c body → ⊥
+three_not_four b c body three four = let same : 3 ≡ 4 = ap first_byte (sym three.bytes ∙ four.bytes) in omega (arith, same)
 
 pub any_body_one : (A C : AnyBatch) (body : List ℕ) → IsBodyOf A body → IsBodyOf C body → A ≡ C
 any_body_one (One b) (One c) body is so = ap One (first.one_body b c body is so)
-any_body_one (One b) (Two c) body is so = absurd (kinds_differ b c body is so)
-any_body_one (Two b) (One c) body is so = absurd (kinds_differ c b body so is)
-any_body_one (Two b) (Two c) body is so = ap Two (second.one_body b c body is so)
+any_body_one (One b) (Three c) body is so = absurd (one_not_three b c body is so)
+any_body_one (One b) (Four c) body is so = absurd (one_not_four b c body is so)
+any_body_one (Three b) (One c) body is so = absurd (one_not_three c b body so is)
+any_body_one (Three b) (Three c) body is so = ap Three (third.one_body_three b c body is so)
+any_body_one (Three b) (Four c) body is so = absurd (three_not_four b c body is so)
+any_body_one (Four b) (One c) body is so = absurd (one_not_four c b body so is)
+any_body_one (Four b) (Three c) body is so = absurd (three_not_four c b body so is)
+any_body_one (Four b) (Four c) body is so = ap Four (second.one_body b c body is so)
 
 -- one body more
 pub folded_push : (p q : Phase) (bodies : List BodyAt) (body : BodyAt) (A : AnyBatch) → IsFolded p bodies q → IsBodyOf A body.1 → Takes q A
@@ -74,18 +87,13 @@ folded_not_bad p (body ∷ bodies) q at folded (inr (C, so, can, bad)) =
 
 -- bodies make one thing, and with a batch more what it makes of that
 pub makes_one : (bodies : List BodyAt) (K L : AnyKept) → Makes bodies K → Makes bodies L → K ≡ L
-makes_one bodies K L one two = one.kept ∙ ap kept_of (folded_one None bodies one.phase two.phase one.folded two.folded) ∙ sym two.kept
-
-may_come : (p : Phase) (B : Batch) → Begins (kept_of p) B → Takes p (Two B)
-may_come None B begins = tt
-may_come (Some (InOne K)) B begins = begins
-may_come (Some (InTwo K)) B begins = tt
+makes_one bodies K L one two = one.kept ∙ ap kept_of (folded_one Fresh bodies one.phase two.phase one.folded two.folded) ∙ sym two.kept
 
 pub makes_push : (bodies : List BodyAt) (body : BodyAt) (K : AnyKept) (B : Batch) → Makes bodies K → Begins K B → IsBody B body.1
     → Makes (bodies ++ body ∷ []) (InTwo (apply B (two_of K)))
 makes_push bodies body K B makes begins batch = record {
-  phase = taken (Two B) makes.phase;
-  folded = folded_push None makes.phase bodies body (Two B) makes.folded batch (may_come makes.phase B (subst (λ L. Begins L B) makes.kept begins));
+  phase = taken (Four B) makes.phase;
+  folded = folded_push Fresh makes.phase bodies body (Four B) makes.folded batch (subst (λ L. Begins L B) makes.kept begins);
   kept = ap (λ L. InTwo (apply B (two_of L))) makes.kept;
 }
 
@@ -105,11 +113,11 @@ bad_at_one limit file at offset (inl one) (inl two) = let same : Bad at ≡ Bad 
 bad_at_one limit file at offset (inl one) (inr two) = absurd (not_both _ two.gate at two.bodies two.reads one)
 bad_at_one limit file at offset (inr one) (inl two) = absurd (not_both _ one.gate offset one.bodies one.reads two)
 bad_at_one limit file at offset (inr one) (inr two) =
-    bad_one None one.bodies at offset one.bad
-    (subst (λ bs. IsBadBody None bs offset) (sym (bodies_same _ one.gate two.gate one.bodies two.bodies one.reads two.reads)) two.bad)
+    bad_one Fresh one.bodies at offset one.bad
+    (subst (λ bs. IsBadBody Fresh bs offset) (sym (bodies_same _ one.gate two.gate one.bodies two.bodies one.reads two.reads)) two.bad)
 
 pub keeps_or_bad : KeepsOrBad
 keeps_or_bad limit file K at keeps (inl bad) = not_both _ keeps.gate at keeps.bodies keeps.reads bad
 keeps_or_bad limit file K at keeps (inr bad) =
-    folded_not_bad None keeps.bodies keeps.makes.phase at keeps.makes.folded
-    (subst (λ bs. IsBadBody None bs at) (sym (bodies_same _ keeps.gate bad.gate keeps.bodies bad.bodies keeps.reads bad.reads)) bad.bad)
+    folded_not_bad Fresh keeps.bodies keeps.makes.phase at keeps.makes.folded
+    (subst (λ bs. IsBadBody Fresh bs at) (sym (bodies_same _ keeps.gate bad.gate keeps.bodies bad.bodies keeps.reads bad.reads)) bad.bad)

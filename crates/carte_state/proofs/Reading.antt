@@ -1,5 +1,5 @@
 -- Bodies that are read one by one, or in parts, and then put together.
-use Rattle.std.proofs.Common.{◌≡◌, ℕ, suc, List, [], ◌∷◌, ◌++◌, Option, Some, None, Result, Ok, Err, Vec, length, arith, refl, sym, ◌∙◌, ap, subst, append_assoc, append-nil, inl}
+use Rattle.std.proofs.Common.{◌≡◌, ℕ, suc, true, false, List, [], ◌∷◌, ◌++◌, Option, Some, None, Result, Ok, Err, Vec, length, arith, refl, sym, ◌∙◌, ap, subst, append_assoc, append-nil, inl}
 use Rattle.carte_name.specs.declared.NoMemory.{NoMemory}
 use Rattle.carte_journal.specs.Frames.{BodyAt}
 use Rattle.carte_journal.specs.declared.faults.LoadFault.{LoadFault}
@@ -7,15 +7,17 @@ use Rattle.carte_journal.specs.declared.faults.LoadFault.TheVariants as fault
 use Rattle.carte_record.specs.declared.batch.Batch.{Batch}
 use Rattle.carte_record_one.specs.declared.batch.BatchOne.{BatchOne}
 use Rattle.carte_record.specs.Bodies.{IsDecoded}
+use Rattle.carte_record.specs.Three.{IsDecodedThree}
+use Rattle.carte_record.specs.Folds.{apply}
+use Rattle.carte_record.specs.Kept.{kept_view}
+use Rattle.carte_record.specs.declared.kept.Kept.{Kept}
 use Rattle.carte_record_one.specs.Bodies.{IsDecodedOne}
 use Rattle.carte_state.specs.Folding.{IsBadBody, IsFolded}
-use Rattle.carte_state.specs.Parts.{AllPairs, AreFound, IsFoundIn, IsNext, made_at, made_view, ReadsEach, ReadsPart, ReadsTo, bodies_in}
-use Rattle.carte_record.specs.Kept.{nothing_kept}
-use Rattle.carte_record.specs.declared.start.Start.TheVariants.{Cleared}
-use Rattle.carte_record_one.specs.Kept.{SomeKeptOne, nothing_kept_one}
-use Rattle.carte_state.specs.Versions.{InOne, InTwo, IsBodyOf, IsDecodedAny, Phase, Takes, as_any, first_byte}
+use Rattle.carte_state.specs.Parts.{AllPairs, AreFound, Finds, IsFoundIn, IsNext, is_behind_four, made_at, made_view, ReadsEach, ReadsPart, ReadsTo, bodies_in}
+use Rattle.carte_record_one.specs.Kept.{nothing_kept_one}
+use Rattle.carte_state.specs.Versions.{Begins, Fours, Fresh, IsBodyOf, IsDecodedAny, Ones, Phase, Takes, TakesThree, Threes, as_any, first_byte, kept_of}
 use Rattle.carte_state.specs.declared.any.AnyBatch.{AnyBatch}
-use Rattle.carte_state.specs.declared.any.AnyBatch.TheVariants.{One, Two}
+use Rattle.carte_state.specs.declared.any.AnyBatch.TheVariants.{One, Three, Four}
 use Rattle.carte_state.specs.declared.parts.Found.{Found}
 use Rattle.carte_state.specs.declared.parts.Part.{Part}
 use Rattle.carte_state.specs.declared.made.Made.{Made}
@@ -24,24 +26,36 @@ use Rattle.carte_state.proofs.Folds.{any_body_one, bad_behind, bad_in_front, fol
 
 -- ---- bytes
 
--- bytes of the first version are none of the second, and so the other way round
+-- bytes of one kind are none of another
 pub one_decoded : (body : List ℕ) (r : Result (Option BatchOne) NoMemory) → first_byte body ≡ 1 → IsDecodedOne body r → IsDecodedAny body (as_any One r)
 one_decoded body (Ok (Some B)) kind is = is
 one_decoded body (Ok None) kind none = only
   where
     only : (A : AnyBatch) → ¬ (IsBodyOf A body)
     only (One B) is = none B is
-    only (Two B) is = let clash : 1 ≡ 3 = sym kind ∙ ap first_byte is.bytes in omega (arith, clash)
+    only (Three B) is = let clash : 1 ≡ 3 = sym kind ∙ ap first_byte is.bytes in omega (arith, clash)
+    only (Four B) is = let clash : 1 ≡ 4 = sym kind ∙ ap first_byte is.bytes in omega (arith, clash)
 one_decoded body (Err e) kind is = tt
 
-pub two_decoded : (body : List ℕ) (r : Result (Option Batch) NoMemory) → ¬ (first_byte body ≡ 1) → IsDecoded body r → IsDecodedAny body (as_any Two r)
-two_decoded body (Ok (Some B)) kind is = is
-two_decoded body (Ok None) kind none = only
+pub three_decoded : (body : List ℕ) (r : Result (Option Batch) NoMemory) → first_byte body ≡ 3 → IsDecodedThree body r → IsDecodedAny body (as_any Three r)
+three_decoded body (Ok (Some B)) kind is = is
+three_decoded body (Ok None) kind none = only
   where
     only : (A : AnyBatch) → ¬ (IsBodyOf A body)
-    only (One B) is = kind (ap first_byte is.bytes)
-    only (Two B) is = none B is
-two_decoded body (Err e) kind is = tt
+    only (One B) is = let clash : 3 ≡ 1 = sym kind ∙ ap first_byte is.bytes in omega (arith, clash)
+    only (Three B) is = none B is
+    only (Four B) is = let clash : 3 ≡ 4 = sym kind ∙ ap first_byte is.bytes in omega (arith, clash)
+three_decoded body (Err e) kind is = tt
+
+pub four_decoded : (body : List ℕ) (r : Result (Option Batch) NoMemory) → ¬ (first_byte body ≡ 1) → ¬ (first_byte body ≡ 3) → IsDecoded body r → IsDecodedAny body (as_any Four r)
+four_decoded body (Ok (Some B)) one three is = is
+four_decoded body (Ok None) one three none = only
+  where
+    only : (A : AnyBatch) → ¬ (IsBodyOf A body)
+    only (One B) is = one (ap first_byte is.bytes)
+    only (Three B) is = three (ap first_byte is.bytes)
+    only (Four B) is = none B is
+four_decoded body (Err e) one three is = tt
 
 -- ---- items in pairs
 
@@ -163,22 +177,41 @@ same_fault view seen p bodies (fault.BadState at) reads = reads
 same_fault view seen p bodies fault.DiskFault reads = reads
 same_fault view seen p bodies fault.NoMemory reads = reads
 
--- the first batch finds nothing kept, of its version
-pub first_one : (B : BatchOne) (r : Result (Option Made) NoMemory) → IsNext (Some (InOne nothing_kept_one)) (One B) r → IsNext None (One B) r
+-- the first batch of version 1 finds nothing kept
+pub first_one : (B : BatchOne) (r : Result (Option Made) NoMemory) → IsNext (Ones nothing_kept_one) (One B) r → IsNext Fresh (One B) r
 first_one B (Ok None) next = next
 first_one B (Ok (Some m)) next = next
 first_one B (Err e) next = next
 
-pub first_two : (B : Batch) (r : Result (Option Made) NoMemory) → IsNext (Some (InTwo nothing_kept)) (Two B) r → IsNext None (Two B) r
-first_two B (Ok None) next = next
-first_two B (Ok (Some m)) next = next
-first_two B (Err e) next = next
+-- a batch of version 2, by what it finds
+pub next_four : (p : Phase) (K : Kept) (B : Batch) (r : Result (Option Made) NoMemory) → Finds p B (Some K) → IsNext (Fours (kept_view K)) (Four B) r → IsNext p (Four B) r
+next_four p K B (Ok None) found never = absurd (never tt)
+next_four p K B (Ok (Some m)) found next = (found.0, next.1 ∙ ap (λ L. Fours (apply B L)) found.1)
+next_four p K B (Err e) found next = tt
 
--- and so does one of version 2 behind those of version 1
-pub behind_one : (K : SomeKeptOne) (B : Batch) (r : Result (Option Made) NoMemory) → B.start ≡ Cleared → IsNext (Some (InTwo nothing_kept)) (Two B) r → IsNext (Some (InOne K)) (Two B) r
-behind_one K B (Ok None) cleared never = absurd (never tt)
-behind_one K B (Ok (Some m)) cleared next = (cleared, next.1)
-behind_one K B (Err e) cleared next = tt
+takes_three : (p : Phase) (B : Batch) → is_behind_four p ≡ false → Begins (kept_of p) B → TakesThree p B
+takes_three Fresh B before begins = tt
+takes_three (Ones K) B before begins = begins
+takes_three (Threes K) B before begins = tt
+takes_three (Fours K) B before begins = let clash : true ≡ false = before in cc
+
+pub next_three : (p : Phase) (K : Kept) (B : Batch) (r : Result (Option Made) NoMemory) → is_behind_four p ≡ false → Finds p B (Some K) → IsNext (Threes (kept_view K)) (Three B) r → IsNext p (Three B) r
+next_three p K B (Ok None) before found never = absurd (never tt)
+next_three p K B (Ok (Some m)) before found next = (takes_three p B before found.0, next.1 ∙ ap (λ L. Threes (apply B L)) found.1)
+next_three p K B (Err e) before found next = tt
+
+-- and where it may not come
+pub behind_four : (p : Phase) (B : Batch) → is_behind_four p ≡ true → ¬ (Takes p (Three B))
+behind_four Fresh B is = let clash : false ≡ true = is in cc
+behind_four (Ones K) B is = let clash : false ≡ true = is in cc
+behind_four (Threes K) B is = let clash : false ≡ true = is in cc
+behind_four (Fours K) B is = λ never. never
+
+pub no_begin : (p : Phase) (B : Batch) → ¬ (Begins (kept_of p) B) → ¬ (Takes p (Three B))
+no_begin Fresh B none = λ takes. none tt
+no_begin (Ones K) B none = none
+no_begin (Threes K) B none = λ takes. none tt
+no_begin (Fours K) B none = λ never. never
 
 -- one body more, by what its batch makes
 pub body_reads : (p : Phase) (body : BodyAt) (A : AnyBatch) (at : ℕ) → at ≡ body.0 → IsBodyOf A body.1 → (r : Result (Option Made) NoMemory) → IsNext p A r

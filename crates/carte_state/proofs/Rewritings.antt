@@ -9,7 +9,7 @@ use Rattle.carte_journal.specs.Regions.{Planned, bytes_of, gate_of, placed_at, s
 use Rattle.carte_state.specs.Folding.{IsFolded, Keeps, Makes}
 use Rattle.carte_state.specs.Rewriting.{IsRegionFor, step_over, with_journal}
 use Rattle.carte_state.specs.States.{IsKeptOn, Stand, any_in, any_of, kept_in}
-use Rattle.carte_state.specs.Versions.{AnyKept, InTwo, Phase, taken}
+use Rattle.carte_state.specs.Versions.{AnyKept, Fresh, InTwo, Phase, taken}
 
 -- where bodies stand doesn't count
 folded_placed : (p q : Phase) (at : ℕ) (bodies : List BodyAt) → IsFolded p bodies q → IsFolded p (placed_at at (bytes_of bodies)) q
@@ -18,7 +18,7 @@ folded_placed p q at (body ∷ bodies) folded =
     (folded.0, folded.1, folded.2, folded_placed (taken folded.0 p) q (end_of at body.1) bodies folded.3)
 
 makes_placed : (K : AnyKept) (at : ℕ) (bodies : List BodyAt) → Makes bodies K → Makes (placed_at at (bytes_of bodies)) K
-makes_placed K at bodies makes = record { phase = makes.phase; folded = folded_placed None makes.phase at bodies makes.folded; kept = makes.kept }
+makes_placed K at bodies makes = record { phase = makes.phase; folded = folded_placed Fresh makes.phase at bodies makes.folded; kept = makes.kept }
 
 module _ (s : Stand) (new : s.one ≡ None) (p : Planned) (old : Story) (on : IsKeptOn s old) (is : IsRegionFor (kept_in s) p) where
   placed : Makes (placed_at p.at (bytes_of is.bodies)) (any_in s)

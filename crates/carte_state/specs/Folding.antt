@@ -1,14 +1,14 @@
 -- What a file keeps: what its bodies make, one after another.
-use Rattle.std.specs.Prelude.{◌≡◌, ◌⊎◌, ℕ, List, [], ◌∷◌, None}
+use Rattle.std.specs.Prelude.{◌≡◌, ◌⊎◌, ℕ, List, [], ◌∷◌}
 use Rattle.carte_journal.specs.Frames.{Bad, BodyAt, Ends, reading}
 use Rattle.carte_record.specs.Kept.{SomeKept}
 use Rattle.carte_record_one.specs.Bodies.{IsBodyOne}
 use Rattle.carte_record_one.specs.Kept.{SomeKeptOne}
 use Rattle.carte_record_one.specs.declared.batch.BatchOne.{BatchOne}
 use Rattle.carte_state.specs.declared.any.AnyBatch.{AnyBatch}
-use Rattle.carte_state.specs.Versions.{AnyKept, InOne, InTwo, IsBodyOf, Phase, Takes, kept_of, taken}
+use Rattle.carte_state.specs.Versions.{AnyKept, Fresh, InOne, InTwo, IsBodyOf, Phase, Takes, kept_of, taken}
 
--- the bodies are batches, each where one of its version may come, and put into what was made they make this
+-- the bodies are batches, each where one of its kind may come, and put into what was made they make this
 abbrev pub IsFolded : Phase → List BodyAt → Phase → Type 0
 IsFolded p [] q = q ≡ p
 IsFolded p (body ∷ bodies) q = (A : AnyBatch) × IsBodyOf A body.1 × Takes p A × IsFolded (taken A p) bodies q
@@ -22,7 +22,7 @@ IsBadBody p (body ∷ bodies) at =
 -- what bodies make of nothing
 pub record Makes (bodies : List BodyAt) (K : AnyKept) : Type 0 where
   pub phase : Phase
-  pub folded : IsFolded None bodies phase
+  pub folded : IsFolded Fresh bodies phase
   pub kept : K ≡ kept_of phase
 
 -- what the bytes of a file keep
@@ -37,7 +37,7 @@ pub record HasBadBody (limit : ℕ) (file : List ℕ) (at : ℕ) : Type 0 where
   pub gate : ℕ
   pub bodies : List BodyAt
   pub reads : reading limit file ≡ Ends gate bodies
-  pub bad : IsBadBody None bodies at
+  pub bad : IsBadBody Fresh bodies at
 
 -- the offset at which a state is bad
 abbrev pub IsBadState : ℕ → List ℕ → ℕ → Type 0

@@ -1,27 +1,42 @@
 -- Bodies as they are read, one by one or in neighbouring parts, and put together.
-use Rattle.std.specs.Prelude.{◌≡◌, ◌<◌, ℕ, List, [], ◌∷◌, ◌++◌, Option, Some, None, Result, Ok, Err, Vec, length, slice_index_or}
+use Rattle.std.specs.Prelude.{◌≡◌, ◌<◌, ℕ, Bool, true, false, List, [], ◌∷◌, ◌++◌, Option, Some, None, Result, Ok, Err, Vec, length, slice_index_or}
 use Rattle.carte_name.specs.declared.NoMemory.{NoMemory}
 use Rattle.carte_journal.specs.Frames.{BodyAt}
 use Rattle.carte_journal.specs.declared.faults.LoadFault.{LoadFault}
 use Rattle.carte_journal.specs.declared.faults.LoadFault.TheVariants as fault
 use Rattle.carte_record.specs.Kept.{kept_view}
+use Rattle.carte_record.specs.declared.batch.Batch.{Batch}
+use Rattle.carte_record.specs.declared.kept.Kept.{Kept}
 use Rattle.carte_record_one.specs.Kept.{kept_one_view}
 use Rattle.carte_state.specs.Folding.{IsBadBody, IsFolded}
-use Rattle.carte_state.specs.Versions.{InOne, InTwo, IsBatchOf, Phase, Takes, taken}
+use Rattle.carte_state.specs.Versions.{Begins, Fours, Fresh, IsBatchOf, Ones, Phase, Takes, Threes, kept_of, taken, two_of}
 use Rattle.carte_state.specs.declared.any.AnyBatch.{AnyBatch}
 use Rattle.carte_state.specs.declared.made.Made.{Made}
-use Rattle.carte_state.specs.declared.made.Made.TheVariants.{Nothing, Old, Now}
+use Rattle.carte_state.specs.declared.made.Made.TheVariants.{Nothing, Old, Before, Now}
 use Rattle.carte_state.specs.declared.parts.Cuts.{Cuts}
 use Rattle.carte_state.specs.declared.parts.Found.{Found}
 use Rattle.carte_state.specs.declared.parts.Part.{Part}
 
 -- what bodies have made, as contracts see it
 abbrev pub made_view : Made → Phase
-made_view Nothing = None
-made_view (Old K) = Some (InOne (kept_one_view K))
-made_view (Now K) = Some (InTwo (kept_view K))
+made_view Nothing = Fresh
+made_view (Old K) = Ones (kept_one_view K)
+made_view (Before K) = Threes (kept_view K)
+made_view (Now K) = Fours (kept_view K)
 
--- with a batch more, or none where one of its version may not come there
+-- what a batch of version 2 finds, or none where it may not begin there
+abbrev pub Finds : Phase → Batch → Option Kept → Type 0
+Finds p B (Some K) = Begins (kept_of p) B × (kept_view K ≡ two_of (kept_of p))
+Finds p B None = ¬ (Begins (kept_of p) B)
+
+-- one of kind 4 has come
+abbrev pub is_behind_four : Phase → Bool
+is_behind_four Fresh = false
+is_behind_four (Ones K) = false
+is_behind_four (Threes K) = false
+is_behind_four (Fours K) = true
+
+-- with a batch more, or none where one of its kind may not come there
 abbrev pub IsNext : Phase → AnyBatch → Result (Option Made) NoMemory → Type 0
 IsNext p A (Ok None) = ¬ (Takes p A)
 IsNext p A (Ok (Some m)) = Takes p A × (made_view m ≡ taken A p)

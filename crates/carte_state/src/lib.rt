@@ -6,7 +6,10 @@
 //!
 //! Bodies are of version 1 or of version 2, which their first byte tells. Those of version 1 are only read: `old` gives
 //! what they make, and the first batch that is applied begins cleared and is of version 2, as are all behind it. Turned
-//! down: to read them as batches of version 2, whose entries and traces have a task that version 1 doesn't know.
+//! down: to read them as batches of version 2, whose entries and traces have a task that version 1 doesn't know. Of
+//! version 2 there are two kinds, 3 and 4, of which 4 alone is written: 3 is read without its deep traces, since these
+//! don't name the rules beneath their key. Nothing else is lost then, so such a state is none of version 1, and a body of
+//! kind 4 may stand behind it as it is.
 //!
 //! `load_by` reads the bodies in neighbouring parts, each on a thread of its own, and puts them together in their order.
 //! Parts have as many bytes, since the first body of a file often has most of them. A pool of threads that take one body

@@ -1,10 +1,11 @@
 // Reading what a file keeps.
-ghost use Rattle.std.specs.Prelude.{◌≡◌, ◌≢◌, ◌<◌, ◌^◌, ◌∷◌, [], ℕ, false, length, List, None, IfOk, Err};
+ghost use Rattle.std.specs.Prelude.{◌≡◌, ◌≢◌, ◌<◌, ◌^◌, ◌∷◌, [], ℕ, false, length, List, IfOk, Err};
 ghost use Rattle.carte_io.specs.Causes.{HasCauseOf};
 ghost use Rattle.carte_state.specs.Folding.{IsBadBody, IsBadState, IsFolded};
 ghost use Rattle.carte_state.specs.Parts.{ReadsEach, ReadsPart, ReadsTo, bodies_in, made_view};
 ghost use Rattle.carte_state.specs.declared.parts.Part.{Part as SomePart};
 ghost use Rattle.carte_state.specs.States.{IsLoaded};
+ghost use Rattle.carte_state.specs.Versions.{Fresh};
 
 use crate::made::Made;
 use crate::parts::{Found, bytes_of, cut, found_in, part_count, read_parts};
@@ -31,7 +32,7 @@ impl State {
         ensures starts { IfOk result (λ s. (s.journal.limit ≡ limit) × (s.journal.broken ≡ false)) }
 
         // A state is bad exactly where the definition says: the first frame that doesn't lie in the file, or else the
-        // first body that is no batch, or is one of a version that can't come there.
+        // first body that is no batch, or is one of a kind that can't come there.
         ensures bad { D.tells → (offset : ℕ) → result ≡ Err (LoadFault.BadState offset)
             → IsBadState limit (D.story disk.old).now.reads offset }
         ensures cause { HasCauseOf LoadFault.DiskFault (D.faults disk.old) (D.faults disk.new) result }
@@ -77,8 +78,8 @@ fn folded_by<G: Gate, T: Threads + Sync>(
     workers: usize,
     gate: &G,
 ) -> Result<Made, LoadFault>
-    ensures folded { IfOk result (λ made. IsFolded None bodies (made_view made)) }
-    ensures bad { (offset : ℕ) → result ≡ Err (LoadFault.BadState offset) → IsBadBody None bodies offset }
+    ensures folded { IfOk result (λ made. IsFolded Fresh bodies (made_view made)) }
+    ensures bad { (offset : ℕ) → result ≡ Err (LoadFault.BadState offset) → IsBadBody Fresh bodies offset }
     ensures disk { result ≢ Err LoadFault.DiskFault }
 {
     let bytes = bytes_of(bodies.as_slice());
@@ -100,7 +101,7 @@ fn put_together(
     parts: Vec<Result<Vec<Found>, NoMemory>>,
     hasher: Seeded,
 ) -> Result<Made, LoadFault>
-    ensures { (ps : List SomePart) → length parts.items ≡ length ps → ReadsEach ps parts.items → ReadsTo made_view None (bodies_in ps) result }
+    ensures { (ps : List SomePart) → length parts.items ≡ length ps → ReadsEach ps parts.items → ReadsTo made_view Fresh (bodies_in ps) result }
 {
     let mut made = Made::Nothing;
     for part in parts {
@@ -125,8 +126,8 @@ fn take_part(
 
 // What the bodies make of nothing.
 fn folded(alloc: Global, bodies: Bodies, hasher: Seeded) -> Result<Made, LoadFault>
-    ensures folded { IfOk result (λ made. IsFolded None bodies (made_view made)) }
-    ensures bad { (offset : ℕ) → result ≡ Err (LoadFault.BadState offset) → IsBadBody None bodies offset }
+    ensures folded { IfOk result (λ made. IsFolded Fresh bodies (made_view made)) }
+    ensures bad { (offset : ℕ) → result ≡ Err (LoadFault.BadState offset) → IsBadBody Fresh bodies offset }
     ensures disk { result ≢ Err LoadFault.DiskFault }
 {
     take_each(alloc, bodies, hasher)
@@ -134,7 +135,7 @@ fn folded(alloc: Global, bodies: Bodies, hasher: Seeded) -> Result<Made, LoadFau
 
 // Each is let go before what it makes grows.
 fn take_each(alloc: Global, bodies: Bodies, hasher: Seeded) -> Result<Made, LoadFault>
-    ensures { ReadsTo made_view None bodies result }
+    ensures { ReadsTo made_view Fresh bodies result }
 {
     let mut made = Made::Nothing;
     let items = bodies.into_vec();

@@ -1,11 +1,12 @@
 //! What bodies make, one after another.
-ghost use Rattle.std.specs.Prelude.{◌≡◌, ◌∷◌, [], List, Some};
+ghost use Rattle.std.specs.Prelude.{◌≡◌, ◌∷◌, [], List, IfOk};
 ghost use Rattle.carte_journal.specs.Frames.{BodyAt};
+ghost use Rattle.carte_record.specs.Folds.{apply};
 ghost use Rattle.carte_record.specs.Kept.{kept_view};
 ghost use Rattle.carte_record_one.specs.Kept.{SomeKeptOne, kept_one_view};
-ghost use Rattle.carte_state.specs.Parts.{AreFound, IsFoundIn, IsNext, ReadsTo, made_at, made_view};
-ghost use Rattle.carte_state.specs.Versions.{InOne, InTwo};
-ghost use Rattle.carte_state.specs.declared.any.AnyBatch.TheVariants.{One as AsOne, Two as AsTwo};
+ghost use Rattle.carte_state.specs.Parts.{AreFound, Finds, IsFoundIn, IsNext, ReadsTo, is_behind_four, made_at, made_view};
+ghost use Rattle.carte_state.specs.Versions.{Fours, Ones, Threes};
+ghost use Rattle.carte_state.specs.declared.any.AnyBatch.TheVariants.{One as AsOne, Three as AsThree, Four as AsFour};
 
 use crate::LoadFault;
 use crate::any::AnyBatch;
@@ -16,12 +17,14 @@ use carte_value::{NoMemory, Seeded};
 use std::alloc::Global;
 use std::mem::replace;
 
-/// What the bodies so far have made, in their version.
+/// What the bodies so far have made, by their kinds.
 #[derive(Drop)]
 pub(crate) enum Made {
     /// There was none yet.
     Nothing,
     Old(KeptOne),
+    /// There was one of version 2, and none of kind 4.
+    Before(Kept),
     Now(Kept),
 }
 
@@ -75,7 +78,8 @@ impl Made {
     {
         match batch {
             AnyBatch::One(batch) => self.with_one(alloc, batch, hasher),
-            AnyBatch::Two(batch) => self.with_two(alloc, batch, hasher),
+            AnyBatch::Three(batch) => self.with_three(alloc, batch, hasher),
+            AnyBatch::Four(batch) => self.with_four(alloc, batch, hasher),
         }
     }
 
@@ -90,17 +94,62 @@ impl Made {
         match self {
             Made::Nothing => old_with(KeptOne::empty(alloc, hasher), batch),
             Made::Old(kept) => old_with(kept, batch),
+            Made::Before(_) => Ok(None),
             Made::Now(_) => Ok(None),
         }
     }
 
-    fn with_two(self, alloc: Global, batch: Batch, hasher: Seeded) -> Result<Option<Made>, NoMemory>
-        ensures { IsNext (made_view self) (AsTwo batch) result }
+    fn with_three(
+        self,
+        alloc: Global,
+        batch: Batch,
+        hasher: Seeded,
+    ) -> Result<Option<Made>, NoMemory>
+        ensures { IsNext (made_view self) (AsThree batch) result }
+    {
+        if self.is_now() {
+            return Ok(None);
+        }
+        match self.found_by(alloc, &batch, hasher) {
+            Some(kept) => before_with(kept, batch),
+            None => Ok(None),
+        }
+    }
+
+    fn with_four(
+        self,
+        alloc: Global,
+        batch: Batch,
+        hasher: Seeded,
+    ) -> Result<Option<Made>, NoMemory>
+        ensures { IsNext (made_view self) (AsFour batch) result }
+    {
+        match self.found_by(alloc, &batch, hasher) {
+            Some(kept) => now_with(kept, batch),
+            None => Ok(None),
+        }
+    }
+
+    fn is_now(&self) -> bool
+        ensures { result ≡ is_behind_four (made_view self.now) }
     {
         match self {
-            Made::Nothing => now_with(Kept::empty(alloc, hasher), batch),
-            Made::Old(_) => behind_old(alloc, batch, hasher),
-            Made::Now(kept) => now_with(kept, batch),
+            Made::Nothing => false,
+            Made::Old(_) => false,
+            Made::Before(_) => false,
+            Made::Now(_) => true,
+        }
+    }
+
+    // What a batch of version 2 finds, where it may begin there.
+    fn found_by(self, alloc: Global, batch: &Batch, hasher: Seeded) -> Option<Kept>
+        ensures { Finds (made_view self) batch.now result }
+    {
+        match self {
+            Made::Nothing => Some(Kept::empty(alloc, hasher)),
+            Made::Old(_) => found_behind_old(alloc, batch, hasher),
+            Made::Before(kept) => Some(kept),
+            Made::Now(kept) => Some(kept),
         }
     }
 }
@@ -117,7 +166,7 @@ fn made_at(offset: u64, next: Result<Option<Made>, NoMemory>) -> Result<Made, Lo
 }
 
 fn old_with(kept: KeptOne, batch: BatchOne) -> Result<Option<Made>, NoMemory>
-    ensures { IsNext (Some (InOne (kept_one_view kept))) (AsOne batch) result }
+    ensures { IsNext (Ones (kept_one_view kept)) (AsOne batch) result }
 {
     let mut kept = kept;
     match kept.absorb(batch) {
@@ -126,22 +175,38 @@ fn old_with(kept: KeptOne, batch: BatchOne) -> Result<Option<Made>, NoMemory>
     }
 }
 
-fn now_with(kept: Kept, batch: Batch) -> Result<Option<Made>, NoMemory>
-    ensures { IsNext (Some (InTwo (kept_view kept))) (AsTwo batch) result }
+fn before_with(kept: Kept, batch: Batch) -> Result<Option<Made>, NoMemory>
+    ensures { IsNext (Threes (kept_view kept)) (AsThree batch) result }
 {
-    let mut kept = kept;
-    match kept.absorb(batch) {
-        Ok(()) => Ok(Some(Made::Now(kept))),
+    match kept_with(kept, batch) {
+        Ok(kept) => Ok(Some(Made::Before(kept))),
         Err(refused) => Err(refused),
     }
 }
 
+fn now_with(kept: Kept, batch: Batch) -> Result<Option<Made>, NoMemory>
+    ensures { IsNext (Fours (kept_view kept)) (AsFour batch) result }
+{
+    match kept_with(kept, batch) {
+        Ok(kept) => Ok(Some(Made::Now(kept))),
+        Err(refused) => Err(refused),
+    }
+}
+
+fn kept_with(kept: Kept, batch: Batch) -> Result<Kept, NoMemory>
+    ensures { IfOk result (λ new. kept_view new ≡ apply batch (kept_view kept)) }
+{
+    let mut kept = kept;
+    kept.absorb(batch)?;
+    Ok(kept)
+}
+
 // Behind bodies of version 1, whatever they made.
-fn behind_old(alloc: Global, batch: Batch, hasher: Seeded) -> Result<Option<Made>, NoMemory>
-    ensures { (K : SomeKeptOne) → IsNext (Some (InOne K)) (AsTwo batch) result }
+fn found_behind_old(alloc: Global, batch: &Batch, hasher: Seeded) -> Option<Kept>
+    ensures { (K : SomeKeptOne) → Finds (Ones K) batch.now result }
 {
     match batch.start {
-        Start::GoOn => Ok(None),
-        Start::Cleared => now_with(Kept::empty(alloc, hasher), batch),
+        Start::GoOn => None,
+        Start::Cleared => Some(Kept::empty(alloc, hasher)),
     }
 }

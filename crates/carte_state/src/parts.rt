@@ -148,7 +148,7 @@ pub(crate) fn read_parts<G: Gate, T: Threads + Sync>(
 }
 
 // What the bodies of a part are. Each is let go once it is read. One that is no batch doesn't end it, since one before it
-// may be of a version that can't come there, which shows when the parts are put together.
+// may be of a kind that can't come there, which shows when the parts are put together.
 fn read_part<G: Gate>(
     alloc: Global,
     part: Part,

@@ -53,21 +53,24 @@ impl State {
         ensures bare { is_some result.one ≡ true → kept_in result ≡ nothing_kept }
     {
         match made {
-            Made::Nothing => State {
-                journal,
-                kept: Kept::empty(alloc, hasher),
-                one: None,
-            },
+            Made::Nothing => State::of_two(journal, Kept::empty(alloc, hasher)),
             Made::Old(old) => State {
                 journal,
                 kept: Kept::empty(alloc, hasher),
                 one: Some(old),
             },
-            Made::Now(kept) => State {
-                journal,
-                kept,
-                one: None,
-            },
+            Made::Before(kept) => State::of_two(journal, kept),
+            Made::Now(kept) => State::of_two(journal, kept),
+        }
+    }
+
+    fn of_two(journal: Journal, kept: Kept) -> State
+        ensures { result ≡ record { journal = journal; kept = kept; one = None } }
+    {
+        State {
+            journal,
+            kept,
+            one: None,
         }
     }
 

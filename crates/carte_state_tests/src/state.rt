@@ -8,7 +8,7 @@ ghost use Rattle.carte_state.specs.Runs.{AreUnmarked, BeginAll};
 ghost use Rattle.carte_state.specs.States.{any_in};
 
 use carte_io::{Disk, MemDisk};
-use carte_record::{Batch, Entries, Seen, Start, Store, Traces};
+use carte_record::{Batch, DeepTraces, Entries, Seen, Start, Store, Traces};
 use carte_state::{State, apply_all};
 use carte_value::{Names, NoMemory, Seeded, Value};
 use std::alloc::Global;
@@ -29,7 +29,7 @@ fn number_batch(alloc: Global, start: Start, number: i64) -> Result<Batch, NoMem
         stale: Names::new(alloc),
         verifying: Traces::new(alloc, Seeded::of(7)),
         constructive: Traces::new(alloc, Seeded::of(7)),
-        deep: Traces::new(alloc, Seeded::of(7)),
+        deep: DeepTraces::new(alloc, Seeded::of(7)),
         chain: None,
     })
 }

@@ -10,11 +10,11 @@ use Rattle.carte_value.specs.Spelling.{digest_of}
 use Rattle.carte_record.specs.declared.entry.Entry.{Entry}
 use Rattle.carte_record.specs.declared.kept.Kept.{Kept}
 use Rattle.carte_record.specs.declared.start.Start.TheVariants.{Cleared}
-use Rattle.carte_record.specs.declared.trace.Trace.{Trace}
 use Rattle.carte_record.specs.declared.way.Way.{Way}
 use Rattle.carte_record.specs.declared.way.Way.TheVariants.{Verifying, Constructive, Deep}
 use Rattle.carte_record.specs.Folds.{apply, batch_traces}
 use Rattle.carte_record.specs.Kept.{SomeKept, kept_view, newest, nothing_kept, traces_in}
+use Rattle.carte_record.specs.Ways.{TraceBy, key_by, eq_by}
 use Rattle.carte_table.specs.Lookups.{first_link, first_value}
 use Rattle.carte_record.specs.Lookups.{first_entry}
 use Rattle.carte_record.proofs.Growing.{kept_same, no_traces}
@@ -52,7 +52,7 @@ bare_keeps K is =
 cleared_keeps : (K : SomeKept) → apply (record empty_batch { start = Cleared }) K ≡ nothing_kept
 cleared_keeps K = kept_same (apply (record empty_batch { start = Cleared }) K) nothing_kept (λ k. refl) (λ k. refl) none refl (λ d. refl)
   where
-    none : (w : Way) (k : List ℕ) → traces_in k (batch_traces w (record empty_batch { start = Cleared })) [] ≡ []
+    none : (w : Way) (k : List ℕ) → traces_in w k (batch_traces w (record empty_batch { start = Cleared })) [] ≡ []
     none Verifying k = refl
     none Constructive k = refl
     none Deep k = refl
@@ -70,28 +70,29 @@ pub no_value : (vs : List Value) → ((d : Digest) → first_value vs d ≡ None
 no_value [] none = refl
 no_value (v ∷ vs) none = let there : first_value (v ∷ vs) (digest_of v) ≡ Some v = rw (digest_self (digest_of v)) refl in let here = none (digest_of v) in cc
 
-some_newest : (b : Bool) (t : Trace) (old : List Trace) → ¬ (old ≡ []) → ¬ ((if b then newest t old else old) ≡ [])
-some_newest true t old some is = cc
-some_newest false t old some is = some is
+module _ (w : Way) where
+  some_newest : (b : Bool) (t : TraceBy w) (old : List (TraceBy w)) → ¬ (old ≡ []) → ¬ ((if b then newest (eq_by w) t old else old) ≡ [])
+  some_newest true t old some is = cc
+  some_newest false t old some is = some is
 
-still_some : (k : List ℕ) (ts old : List Trace) → ¬ (old ≡ []) → ¬ (traces_in k ts old ≡ [])
-still_some k [] old some is = some is
-still_some k (t ∷ ts) old some is = still_some k ts (if name_eq k t.key then newest t old else old) (some_newest (name_eq k t.key) t old some) is
+  still_some : (k : List ℕ) (ts old : List (TraceBy w)) → ¬ (old ≡ []) → ¬ (traces_in w k ts old ≡ [])
+  still_some k [] old some is = some is
+  still_some k (t ∷ ts) old some is = still_some k ts (if name_eq k (key_by w t) then newest (eq_by w) t old else old) (some_newest (name_eq k (key_by w t)) t old some) is
 
-no_trace : (ts : List Trace) → ((k : List ℕ) → traces_in k ts [] ≡ []) → ts ≡ []
-no_trace [] none = refl
-no_trace (t ∷ ts) none =
-    let there : traces_in t.key (t ∷ ts) [] ≡ traces_in t.key ts (t ∷ []) = rw (name_self t.key) refl in
-    absurd (still_some t.key ts (t ∷ []) (λ is. cc) (sym there ∙ none t.key))
+  no_trace : (ts : List (TraceBy w)) → ((k : List ℕ) → traces_in w k ts [] ≡ []) → ts ≡ []
+  no_trace [] none = refl
+  no_trace (t ∷ ts) none =
+      let there : traces_in w (key_by w t) (t ∷ ts) [] ≡ traces_in w (key_by w t) ts (t ∷ []) = rw (name_self (key_by w t)) refl in
+      absurd (still_some (key_by w t) ts (t ∷ []) (λ is. cc) (sym there ∙ none (key_by w t)))
 
 nothing_bare : (K : Kept) → kept_view K ≡ nothing_kept → is_bare K ≡ true
 nothing_bare K is =
     let chain : K.chain ≡ [] = ap (λ (L : SomeKept). L.chain) is in
     let seen = no_link K.seen (λ k. ap (λ (L : SomeKept). L.seen k) is) in
     let entries = no_entry K.entries (λ k. ap (λ (L : SomeKept). L.entries k) is) in
-    let verifying = no_trace K.verifying (λ k. ap (λ (L : SomeKept). L.traces Verifying k) is) in
-    let constructive = no_trace K.constructive (λ k. ap (λ (L : SomeKept). L.traces Constructive k) is) in
-    let deep = no_trace K.deep (λ k. ap (λ (L : SomeKept). L.traces Deep k) is) in
+    let verifying = no_trace Verifying K.verifying (λ k. ap (λ (L : SomeKept). L.traces Verifying k) is) in
+    let constructive = no_trace Constructive K.constructive (λ k. ap (λ (L : SomeKept). L.traces Constructive k) is) in
+    let deep = no_trace Deep K.deep (λ k. ap (λ (L : SomeKept). L.traces Deep k) is) in
     let values = no_value K.values (λ d. ap (λ (L : SomeKept). L.stored d) is) in
     rw (chain, seen, entries, verifying, constructive, deep, values) refl
 

@@ -1,5 +1,5 @@
 -- The state stays sound over a history of runs.
-use Rattle.std.proofs.Common.{◌≡◌, ℕ, List, [], ◌∷◌, ◌++◌, None, Ok, Err, refl, sym, ◌∙◌, ap, subst, inl, inr, append_assoc, append-nil}
+use Rattle.std.proofs.Common.{◌≡◌, ℕ, List, [], ◌∷◌, ◌++◌, Ok, Err, refl, sym, ◌∙◌, ap, subst, inl, inr, append_assoc, append-nil}
 use Rattle.std.proofs.lemmas.List.{append_cancel_right}
 use Rattle.carte_io.specs.Disk.{EachMoment, Leaves, LeavesOnly, Moment, Story, moments}
 use Rattle.carte_value.specs.Lists.{Has}
@@ -26,7 +26,7 @@ use Rattle.carte_top.specs.Histories.{AreBooks, AreBooksFor, AreRuns, HasBehind,
 use Rattle.carte_top.proofs.Unique.{one_generated, one_meant, one_of_kind}
 use Rattle.carte_engine.specs.Versions.{IsSoundAny}
 use Rattle.carte_engine.proofs.Raising.{sound_behind}
-use Rattle.carte_state.specs.Versions.{InTwo}
+use Rattle.carte_state.specs.Versions.{Fresh, InTwo}
 
 at_moment : (Q : Moment → Type 0) (ms : List Moment) (m : Moment) → EachMoment Q ms → Has ms m → Q m
 at_moment Q [] m each here = absurd here
@@ -141,4 +141,4 @@ histories limit (r ∷ runs) G H file last keeps (J, rest, is, books, run, more)
 
 pub whole_histories : WholeHistories
 whole_histories limit runs H last are distinct =
-    histories limit runs [] H [] last (InTwo nothing_kept, record { gate = 8; bodies = []; reads = refl; makes = record { phase = None; folded = refl; kept = refl } }, nothing_sound []) are distinct
+    histories limit runs [] H [] last (InTwo nothing_kept, record { gate = 8; bodies = []; reads = refl; makes = record { phase = Fresh; folded = refl; kept = refl } }, nothing_sound []) are distinct

@@ -12,7 +12,6 @@ use Rattle.carte_value.specs.declared.value.Value.{Value}
 use Rattle.carte_value.specs.declared.value.Value.TheVariants.{Number}
 use Rattle.carte_value.specs.Lists.{Has}
 use Rattle.carte_name.specs.Names.{name_cmp}
-use Rattle.carte_value.specs.Truths.{Among}
 use Rattle.carte_tree.specs.Meaning.{eval}
 use Rattle.carte_tree.specs.Tree.{Tree}
 use Rattle.carte_book.specs.Book.{Book, Item, clean, content, input, or_default, rule, rules_of, val, valued}
@@ -42,7 +41,7 @@ use Rattle.carte_report.specs.declared.status.Status.TheVariants.{Done}
 use Rattle.carte_top.specs.Chosen.{BookOfKind, how_of, scheduler_of}
 use Rattle.carte_top.specs.Due.{AllFit, IsDue, IsDueFor, IsFound, IsPlanned}
 use Rattle.carte_top.specs.Plain.{AsksPlainly, PlainIsDue, plain_book, told_disk, told_source}
-use Rattle.carte_state.specs.Versions.{InTwo}
+use Rattle.carte_state.specs.Versions.{Fresh, InTwo}
 use Rattle.carte_top.proofs.Bare.{IsOneEmpty, brings_empty}
 
 module _ (b : Book) (none : (k : List ℕ) → ¬ (IsRule b k)) where
@@ -144,7 +143,7 @@ module _ (limit : ℕ) (words : List (List ℕ)) (state : Story) (asks : AsksPla
       subst (FitAll true s) (sym one.1) (λ base of_file. (inl one.2, λ mid after. tt))
 
   found : IsFound limit (told_disk state) plain_book (λ K. AllFit limit (told_disk state) (IsPlanned asks.asked plain_book K))
-  found = (tt, InTwo nothing_kept, subst (Keeps limit (InTwo nothing_kept)) (sym empty_file) (record { gate = 8; bodies = []; reads = refl; makes = record { phase = None; folded = refl; kept = refl } }), ([], nothing_sound [], plain_distinct, fits))
+  found = (tt, InTwo nothing_kept, subst (Keeps limit (InTwo nothing_kept)) (sym empty_file) (record { gate = 8; bodies = []; reads = refl; makes = record { phase = Fresh; folded = refl; kept = refl } }), ([], nothing_sound [], plain_distinct, fits))
 
   is_due : (book script : SourceState) → BookOf book.left (Ok plain_book) → IsDue limit words (told_source book) (told_source script) (told_disk state) Done
   is_due book script bytes =

@@ -40,8 +40,8 @@ pub(crate) fn generate<D: Disk, O: Sink, G: Gate, T: Threads + Sync>(
     gate: &G,
 ) -> Status
     requires least { 2 ≤ asked.now.count }
-    requires most { asked.now.count ≤ 65536 }
-    ensures { Generates 268435456 asked.now
+    requires most { asked.now.count ≤ 262144 }
+    ensures { Generates 536870912 asked.now
         (over_disk D.tells D.story D.faults state.old state.new)
         (over_sink O.tells O.state out.old out.new)
         result }
@@ -61,7 +61,7 @@ fn build<D: Disk, O: Sink, G: Gate, T: Threads + Sync>(
     out: &mut O,
     gate: &G,
 ) -> Status
-    ensures { RequestsOver 268435456 choices (book_view prepared.book) (build_line prepared.targets) (string_bytes prepared.front)
+    ensures { RequestsOver 536870912 choices (book_view prepared.book) (build_line prepared.targets) (string_bytes prepared.front)
         (over_disk D.tells D.story D.faults state.old state.new)
         (over_sink O.tells O.state out.old out.new)
         result }
@@ -87,7 +87,7 @@ fn build<D: Disk, O: Sink, G: Gate, T: Threads + Sync>(
 
 fn prepare(alloc: Global, seed: u64, count: u64, hasher: Seeded) -> Result<Prepared, NoMemory>
     requires least { 2 ≤ count }
-    requires most { count ≤ 65536 }
+    requires most { count ≤ 262144 }
     ensures book { IfOk result (λ p. IsGenerated seed count (book_view p.book)) }
     ensures targets { IfOk result (λ p. p.targets ≡ target_of count ∷ []) }
     ensures front { IfOk result (λ p. string_bytes p.front ≡ keys_line count (inputs_of count)) }

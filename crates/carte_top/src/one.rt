@@ -36,7 +36,7 @@ pub(crate) fn build<B: Source, D: Disk, O: Sink, G: Gate, T: Threads + Sync>(
     hasher: Seeded,
     gate: &G,
 ) -> Status
-    ensures { Builds 268435456 asked
+    ensures { Builds 536870912 asked
         (over_source B.tells B.state source.old source.new)
         (over_disk D.tells D.story D.faults state.old state.new)
         (over_sink O.tells O.state out.old out.new)
@@ -63,7 +63,7 @@ pub(crate) fn explain<B: Source, D: Disk, O: Sink, G: Gate, T: Threads + Sync>(
     hasher: Seeded,
     gate: &G,
 ) -> Status
-    ensures { Tells 268435456 asked
+    ensures { Tells 536870912 asked
         (over_source B.tells B.state source.old source.new)
         (over_disk D.tells D.story D.faults state.old state.new)
         (over_sink O.tells O.state out.old out.new)
@@ -89,7 +89,7 @@ pub(crate) fn clean<D: Disk, O: Sink, G: Gate, T: Threads + Sync>(
     hasher: Seeded,
     gate: &G,
 ) -> Status
-    ensures { Cleans 268435456
+    ensures { Cleans 536870912
         (over_disk D.tells D.story D.faults state.old state.new)
         (over_sink O.tells O.state out.old out.new)
         result }
@@ -122,7 +122,7 @@ pub(crate) fn one<D: Disk, O: Sink, G: Gate, T: Threads + Sync>(
     gate: &G,
 ) -> Status
     requires { NamesInput (book_view book).kind line }
-    ensures { RequestsOver 268435456 choices (book_view book) line front.now
+    ensures { RequestsOver 536870912 choices (book_view book) line front.now
         (over_disk D.tells D.story D.faults state.old state.new)
         (over_sink O.tells O.state out.old out.new)
         result }

@@ -16,7 +16,7 @@ use std::alloc::Global;
 use std::marker::Sync;
 use std::thread::Threads;
 
-const MOST_STATE: u64 = 268435456;
+const MOST_STATE: u64 = 536870912;
 
 // By as many threads as there are workers, one of which reads what is short.
 fn load_state<D: Disk, G: Gate, T: Threads + Sync>(
@@ -27,7 +27,7 @@ fn load_state<D: Disk, G: Gate, T: Threads + Sync>(
     workers: usize,
     gate: &G,
 ) -> Result<Engine, Status>
-    ensures { LoadsState 268435456 (over_disk D.tells D.story D.faults state.old state.new) result }
+    ensures { LoadsState 536870912 (over_disk D.tells D.story D.faults state.old state.new) result }
 {
     match Engine::load_by(rt, alloc, state, MOST_STATE, hasher, workers, gate) {
         Ok(engine) => Ok(engine),
@@ -56,8 +56,8 @@ pub(crate) fn open<D: Disk, G: Gate, T: Threads + Sync>(
     gate: &G,
 ) -> Result<Shell, Status>
     ensures { MatchResult result
-        (λ shell. Opens 268435456 choices (book_view book) (over_disk D.tells D.story D.faults state.old state.new) (scene D.story D.faults (shell, state.new)))
-        (λ status. LoadsState 268435456 (over_disk D.tells D.story D.faults state.old state.new) (Err status)) }
+        (λ shell. Opens 536870912 choices (book_view book) (over_disk D.tells D.story D.faults state.old state.new) (scene D.story D.faults (shell, state.new)))
+        (λ status. LoadsState 536870912 (over_disk D.tells D.story D.faults state.old state.new) (Err status)) }
 {
     match load_state(rt, alloc, state, book.hasher(), choices.workers, gate) {
         Ok(engine) => Ok(Shell::new(choices, book, engine)),

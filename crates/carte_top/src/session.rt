@@ -36,7 +36,7 @@ pub(crate) fn session<B: Source, S: Source, D: Disk, O: Sink, T: Threads + Sync,
     hasher: Seeded,
     gate: &G,
 ) -> Status
-    ensures { Sits 268435456 asked.now
+    ensures { Sits 536870912 asked.now
         (over_source B.tells B.state source.old source.new)
         (over_source S.tells S.state script.old script.new)
         (over_disk D.tells D.story D.faults state.old state.new)
@@ -59,7 +59,7 @@ fn session_over<S: Source, D: Disk, O: Sink, T: Threads + Sync, G: Gate>(
     out: &mut O,
     gate: &G,
 ) -> Status
-    ensures { SitsOver 268435456 asked.now (book_view book)
+    ensures { SitsOver 536870912 asked.now (book_view book)
         (over_source S.tells S.state script.old script.new)
         (over_disk D.tells D.story D.faults state.old state.new)
         (over_sink O.tells O.state out.old out.new)

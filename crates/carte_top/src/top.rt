@@ -22,7 +22,7 @@ use std::thread::Threads;
 /// of a generated book; commits what was made; writes the reply to `out`, and where something went wrong one line to `err`.
 ///
 /// The book is read to its end, where it has at most 16,777,216 bytes, and for `clean` and `generate` not at all. The state
-/// is limited to 268,435,456 bytes. No call of the disk is made before the words and the book were read. The script is read
+/// is limited to 536,870,912 bytes. No call of the disk is made before the words and the book were read. The script is read
 /// by a session alone, behind the book and the state, up to 67,108,864 bytes.
 ///
 /// The maps of names are made with `hasher`, on which nothing that is answered depends. Nor does anything depend on `rt`, of
@@ -40,7 +40,7 @@ pub fn carte<B: Source, S: Source, D: Disk, O: Sink, E: Sink, G: Gate, T: Thread
     hasher: Seeded,
     gate: &G,
 ) -> Status
-    ensures { IsOutcome 268435456
+    ensures { IsOutcome 536870912
         (record {
           words = words.now;
           book = over_source B.tells B.state book.old book.new;
@@ -66,7 +66,7 @@ fn run<B: Source, S: Source, D: Disk, O: Sink, G: Gate, T: Threads + Sync>(
     hasher: Seeded,
     gate: &G,
 ) -> Status
-    ensures { IsRun 268435456 words.now
+    ensures { IsRun 536870912 words.now
         (over_source B.tells B.state book.old book.new)
         (over_source S.tells S.state script.old script.new)
         (over_disk D.tells D.story D.faults state.old state.new)
@@ -100,7 +100,7 @@ fn command<B: Source, S: Source, D: Disk, O: Sink, G: Gate, T: Threads + Sync>(
     gate: &G,
 ) -> Status
     requires { IsCounted asked }
-    ensures { Runs 268435456 asked
+    ensures { Runs 536870912 asked
         (over_source B.tells B.state book.old book.new)
         (over_source S.tells S.state script.old script.new)
         (over_disk D.tells D.story D.faults state.old state.new)

@@ -13,6 +13,7 @@ use Rattle.carte_record.specs.declared.batch.Batch.{Batch}
 use Rattle.carte_record.specs.declared.entry.Entry.{Entry}
 use Rattle.carte_record.specs.declared.kept.Kept.{Kept}
 use Rattle.carte_record.specs.declared.trace.Trace.{Trace}
+use Rattle.carte_record.specs.declared.deep_trace.DeepTrace.{DeepTrace}
 use Rattle.carte_record.specs.declared.way.Way.{Way}
 use Rattle.carte_record.specs.declared.way.Way.TheVariants.{Verifying, Constructive, Deep}
 use Rattle.carte_record.specs.declared.start.Start.{Start}
@@ -21,6 +22,7 @@ use Rattle.carte_record.specs.Folds.{apply, batch_traces, carried, is_among, sta
 use Rattle.carte_record.specs.Growth.{put_in}
 use Rattle.carte_record.specs.Kept.{SomeKept, kept_view, nothing_kept, staled, traces_in}
 use Rattle.carte_record.specs.Lookups.{entry_in, first_entry, is_entry_of}
+use Rattle.carte_record.specs.Ways.{TraceBy, key_by, result_by}
 use Rattle.carte_record.specs.Marked.{marked_as}
 use Rattle.carte_record.proofs.Gone.{dropping_none}
 use Rattle.carte_record.proofs.Looked.{digest_eq_is, digest_eq_self, find_passes}
@@ -32,7 +34,7 @@ use Rattle.carte_compact.proofs.Living.{is_kept, kept_again}
 use Rattle.carte_trim.specs.declared.cut.Counts.{Counts}
 use Rattle.carte_trim.specs.Lists.{AreCut, IsCut, in_batch, in_entries, in_traces, newest_of, number_in}
 use Rattle.carte_trim.specs.Trimmed.{IsNamed, IsNumberOf, IsTrimmed, by_entry, by_trace}
-use Rattle.carte_trim.proofs.Once.{is_there, last_once, newest_once, newest_taken, was_there}
+use Rattle.carte_trim.proofs.Once.{last_by, newest_once, taken_by, there_by, was_by}
 use Rattle.carte_trim.proofs.Trims.{nothing_newest, unmarked_named}
 
 -- ---- digests that are named in lists
@@ -104,18 +106,18 @@ module _ (n : ℕ) (B C : Batch) (cut : IsCut n B C) (once : (w : Way) → EachO
   abbrev L : SomeKept
   L = put_in C nothing_kept
 
-  newest_in : (w : Way) → batch_traces w C ≡ newest_of n (batch_traces w B)
-  newest_in Verifying = cut.verifying
-  newest_in Constructive = cut.constructive
-  newest_in Deep = cut.deep
+  cut_by : (w : Way) → batch_traces w C ≡ newest_of (key_by w) n (batch_traces w B)
+  cut_by Verifying = cut.verifying
+  cut_by Constructive = cut.constructive
+  cut_by Deep = cut.deep
 
   once_too : (w : Way) → EachOnce (batch_traces w C)
-  once_too w = subst EachOnce (sym (newest_in w)) (newest_once n (batch_traces w B) (once w))
+  once_too w = subst EachOnce (sym (cut_by w)) (newest_once (key_by w) n (batch_traces w B) (once w))
 
-  trace_named : (w : Way) (t : Trace) → Has (batch_traces w C) t → in_batch C t.result ≡ true
+  trace_named : (w : Way) (t : TraceBy w) → Has (batch_traces w C) t → in_batch C (result_by w t) ≡ true
   trace_named Verifying t has = or_left _ _ (or_left _ _ (or_right _ _ (item_named (λ (u : Trace). u.result) C.verifying t has)))
   trace_named Constructive t has = or_left _ _ (or_right _ _ (item_named (λ (u : Trace). u.result) C.constructive t has))
-  trace_named Deep t has = or_right _ _ (item_named (λ (u : Trace). u.result) C.deep t has)
+  trace_named Deep t has = or_right _ _ (item_named (λ (u : DeepTrace). u.result) C.deep t has)
 
   entry_named : (e : Entry) → Has C.entries e → in_batch C e.result ≡ true
   entry_named e has = or_left _ _ (or_left _ _ (or_left _ _ (item_named (λ (f : Entry). f.result) C.entries e has)))
@@ -125,12 +127,12 @@ module _ (n : ℕ) (B C : Batch) (cut : IsCut n B C) (once : (w : Way) → EachO
       let (f, there, same) = unmarked_named (option_or (entry_in C.entries k) None) (is_among C.stale k) e is in
       let has : Has C.entries f = last_has (is_entry_of k) C.entries f (sym (or_none (entry_in C.entries k)) ∙ there) in
       subst (λ r. in_batch C r ≡ true) same (entry_named f has)
-  in_batch_named d (by_trace w k t has) = trace_named w t (was_there k (batch_traces w C) t (once_too w) has)
+  in_batch_named d (by_trace w k t has) = trace_named w t (was_by w k (batch_traces w C) t (once_too w) has)
 
-  from_traces : (w : Way) (d : Digest) → in_traces (batch_traces w C) d ≡ true → IsNamed L d
+  from_traces : (w : Way) (d : Digest) → in_traces w (batch_traces w C) d ≡ true → IsNamed L d
   from_traces w d is =
-      let (t, has, same) = named_item (λ (u : Trace). u.result) (batch_traces w C) d is in
-      subst (IsNamed L) same (by_trace w t.key t (is_there (batch_traces w C) t (once_too w) has))
+      let (t, has, same) = named_item (result_by w) (batch_traces w C) d is in
+      subst (IsNamed L) same (by_trace w (key_by w t) t (there_by w (batch_traces w C) t (once_too w) has))
 
   from_entries : (d : Digest) → in_entries C.entries d ≡ true → IsNamed L d
   from_entries d is =
@@ -141,11 +143,11 @@ module _ (n : ℕ) (B C : Batch) (cut : IsCut n B C) (once : (w : Way) → EachO
       subst (IsNamed L) same (by_entry k (staled (is_among C.stale k) e) marked)
 
   named_in_batch : (d : Digest) → in_batch C d ≡ true → IsNamed L d
-  named_in_batch d is = elim (or_either ((in_entries C.entries d || in_traces C.verifying d) || in_traces C.constructive d) (in_traces C.deep d) is) [
+  named_in_batch d is = elim (or_either ((in_entries C.entries d || in_traces Verifying C.verifying d) || in_traces Constructive C.constructive d) (in_traces Deep C.deep d) is) [
     | inr deep ↦ from_traces Deep d deep
-    | inl front ↦ elim (or_either (in_entries C.entries d || in_traces C.verifying d) (in_traces C.constructive d) front) [
+    | inl front ↦ elim (or_either (in_entries C.entries d || in_traces Verifying C.verifying d) (in_traces Constructive C.constructive d) front) [
       | inr constructive ↦ from_traces Constructive d constructive
-      | inl first ↦ elim (or_either (in_entries C.entries d) (in_traces C.verifying d) first) [
+      | inl first ↦ elim (or_either (in_entries C.entries d) (in_traces Verifying C.verifying d) first) [
         | inr verifying ↦ from_traces Verifying d verifying
         | inl entries ↦ from_entries d entries
       ]
@@ -164,7 +166,7 @@ module _ (n : ℕ) (B C : Batch) (cut : IsCut n B C) (once : (w : Way) → EachO
     newest = record {
       seen = ap (λ ls. λ (k : List ℕ). option_or (link_in ls k) None) cut.seen;
       entries = λ i. λ k. option_map (staled (is_among (cut.stale i) k)) (option_or (entry_in (cut.entries i) k) None);
-      traces = λ w k. ap (λ ts. traces_in k ts []) (newest_in w) ∙ newest_taken n k (batch_traces w B) (once w);
+      traces = λ w k. ap (λ ts. traces_in w k ts []) (cut_by w) ∙ taken_by w n k (batch_traces w B) (once w);
       chain = ap (λ o. unwrap_or o []) cut.chain;
       named = λ d named. stored_there d (in_batch_named d named);
     };
@@ -175,7 +177,7 @@ module _ (n : ℕ) (B C : Batch) (cut : IsCut n B C) (once : (w : Way) → EachO
 number_of : (B : Batch) → ((w : Way) → EachOnce (batch_traces w B)) → IsNumberOf (put_in B nothing_kept) (number_in B)
 number_of B once = record {
   lists = λ w. batch_traces w B;
-  listed = λ w. record { once = once w; each = λ t has. is_there (batch_traces w B) t (once w) has; all = λ k t has. was_there k (batch_traces w B) t (once w) has };
+  listed = λ w. record { once = once w; each = λ t has. there_by w (batch_traces w B) t (once w) has; all = λ k t has. was_by w k (batch_traces w B) t (once w) has };
   sum = refl;
 }
 
@@ -195,9 +197,9 @@ module _ (K : Kept) (n : ℕ) (Bs Cs : List Batch) (c : Counts) (live : IsSomeLi
   B = live.first
 
   once : (w : Way) → EachOnce (batch_traces w B)
-  once Verifying = subst EachOnce (sym live.all.verifying) (last_once K.verifying)
-  once Constructive = subst EachOnce (sym live.all.constructive) (last_once K.constructive)
-  once Deep = subst EachOnce (sym live.all.deep) (last_once K.deep)
+  once Verifying = subst EachOnce (sym live.all.verifying) (last_by Verifying K.verifying)
+  once Constructive = subst EachOnce (sym live.all.constructive) (last_by Constructive K.constructive)
+  once Deep = subst EachOnce (sym live.all.deep) (last_by Deep K.deep)
 
   own_entry : (k : List ℕ) (e : Entry) → entry_at K.entries k ≡ Some e → e.key ≡ k
   own_entry k e is = on (first_entry K.entries k) refl is

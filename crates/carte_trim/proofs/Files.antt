@@ -21,8 +21,8 @@ use Rattle.carte_record_one.specs.Kept.{SomeKeptOne, kept_one_view}
 use Rattle.carte_record_one.specs.declared.kept.KeptOne.{KeptOne}
 use Rattle.carte_state.specs.Folding.{IsFolded, Keeps, Makes}
 use Rattle.carte_state.specs.States.{IsLoaded, Stand, any_in, any_of, kept_in}
-use Rattle.carte_state.specs.Versions.{AnyKept, InOne, InTwo, Phase, taken}
-use Rattle.carte_state.specs.declared.any.AnyBatch.TheVariants.{Two}
+use Rattle.carte_state.specs.Versions.{AnyKept, Fresh, InOne, InTwo, Phase, taken}
+use Rattle.carte_state.specs.declared.any.AnyBatch.TheVariants.{Four}
 use Rattle.carte_trim.specs.New.{IsNew, IsPlan, KeepsEither, fresh_journal}
 use Rattle.carte_trim.specs.declared.plan.Plan.{Plan}
 
@@ -30,7 +30,7 @@ use Rattle.carte_trim.specs.declared.plan.Plan.{Plan}
 
 -- a file without bodies keeps nothing
 pub keeps_none : (limit : ℕ) (file : List ℕ) → reading limit file ≡ Ends 8 [] → Keeps limit (InTwo nothing_kept) file
-keeps_none limit file reads = record { gate = 8; bodies = []; reads = reads; makes = record { phase = None; folded = refl; kept = refl } }
+keeps_none limit file reads = record { gate = 8; bodies = []; reads = reads; makes = record { phase = Fresh; folded = refl; kept = refl } }
 
 module _ (limit : ℕ) (file : List ℕ) (short : length file ≤ 9) where
   new_read : IsRead (fresh_journal limit) [] file
@@ -103,7 +103,7 @@ folded_placed p q at [] folded = folded
 folded_placed p q at (body ∷ bodies) folded = (folded.0, folded.1, folded.2, folded_placed (taken folded.0 p) q (end_of at body.1) bodies folded.3)
 
 makes_placed : (K : AnyKept) (at : ℕ) (bodies : List BodyAt) → Makes bodies K → Makes (placed_at at (bytes_of bodies)) K
-makes_placed K at bodies makes = record { phase = makes.phase; folded = folded_placed None makes.phase at bodies makes.folded; kept = makes.kept }
+makes_placed K at bodies makes = record { phase = makes.phase; folded = folded_placed Fresh makes.phase at bodies makes.folded; kept = makes.kept }
 
 either_nothing : {A : Type 0} → A ⊎ A → A
 either_nothing (inl a) = a
@@ -119,8 +119,8 @@ module _ (limit : ℕ) (L : SomeKept) (p : Plan) (is : IsPlan limit L p) where
     bodies = first;
     reads = reads;
     makes = record {
-      phase = taken (Two is.empty) None;
-      folded = (Two is.empty, is.body, tt, refl);
+      phase = taken (Four is.empty) Fresh;
+      folded = (Four is.empty, is.body, tt, refl);
       kept = ap InTwo (sym (empty_same is.empty nothing_kept is.brings_nothing));
     };
   }

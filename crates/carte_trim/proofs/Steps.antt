@@ -8,22 +8,21 @@ use Rattle.carte_value.specs.declared.value.Value.{Value}
 use Rattle.carte_value.specs.Spelling.{digest_of}
 use Rattle.carte_table.specs.Lookups.{digest_eq, first_value, is_value_of}
 use Rattle.carte_table.proofs.Found.{find_end, or_none}
-use Rattle.carte_record.specs.declared.trace.Trace.{Trace}
 use Rattle.carte_record.proofs.Looked.{digest_eq_is, find_passes}
 use Rattle.carte_trim.specs.Lists.{HasThose, count_of, newest_of}
 
 -- ---- the newest of each key
 
-module _ (n : ℕ) (t : Trace) (ts rest xs all : List Trace) (ahead : ts ≡ t ∷ rest) (before : xs ++ newest_of n ts ≡ all) where
-  pub taken : true ≡ nat_lt (count_of t.key rest) n → (xs ++ t ∷ []) ++ newest_of n rest ≡ all
+module _ {A : Type 0} (key : A → List ℕ) (n : ℕ) (x : A) (xs rest front all : List A) (ahead : xs ≡ x ∷ rest) (before : front ++ newest_of key n xs ≡ all) where
+  pub taken : true ≡ nat_lt (count_of key (key x) rest) n → (front ++ x ∷ []) ++ newest_of key n rest ≡ all
   taken few =
-      append_assoc xs (t ∷ []) (newest_of n rest)
-      ∙ sym (ap (λ us. xs ++ newest_of n us) ahead ∙ ap (λ b. xs ++ (if b then t ∷ newest_of n rest else newest_of n rest)) (sym few))
+      append_assoc front (x ∷ []) (newest_of key n rest)
+      ∙ sym (ap (λ ys. front ++ newest_of key n ys) ahead ∙ ap (λ b. front ++ (if b then x ∷ newest_of key n rest else newest_of key n rest)) (sym few))
       ∙ before
 
-  pub left_out : false ≡ nat_lt (count_of t.key rest) n → xs ++ newest_of n rest ≡ all
+  pub left_out : false ≡ nat_lt (count_of key (key x) rest) n → front ++ newest_of key n rest ≡ all
   left_out many =
-      sym (ap (λ us. xs ++ newest_of n us) ahead ∙ ap (λ b. xs ++ (if b then t ∷ newest_of n rest else newest_of n rest)) (sym many))
+      sym (ap (λ ys. front ++ newest_of key n ys) ahead ∙ ap (λ b. front ++ (if b then x ∷ newest_of key n rest else newest_of key n rest)) (sym many))
       ∙ before
 
 -- ---- the values that are named

@@ -7,11 +7,11 @@ use Rattle.carte_value.specs.Lists.{Has}
 use Rattle.carte_value.specs.Truths.{NoneTwice}
 use Rattle.carte_book.specs.Book.{Book}
 use Rattle.carte_record.specs.declared.entry.Entry.{Entry}
-use Rattle.carte_record.specs.declared.trace.Trace.{Trace}
 use Rattle.carte_record.specs.declared.way.Way.{Way}
 use Rattle.carte_record.specs.declared.way.Way.TheVariants.{Verifying, Constructive, Deep}
 use Rattle.carte_record.specs.Folds.{is_among}
 use Rattle.carte_record.specs.Kept.{SomeKept, nothing_kept, staled}
+use Rattle.carte_record.specs.Ways.{TraceBy, result_by}
 use Rattle.carte_record.proofs.Growing.{kept_same}
 use Rattle.carte_sound.specs.Begun.{Beginning, IsBeginning, IsGone, begin}
 use Rattle.carte_sound.specs.Begun as dropped
@@ -70,7 +70,7 @@ module _ (K L : SomeKept) (seen : L.seen ≡ K.seen) (entries : L.entries ≡ K.
   gone_too b k (dropped.IsGone.seen d is differs) = dropped.IsGone.seen d (seen_too k (Some d) is) differs
   gone_too b k (dropped.IsGone.entry e is differs) = dropped.IsGone.entry e (entry_too k (Some e) is) differs
 
-  trusted_too : (w : Way) (k : List ℕ) (t : Trace) → IsTrusted w K k t → IsTrusted w L k t
+  trusted_too : (w : Way) (k : List ℕ) (t : TraceBy w) → IsTrusted w K k t → IsTrusted w L k t
   trusted_too Verifying k t (e, is, same) = (e, entry_too k (Some e) is, same)
   trusted_too Constructive k t is = is
   trusted_too Deep k t is = is
@@ -79,7 +79,7 @@ module _ (K L : SomeKept) (seen : L.seen ≡ K.seen) (entries : L.entries ≡ K.
   names_too b k (inl is) = inl (record { value = is.value; is_input = is.is_input; seen = seen_too k _ is.seen })
   names_too b k (inr is) = inr (record { entry = is.entry; kept = entry_too k (Some is.entry) is.kept; task = is.task })
 
-  trace_too : (H : List Book) (w : Way) (k : List ℕ) (t : Trace) → IsTraceOfSome K H w k t → IsTraceOfSome L H w k t
+  trace_too : (H : List Book) (w : Way) (k : List ℕ) (t : TraceBy w) → IsTraceOfSome K H w k t → IsTraceOfSome L H w k t
   trace_too H w k t is = record { book = is.book; stood = is.stood; trace = is.trace; entry = is.entry; kept = entry_too k (Some is.entry) is.kept }
 
 -- and back
@@ -91,7 +91,7 @@ fresh_in K L seen entries b k e is = record {
 
 -- ---- what is named
 
-module _ (K L : SomeKept) (entries : L.entries ≡ K.entries) (traces : (w : Way) (k : List ℕ) (t : Trace) → Has (K.traces w k) t → Has (L.traces w k) t) where
+module _ (K L : SomeKept) (entries : L.entries ≡ K.entries) (traces : (w : Way) (k : List ℕ) (t : TraceBy w) → Has (K.traces w k) t → Has (L.traces w k) t) where
   named_too : (d : Digest) → IsNamed K d → IsNamed L d
   named_too d (by_entry k e is) = by_entry k e (ap (λ f. f k) entries ∙ is)
   named_too d (by_trace w k t has) = by_trace w k t (traces w k t has)
@@ -118,7 +118,7 @@ one K L M n is is' = kept_same L M (λ k. ap (λ f. f k) (is.newest.seen ∙ sym
 -- ---- what has the newest traces
 
 module _ (K L : SomeKept) (n : ℕ) (has_newest : HasNewest K n L) where
-  from_newest : (w : Way) (k : List ℕ) (t : Trace) → Has (L.traces w k) t → Has (K.traces w k) t
+  from_newest : (w : Way) (k : List ℕ) (t : TraceBy w) → Has (L.traces w k) t → Has (K.traces w k) t
   from_newest w k t has = has_taken n (K.traces w k) t (subst (λ ts. Has ts t) (has_newest.traces w k) has)
 
   still_stored : (d : Digest) → IsNamed L d → IsStored K d → IsStored L d
@@ -147,7 +147,7 @@ module _ (K L : SomeKept) (n : ℕ) (H : List Book) (is : IsTrimmed K n L) (soun
     entries = λ k e there. entry_sound k e (kept_entry K L n m k e there);
     stored = λ d v there. sound.stored d v ((is.only d v there).1);
     entry_stored = λ k e there. still_stored K L n m e.result (by_entry k e there) (sound.entry_stored k e (kept_entry K L n m k e there));
-    trace_stored = λ w k t has. still_stored K L n m t.result (by_trace w k t has) (sound.trace_stored w k t (from_newest K L n m w k t has));
+    trace_stored = λ w k t has. still_stored K L n m (result_by w t) (by_trace w k t has) (sound.trace_stored w k t (from_newest K L n m w k t has));
     chain = subst (λ ks. NoneTwice ks) (sym m.chain) sound.chain;
     apart = λ i d e seen kept. sound.apart i d e (kept_seen K L n m i d seen) (kept_entry K L n m i e kept);
   }
@@ -177,7 +177,7 @@ module _ (K L : SomeKept) (n : ℕ) (m : HasNewest K n L) (x : Beginning) where
           subst (λ r. IsNamed L r) before.2 (by_entry k before.0 before.1)
   named_before d (by_trace w k t has) = trace (is_among x.gone k) has
     where
-      trace : (g : Bool) → Has (if g then [] else L.traces w k) t → IsNamed L t.result
+      trace : (g : Bool) → Has (if g then [] else L.traces w k) t → IsNamed L (result_by w t)
       trace true none = absurd none
       trace false there = by_trace w k t there
 

@@ -2,9 +2,9 @@
 use Rattle.std.specs.Prelude.{ℕ, ◌≡◌, List, take}
 use Rattle.carte_value.specs.Lists.{Has}
 use Rattle.carte_book.specs.Book.{Book}
-use Rattle.carte_record.specs.declared.trace.Trace.{Trace}
 use Rattle.carte_record.specs.declared.way.Way.{Way}
 use Rattle.carte_record.specs.Kept.{SomeKept}
+use Rattle.carte_record.specs.Ways.{TraceBy}
 use Rattle.carte_sound.specs.Begun.{Beginning, IsBeginning, begin}
 use Rattle.carte_sound.specs.Held.{How, IsHeld, IsHeldBy, dirty, tracing}
 use Rattle.carte_sound.specs.Sound.{IsSound}
@@ -25,7 +25,7 @@ TrimmedBegins = (K L : SomeKept) (n : ℕ) (b : Book) (x : Beginning) → IsTrim
 
 -- a key that is held by a fresh entry, or by one of its newest traces, is held as before, and no other one is
 abbrev pub IsHeldByNewest : Way → ℕ → SomeKept → Book → List ℕ → Type 0
-IsHeldByNewest w n K b k = (t : Trace) × IsHeldBy w K b k t × Has (take n (K.traces w k)) t
+IsHeldByNewest w n K b k = (t : TraceBy w) × IsHeldBy w K b k t × Has (take n (K.traces w k)) t
 
 abbrev pub HeldAsBefore : Type 0
 HeldAsBefore = (K L : SomeKept) (n : ℕ) (b : Book) (k : List ℕ) → HasNewest K n L

@@ -14,7 +14,7 @@ use std::alloc::Global;
 
 /// Writes to a new file what it is to keep, and gives its length then. Where that is nothing, no call writes.
 pub(crate) fn make<N: Disk>(alloc: Global, kept: &Kept, new: &mut N) -> Result<u64, Status>
-    ensures { Makes 268435456 (kept_view kept.now) (over_part N.tells N.story N.faults new.old new.new) result }
+    ensures { Makes 536870912 (kept_view kept.now) (over_part N.tells N.story N.faults new.old new.new) result }
 {
     match planned(alloc, kept) {
         Ok(Some(plan)) => make_planned(plan, new),
@@ -24,8 +24,8 @@ pub(crate) fn make<N: Disk>(alloc: Global, kept: &Kept, new: &mut N) -> Result<u
 }
 
 fn make_planned<N: Disk>(plan: Plan, new: &mut N) -> Result<u64, Status>
-    requires { (L : SomeKept) × IsPlan 268435456 L plan }
-    ensures { (L : SomeKept) → IsPlan 268435456 L plan → Makes 268435456 L (over_part N.tells N.story N.faults new.old new.new) result }
+    requires { (L : SomeKept) × IsPlan 536870912 L plan }
+    ensures { (L : SomeKept) → IsPlan 536870912 L plan → Makes 536870912 L (over_part N.tells N.story N.faults new.old new.new) result }
 {
     let needed = plan.needed();
     if needed > MOST_STATE {

@@ -2,11 +2,43 @@
 ghost use Rattle.std.specs.Prelude.{◌≡◌, ◌||◌, Bool, List, ℕ, IfOk, OnOk, false};
 ghost use Rattle.carte_table.specs.Lookups.{digest_eq};
 ghost use Rattle.carte_value.specs.declared.digest.Digest.{Digest as SomeDigest};
-ghost use Rattle.carte_trim.specs.Lists.{HasThose, in_batch, in_entries, in_traces};
+ghost use Rattle.carte_trim.specs.Lists.{HasThose, in_batch, in_those};
 
-use carte_record::{Batch, Entry, Store, Trace};
+use carte_record::{Batch, DeepTrace, Entry, Store, Trace};
 use carte_value::{Digest, NoMemory, Seeded};
 use std::alloc::Global;
+
+/// What names a value by its digest.
+pub(crate) trait Naming {
+    ghost digest_of: { Self → SomeDigest };
+
+    fn digest(&self) -> Digest
+        ensures { result ≡ digest_of self.now };
+}
+
+impl Naming for Entry {
+    ghost digest_of = { λ e. e.result };
+
+    fn digest(&self) -> Digest {
+        self.result
+    }
+}
+
+impl Naming for Trace {
+    ghost digest_of = { λ t. t.result };
+
+    fn digest(&self) -> Digest {
+        self.result
+    }
+}
+
+impl Naming for DeepTrace {
+    ghost digest_of = { λ t. t.result };
+
+    fn digest(&self) -> Digest {
+        self.result
+    }
+}
 
 /// The values of a batch that its entries and traces name, each once.
 pub(crate) fn named(alloc: Global, batch: &Batch, hasher: Seeded) -> Result<Store, NoMemory>
@@ -14,37 +46,24 @@ pub(crate) fn named(alloc: Global, batch: &Batch, hasher: Seeded) -> Result<Stor
 {
     let all = &batch.values;
     let mut list = Store::new(alloc, hasher);
-    for_entries(alloc, all, batch.entries.as_slice(), &mut list)?;
-    for_traces(alloc, all, batch.verifying.as_slice(), &mut list)?;
-    for_traces(alloc, all, batch.constructive.as_slice(), &mut list)?;
-    for_traces(alloc, all, batch.deep.as_slice(), &mut list)?;
+    put_each(alloc, all, batch.entries.as_slice(), &mut list)?;
+    put_each(alloc, all, batch.verifying.as_slice(), &mut list)?;
+    put_each(alloc, all, batch.constructive.as_slice(), &mut list)?;
+    put_each(alloc, all, batch.deep.as_slice(), &mut list)?;
     Ok(list)
 }
 
-fn for_entries(
+// Puts the values that these name into the list, where they aren't there yet.
+fn put_each<T: Naming>(
     alloc: Global,
     all: &Store,
-    entries: &[Entry],
+    items: &[T],
     list: &mut Store,
 ) -> Result<(), NoMemory>
-    ensures { OnOk result ((before : SomeDigest → Bool) → HasThose all.now before list.old → HasThose all.now (λ d. before d || in_entries entries.now d) list.new) }
+    ensures { OnOk result ((before : SomeDigest → Bool) → HasThose all.now before list.old → HasThose all.now (λ d. before d || in_those T.digest_of items.now d) list.new) }
 {
-    for entry in entries {
-        put(alloc, all, &entry.result, list)?;
-    }
-    Ok(())
-}
-
-fn for_traces(
-    alloc: Global,
-    all: &Store,
-    traces: &[Trace],
-    list: &mut Store,
-) -> Result<(), NoMemory>
-    ensures { OnOk result ((before : SomeDigest → Bool) → HasThose all.now before list.old → HasThose all.now (λ d. before d || in_traces traces.now d) list.new) }
-{
-    for trace in traces {
-        put(alloc, all, &trace.result, list)?;
+    for item in items {
+        put(alloc, all, &item.digest(), list)?;
     }
     Ok(())
 }

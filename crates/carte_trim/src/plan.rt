@@ -16,7 +16,7 @@ use carte_value::{NoMemory, Seeded};
 use std::alloc::Global;
 
 /// The most bytes of a state's file.
-pub(crate) const MOST_STATE: u64 = 268435456;
+pub(crate) const MOST_STATE: u64 = 536870912;
 
 /// The most bytes of a body.
 const LONGEST: usize = 4294967295;
@@ -32,7 +32,7 @@ pub(crate) struct Plan {
 
 /// What is to be written so that the file keeps this, or none where that is nothing.
 pub(crate) fn planned(alloc: Global, kept: &Kept) -> Result<Option<Plan>, NoMemory>
-    ensures plan { IfOk result (λ plan. IfSome plan (IsPlan 268435456 (kept_view kept.now))) }
+    ensures plan { IfOk result (λ plan. IfSome plan (IsPlan 536870912 (kept_view kept.now))) }
     ensures nothing { IfOk result (λ plan. IfNone plan (kept_view kept.now ≡ nothing_kept)) }
 {
     let bodies = live_bodies(alloc, kept)?;
@@ -63,7 +63,7 @@ fn empty_frame(alloc: Global, hasher: Seeded) -> Result<Frame, NoMemory>
 
 // The journal of a new file, which is that of any other new one.
 fn fresh(alloc: Global) -> Result<Journal, NoMemory>
-    ensures { IfOk result (λ journal. journal ≡ fresh_journal 268435456) }
+    ensures { IfOk result (λ journal. journal ≡ fresh_journal 536870912) }
 {
     let mut disk = MemDisk::of(alloc, &[], &[])?;
     match Journal::load(alloc, &mut disk, MOST_STATE) {
@@ -74,7 +74,7 @@ fn fresh(alloc: Global) -> Result<Journal, NoMemory>
 
 // The journal of a file that has this frame alone.
 fn behind(alloc: Global, frame: &Frame) -> Result<Journal, NoMemory>
-    ensures { IfOk result (λ journal. journal ≡ committed (fresh_journal 268435456) frame.now) }
+    ensures { IfOk result (λ journal. journal ≡ committed (fresh_journal 536870912) frame.now) }
 {
     let mut journal = fresh(alloc)?;
     let mut disk = MemDisk::of(alloc, &[], &[])?;

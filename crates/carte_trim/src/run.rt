@@ -29,7 +29,7 @@ pub(crate) fn run<S: Disk, N: Disk, O: Sink>(
     out: &mut O,
     hasher: Seeded,
 ) -> Status
-    ensures { IsRun 268435456 words.now
+    ensures { IsRun 536870912 words.now
         (over_disk S.tells S.story S.faults state.old state.new)
         (over_disk N.tells N.story N.faults new.old new.new)
         (over_sink O.tells O.state out.old out.new)
@@ -49,7 +49,7 @@ fn run_for<S: Disk, N: Disk, O: Sink>(
     out: &mut O,
     hasher: Seeded,
 ) -> Status
-    ensures { RunsFor 268435456 count
+    ensures { RunsFor 536870912 count
         (over_disk S.tells S.story S.faults state.old state.new)
         (over_disk N.tells N.story N.faults new.old new.new)
         (over_sink O.tells O.state out.old out.new)
@@ -63,7 +63,7 @@ fn run_for<S: Disk, N: Disk, O: Sink>(
 
 // What the state keeps, where it is of version 2, and the length of its file.
 fn load<S: Disk>(alloc: Global, state: &mut S, hasher: Seeded) -> Result<(State, u64), Status>
-    ensures { LoadsState 268435456 (over_disk S.tells S.story S.faults state.old state.new) result }
+    ensures { LoadsState 536870912 (over_disk S.tells S.story S.faults state.old state.new) result }
 {
     match State::load(alloc, state, MOST_STATE, hasher) {
         Ok(loaded) => {
@@ -98,7 +98,7 @@ fn run_over<N: Disk, O: Sink>(
     new: &mut N,
     out: &mut O,
 ) -> Status
-    ensures { RunsOver 268435456 count (kept_view kept.now) of_bytes
+    ensures { RunsOver 536870912 count (kept_view kept.now) of_bytes
         (over_part N.tells N.story N.faults new.old new.new)
         (over_sink O.tells O.state out.old out.new)
         result }
@@ -120,7 +120,7 @@ fn run_new<N: Disk, O: Sink>(
     out: &mut O,
 ) -> Status
     requires { N.tells → length (N.story new.old).now.reads ≤ 9 }
-    ensures { RunsOver 268435456 count (kept_view kept.now) of_bytes
+    ensures { RunsOver 536870912 count (kept_view kept.now) of_bytes
         (over_part N.tells N.story N.faults new.old new.new)
         (over_sink O.tells O.state out.old out.new)
         result }

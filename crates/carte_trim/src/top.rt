@@ -15,7 +15,7 @@ use std::alloc::Global;
 /// The reply is written to `out`, and where something went wrong one line to `err`.
 ///
 /// No writing call of the state's disk is made, and none of the new one's before all memory but that of the reply was had.
-/// Each file is limited to 268,435,456 bytes.
+/// Each file is limited to 536,870,912 bytes.
 ///
 /// The maps of names are made with `hasher`, on which nothing that is answered depends.
 pub fn trim<S: Disk, N: Disk, O: Sink, E: Sink>(
@@ -27,7 +27,7 @@ pub fn trim<S: Disk, N: Disk, O: Sink, E: Sink>(
     err: &mut E,
     hasher: Seeded,
 ) -> Status
-    ensures { IsOutcome 268435456
+    ensures { IsOutcome 536870912
         (record {
           words = words.now;
           state = over_disk S.tells S.story S.faults state.old state.new;

@@ -18,11 +18,11 @@ use carte_journal::{Journal, Region};
 /// Writes what is planned, for which there is room: 10 writing calls. At each moment an image of the file keeps nothing, or
 /// all of it. It takes no memory.
 pub(crate) fn write<N: Disk>(disk: &mut N, plan: Plan) -> Result<(), Failed>
-    requires room { region_end plan.region ≤ 268435456 }
-    requires plan { (L : SomeKept) × IsPlan 268435456 L plan }
-    ensures keeps { N.tells → IsNew (N.story disk.old) → (L : SomeKept) → IsPlan 268435456 L plan → OnOk result (Keeps 268435456 (InTwo L) (N.story disk.new).now.reads) }
-    ensures leaves { N.tells → IsNew (N.story disk.old) → (L : SomeKept) → IsPlan 268435456 L plan
-        → LeavesOnly (N.story disk.old) (N.story disk.new) (KeepsEither 268435456 L) }
+    requires room { region_end plan.region ≤ 536870912 }
+    requires plan { (L : SomeKept) × IsPlan 536870912 L plan }
+    ensures keeps { N.tells → IsNew (N.story disk.old) → (L : SomeKept) → IsPlan 536870912 L plan → OnOk result (Keeps 536870912 (InTwo L) (N.story disk.new).now.reads) }
+    ensures leaves { N.tells → IsNew (N.story disk.old) → (L : SomeKept) → IsPlan 536870912 L plan
+        → LeavesOnly (N.story disk.old) (N.story disk.new) (KeepsEither 536870912 L) }
     ensures cause { HasCause (N.faults disk.old) (N.faults disk.new) result }
 {
     let Plan {

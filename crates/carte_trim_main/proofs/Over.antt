@@ -10,7 +10,7 @@ real_sink before after = record { tells = ⊥; old = record { taken = []; handed
 
 module _ (words : List (List ℕ)) (state new : OverDisk) (status : Status) where
   abbrev Comes : OverSink → OverSink → Type 0
-  Comes out err = IsOutcome 268435456 (record { words = words; state = state; new = new; out = out; err = err }) status
+  Comes out err = IsOutcome 536870912 (record { words = words; state = state; new = new; out = out; err = err }) status
 
   pub over_real : (out_before out err_before err : ℕ) → out_before ≡ 0 → err_before ≡ 0 → Comes (real_sink out_before out) (real_sink err_before err) → OverBoth words state new status
   over_real out_before out err_before err none no_line comes =

@@ -16,7 +16,7 @@ untold_sink n = record { tells = ⊥; old = record { taken = []; handed = 0; fau
 pub record OverBoth (words : List (List ℕ)) (state new : OverDisk) (status : Status) : Type 0 where
   pub out : ℕ
   pub err : ℕ
-  pub outcome : IsOutcome 268435456 (record { words = words; state = state; new = new; out = untold_sink out; err = untold_sink err }) status
+  pub outcome : IsOutcome 536870912 (record { words = words; state = state; new = new; out = untold_sink out; err = untold_sink err }) status
 
 pub record OverState (words : List (List ℕ)) (state : OverDisk) (status : Status) : Type 0 where
   pub new : ℕ

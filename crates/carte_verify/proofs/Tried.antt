@@ -14,10 +14,10 @@ use Rattle.carte_sound.specs.Held.{IsTrusted}
 use Rattle.carte_sound.proofs.Tests.{same_digest, digest_self}
 use Rattle.carte_rebuild.specs.Earlier.{checks_now}
 use Rattle.carte_rebuild.specs.Traced.{AreTried}
-use Rattle.carte_rebuild.proofs.Starting.{tried_now}
+use Rattle.carte_rebuild.proofs.Starting.{tried_verifying}
 
 pub with_entry : (K : Kept) (b : Book) (k : List ℕ) (e : Entry) (cs : List Checking) → first_entry K.entries k ≡ Some e → cs ≡ checks_now (task_now b k) (Some e.result) K.values k K.verifying → AreTried Verifying (kept_view K) b k cs
-with_entry K b k e cs found is = subst (AreTried Verifying (kept_view K) b k) (sym is) (tried_now Verifying (kept_view K) b k (task_now b k) (Some e.result) K.values K.verifying refl refl refl
+with_entry K b k e cs found is = subst (AreTried Verifying (kept_view K) b k) (sym is) (tried_verifying (kept_view K) b k (Some e.result) K.values K.verifying refl refl
     (λ t wanted. (e, found, same_digest e.result t.result wanted))
     (λ t trusted. wants t trusted))
   where

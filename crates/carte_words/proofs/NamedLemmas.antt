@@ -106,30 +106,30 @@ module _ (kind : Kind) where
 
 -- ---- counts
 
-count_within : (t : Text) (n : ℕ) → count_in t ≡ Some n → (2 ≤ n) × (n ≤ 65536)
-count_within t n e = go (is_numeral t) (nat_le 2 (digits_value 10 t)) refl (nat_le (digits_value 10 t) 65536) refl e
+count_within : (t : Text) (n : ℕ) → count_in t ≡ Some n → (2 ≤ n) × (n ≤ 262144)
+count_within t n e = go (is_numeral t) (nat_le 2 (digits_value 10 t)) refl (nat_le (digits_value 10 t) 262144) refl e
   where
-    go : (b low : Bool) → nat_le 2 (digits_value 10 t) ≡ low → (high : Bool) → nat_le (digits_value 10 t) 65536 ≡ high → (if b && (low && high) then Some (digits_value 10 t) else None) ≡ Some n
-        → (2 ≤ n) × (n ≤ 65536)
+    go : (b low : Bool) → nat_le 2 (digits_value 10 t) ≡ low → (high : Bool) → nat_le (digits_value 10 t) 262144 ≡ high → (if b && (low && high) then Some (digits_value 10 t) else None) ≡ Some n
+        → (2 ≤ n) × (n ≤ 262144)
     go true true least true most e = let is : digits_value 10 t ≡ n = cc in (omega (arith, leb-true _ _ least, is), omega (arith, leb-true _ _ most, is))
     go true true least false most e = cc
     go true false least high most e = cc
     go false low least high most e = cc
 
-numbered_within : (s n : Option ℕ) (a : Aims) → ((m : ℕ) → n ≡ Some m → (2 ≤ m) × (m ≤ 65536)) → numbered s n ≡ Ok a → (2 ≤ a.count) × (a.count ≤ 65536)
+numbered_within : (s n : Option ℕ) (a : Aims) → ((m : ℕ) → n ≡ Some m → (2 ≤ m) × (m ≤ 262144)) → numbered s n ≡ Ok a → (2 ≤ a.count) × (a.count ≤ 262144)
 numbered_within (Some s) (Some n) a within e =
     let is : record { targets = []; seed = s; count = n } ≡ a = cc in
-    subst (λ (x : Aims). (2 ≤ x.count) × (x.count ≤ 65536)) is (within n refl)
+    subst (λ (x : Aims). (2 ≤ x.count) × (x.count ≤ 262144)) is (within n refl)
 numbered_within (Some s) None a within e = cc
 numbered_within None n a within e = cc
 
-counting_within : (ts : List Text) (a : Aims) → seed_and_count ts ≡ Ok a → (2 ≤ a.count) × (a.count ≤ 65536)
+counting_within : (ts : List Text) (a : Aims) → seed_and_count ts ≡ Ok a → (2 ≤ a.count) × (a.count ≤ 262144)
 counting_within (s ∷ n ∷ []) a e = numbered_within (seed_in s) (count_in n) a (count_within n) e
 counting_within [] a e = cc
 counting_within (s ∷ []) a e = cc
 counting_within (s ∷ n ∷ t ∷ ts) a e = cc
 
-aims_within : (to : Command) (kind : Kind) (ts : List Text) (a : Aims) → aims_for to kind ts ≡ Ok a → to ≡ command.Generate → (2 ≤ a.count) × (a.count ≤ 65536)
+aims_within : (to : Command) (kind : Kind) (ts : List Text) (a : Aims) → aims_for to kind ts ≡ Ok a → to ≡ command.Generate → (2 ≤ a.count) × (a.count ≤ 262144)
 aims_within command.Build kind ts a e is = cc
 aims_within command.Session kind ts a e is = cc
 aims_within command.Explain kind ts a e is = cc

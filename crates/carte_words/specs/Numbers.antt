@@ -17,7 +17,7 @@ seed_in t = number_within 0 18446744073709551615 t
 
 -- as many keys as a book may have, and two at least, so that one is a rule
 abbrev pub count_in : List ℕ → Option ℕ
-count_in t = number_within 2 65536 t
+count_in t = number_within 2 262144 t
 
 -- the number of 64 bits that a word is, where a plus may stand first
 abbrev pub number_in : List ℕ → Option ℕ

@@ -146,7 +146,7 @@ words_of words = taken_of (faults_of words) (values_of words)
 
 -- a generated book has two keys at least, and as many as a book may have at most
 abbrev pub IsCounted : Asked → Type 0
-IsCounted w = w.command ≡ command.Generate → (2 ≤ w.count) × (w.count ≤ 65536)
+IsCounted w = w.command ≡ command.Generate → (2 ≤ w.count) × (w.count ≤ 262144)
 
 -- ---- what readers answer
 

@@ -14,7 +14,7 @@ use std::alloc::Global;
 /// `COMMAND BOOK STATE [options] [TARGET..]`, where options may stand between and behind the targets, too.
 ///
 /// The commands are `build` and `explain`, which take targets, `session` and `clean`, which take none, and `generate`, which
-/// takes a seed and a count in their place: two numbers in digits, the seed of 64 bits, the count from 2 to 65,536. The
+/// takes a seed and a count in their place: two numbers in digits, the seed of 64 bits, the count from 2 to 262,144. The
 /// options, each at most once, are
 /// `--scheduler topological`, `restarting` or `suspending` (the default), `--rebuilder dirty`, `verifying` (the default),
 /// `constructive` or `deep`, `--workers` with a number from 1 (the default) to 64, `--kind rules` or `sheet`, and `--list`.

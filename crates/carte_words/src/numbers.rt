@@ -4,7 +4,7 @@ ghost use Rattle.carte_words.specs.Numbers.{seed_in, count_in, number_in, worker
 
 const LEAST_KEYS: u64 = 2;
 
-const MOST_KEYS: u64 = 65536;
+const MOST_KEYS: u64 = 262144;
 
 const MOST_WORKERS: usize = 64;
 

@@ -13,6 +13,12 @@ const TURNED: &str = "[inputs]\na1 = 10\na2 = 20\n[rules]\nb1 = \"a2+a1\"\nb2 = 
 
 const AS_INPUT: &str = "[inputs]\na1 = 10\na2 = 20\nb1 = 30\n[rules]\nb2 = \"b1*2\"\n";
 
+const BESIDE: &str =
+    "[inputs]\na1 = 10\na2 = 20\n[rules]\nb1 = \"a1+a2\"\nb2 = \"b1*2\"\nc = \"a1+1\"\n";
+
+const BESIDE_EDITED: &str =
+    "[inputs]\na1 = 10\na2 = 20\n[rules]\nb1 = \"a1+a2\"\nb2 = \"b1*2\"\nc = \"a1+2\"\n";
+
 const TRIPLED: &str = "[inputs]\na1 = 10\na2 = 20\n[rules]\nb1 = \"a1+a2\"\nb2 = \"b1*3\"\n";
 
 /// What runs over one state show, one after another, and how many bytes it has then.
@@ -56,7 +62,16 @@ const OLD: &[u8] =
 
 // A state, the runs over it, and what they show. A batch of version 2 that a small build brings has 523 bytes, one that
 // clears 35, and a frame 5.
-const RUNS: [(&[u8], &[(&str, &str)], &str); 6] = [
+const RUNS: [(&[u8], &[(&str, &str)], &str); 7] = [
+    // A rule beside what is built is nothing to its deep traces.
+    (
+        b"",
+        &[
+            ("build b s b2 --rebuilder deep", BESIDE),
+            ("build b s b2 --rebuilder deep", BESIDE_EDITED),
+        ],
+        "0\nb2 = 60\nran 2, given up 0, reused 0\n0\nb2 = 60\nran 0, given up 0, reused 1\n624",
+    ),
     // A rule becomes an input with its value: what stands above it is held.
     (
         b"",

@@ -4,14 +4,14 @@ ghost use Rattle.carte_codec.specs.Spellings.{IsRead};
 ghost use Rattle.carte_record.specs.Bodies.{spelled_kind, spelled_front, FitsFront, spelled_back, FitsBack, spelled_batch, FitsBatch, IsUnmarked, IsBody, IsDecoded, IsWhole, OneBody};
 ghost use Rattle.carte_record.specs.BodyLaws.{kind_one, batch_of};
 
-use crate::codec::lists::{write_links, write_values};
-use crate::{Batch, Entries, Entry, Seen, Start, Store, Trace, Traces};
+use crate::codec::lists::{write_deep, write_links, write_traces, write_values};
+use crate::{Batch, DeepTrace, DeepTraces, Entries, Entry, Seen, Start, Store, Trace, Traces};
 use carte_codec::{Spelled, Unread};
 use carte_table::Plain;
 use carte_value::{Link, Names, NoMemory, Seeded, Value};
 use std::alloc::Global;
 
-/// The kind of a body that is a batch of version 2 of the state file, spelled as 3.
+/// The kind of a body that is a batch of version 2 of the state file whose deep traces name rules, spelled as 4.
 #[derive(Drop)]
 pub(crate) struct Kind;
 
@@ -23,13 +23,13 @@ impl Spelled for Kind {
     ghost may = { λ _. Unit {0} };
 
     fn write(&self, out: &mut Vec<u8>) -> Result<(), NoMemory> {
-        out.push(3)?;
+        out.push(4)?;
         Ok(())
     }
 
     fn read(_alloc: Global, bytes: &[u8]) -> Result<(Kind, &[u8]), Unread> {
         match bytes {
-            [3, rest @ ..] => Ok((Kind, rest)),
+            [4, rest @ ..] => Ok((Kind, rest)),
             _ => Err(Unread::NotThere),
         }
     }
@@ -37,14 +37,18 @@ impl Spelled for Kind {
     ghost one_spelling = { kind_one };
 }
 
-type Front = (
+/// What is spelled before the traces, alike in both kinds of version 2.
+pub(crate) type Front = (
     Start,
     (Plain<Value>, (Names, (Plain<Link>, (Plain<Entry>, Names)))),
 );
 
-type Back = (Plain<Trace>, (Plain<Trace>, (Plain<Trace>, Option<Names>)));
+type Back = (
+    Plain<Trace>,
+    (Plain<Trace>, (Plain<DeepTrace>, Option<Names>)),
+);
 
-type Parts = (Kind, (Front, Back));
+pub(crate) type Parts = (Kind, (Front, Back));
 
 fn write_front(batch: &Batch, out: &mut Vec<u8>) -> Result<(), NoMemory>
     ensures bytes { OnOk result (out.new.items ≡ out.old.items ++ spelled_front batch.now) }
@@ -62,14 +66,14 @@ fn write_back(batch: &Batch, out: &mut Vec<u8>) -> Result<(), NoMemory>
     ensures bytes { OnOk result (out.new.items ≡ out.old.items ++ spelled_back batch.now) }
     ensures fits { OnOk result (FitsBack batch.now) }
 {
-    batch.verifying.write(out)?;
-    batch.constructive.write(out)?;
-    batch.deep.write(out)?;
+    write_traces(&batch.verifying, out)?;
+    write_traces(&batch.constructive, out)?;
+    write_deep(&batch.deep, out)?;
     batch.chain.write(out)
 }
 
 /// What was read, with its tables.
-fn of_parts(alloc: Global, parts: Parts, hasher: Seeded) -> Result<Batch, NoMemory>
+pub(crate) fn of_parts(alloc: Global, parts: Parts, hasher: Seeded) -> Result<Batch, NoMemory>
     ensures { IfOk result (λ batch. batch ≡ batch_of parts) }
 {
     let (_, (front, back)) = parts;
@@ -82,9 +86,9 @@ fn of_parts(alloc: Global, parts: Parts, hasher: Seeded) -> Result<Batch, NoMemo
         seen: Seen::with_places(alloc, seen.into_items(), hasher)?,
         entries: Entries::of(alloc, entries, hasher)?,
         stale,
-        verifying: Traces::of(alloc, verifying, hasher)?,
-        constructive: Traces::of(alloc, constructive, hasher)?,
-        deep: Traces::of(alloc, deep, hasher)?,
+        verifying: Traces::with_places(alloc, verifying.into_items(), hasher)?,
+        constructive: Traces::with_places(alloc, constructive.into_items(), hasher)?,
+        deep: DeepTraces::with_places(alloc, deep.into_items(), hasher)?,
         chain,
     })
 }

@@ -9,7 +9,7 @@ use std::test::Fail;
 // kind, start, values, names that are dropped, seen, entries with their tasks, stale, three lists of traces, chain. By
 // `tests/batches.py small`, which spells it from the format with digests of Python's hashlib.
 const PARTS: [&[u8]; 11] = [
-    b"\x03",
+    b"\x04",
     b"\0",
     b"\0\0\0\x02\x01\0\0\0\0\0\0\0\x1e\x01\0\0\0\0\0\0\0<",
     b"\0\0\0\0",

@@ -1,9 +1,15 @@
-use Rattle.std.proofs.Common.{◌≡◌, false, inr, rules}
+use Rattle.std.proofs.Common.{◌≡◌, true, false, [], inl, inr, rules}
 use Rattle.std.proofs.lemmas.Result.{IfOk-weaker}
 use Rattle.carte_compact.specs.Live.{is_bare}
 use Rattle.carte_compact.proofs.Living.{is_kept}
 use Rattle.carte_compact.proofs.Shut.{are_unmarked}
 use Rattle.carte_compact.proofs.batches.live.Goals as goal
+
+pub returns-then-is_bare-clause-kept : goal.returns-then-is_bare-clause-kept
+returns-then-is_bare-clause-kept c =
+    let none : is_bare c.args.kept.now ≡ true = search rules in
+    let nothing : c.new.result.items ≡ [] = search rules in
+    is_kept c.args.kept.now c.new.result.items (inl (none, nothing))
 
 pub returns-clause-kept : goal.returns-clause-kept
 returns-clause-kept c =

@@ -30,7 +30,7 @@ returns g c =
     let said : c.in_ok-to_vec.field-0.items ≡ r.out_after.taken = search rules in
     let told : c.in_ok-to_vec-2.field-0.items ≡ r.err_after.taken = search rules in
     let image : c.in_ok-to_vec-3.field-0.items ≡ r.file = search rules in
-    shown_one 268435456 c.args.disk.first run _ r c.in_ok-next.next words
+    shown_one 536870912 c.args.disk.first run _ r c.in_ok-next.next words
     (ap seen_source c.in_ok-book.ensures ∙ ap holding book_bytes)
     (ap seen_source c.in_ok-script.ensures ∙ ap holding script_bytes)
     (c.stop.ensures ∙ ap (stopped_by run.stop) c.requires.begun)

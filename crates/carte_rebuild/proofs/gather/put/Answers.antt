@@ -6,5 +6,5 @@ use Rattle.carte_rebuild.proofs.gather.put.Goals as goal
 
 pub returns : goal.returns
 returns c =
-    put_new c.args.gathered.now c.args.link.now c.insert.new.self.entries (sym c.contains_key.ensures ∙ c.if-contains_key.false)
-    ((c.in_ok-insert.ensures {u = tt}).entries ∙ ap (λ k. insert_entry name_eq c.args.gathered.now.entries k c.args.link.now.digest) (c.in_ok-copy.ensures {u = tt}))
+    put_new c.args.gathered.now (record { name = c.args.name.now; digest = c.args.digest }) c.insert.new.self.entries (sym c.contains_key.ensures ∙ c.if-contains_key.false)
+    ((c.in_ok-insert.ensures {u = tt}).entries ∙ ap (λ k. insert_entry name_eq c.args.gathered.now.entries k c.args.digest) (c.in_ok-copy.ensures {u = tt}))

@@ -9,4 +9,4 @@ pub returns : goal.returns
 returns g c =
     let d = over_disk g.D.Disk.tells g.D.Disk.story g.D.Disk.faults c.args.state.now c.one.new.state in
     let k = over_sink g.O.Sink.tells g.O.Sink.state c.args.out.now c.one.new.out in
-    subst (λ (front : List ℕ). RequestsOver 268435456 c.args.choices (book_view c.args.prepared.book) (line.Build c.args.prepared.targets) front d k c.one.result) c.as_str.ensures.value c.one.ensures
+    subst (λ (front : List ℕ). RequestsOver 536870912 c.args.choices (book_view c.args.prepared.book) (line.Build c.args.prepared.targets) front d k c.one.result) c.as_str.ensures.value c.one.ensures

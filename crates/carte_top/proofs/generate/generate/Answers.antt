@@ -17,12 +17,12 @@ returns-in-Ok g c =
     let b = book_view c.in-Ok.prepared.book in
     let status = c.build.result in
     let front = string_bytes c.in-Ok.prepared.front in
-    let chosen : RequestsOver 268435456 (choices_of w) b (line.Build c.in-Ok.prepared.targets) front d k status =
-    subst (λ (x : Choices). RequestsOver 268435456 x b (line.Build c.in-Ok.prepared.targets) front d k status) c.choices_of.ensures c.build.ensures in
-    let aimed : RequestsOver 268435456 (choices_of w) b (line.Build (for_last w).targets) front d k status =
-    subst (λ (ts : List (List ℕ)). RequestsOver 268435456 (choices_of w) b (line.Build ts) front d k status) c.in-Ok.ensures.targets chosen in
-    generates 268435456 w d k b c.in-Ok.ensures.book status
-    (subst (λ (text : List ℕ). RequestsOver 268435456 (choices_of w) b (line.Build (for_last w).targets) text d k status) c.in-Ok.ensures.front aimed)
+    let chosen : RequestsOver 536870912 (choices_of w) b (line.Build c.in-Ok.prepared.targets) front d k status =
+    subst (λ (x : Choices). RequestsOver 536870912 x b (line.Build c.in-Ok.prepared.targets) front d k status) c.choices_of.ensures c.build.ensures in
+    let aimed : RequestsOver 536870912 (choices_of w) b (line.Build (for_last w).targets) front d k status =
+    subst (λ (ts : List (List ℕ)). RequestsOver 536870912 (choices_of w) b (line.Build ts) front d k status) c.in-Ok.ensures.targets chosen in
+    generates 536870912 w d k b c.in-Ok.ensures.book status
+    (subst (λ (text : List ℕ). RequestsOver 536870912 (choices_of w) b (line.Build (for_last w).targets) text d k status) c.in-Ok.ensures.front aimed)
 
 pub returns-in-Err : goal.returns-in-Err
 returns-in-Err g c = record {

@@ -13,14 +13,14 @@ returns-in-Ok g c =
     let w = c.args.asked in
     let d = over_disk g.D.Disk.tells g.D.Disk.story g.D.Disk.faults c.args.state.now c.one.new.state in
     let k = over_sink g.O.Sink.tells g.O.Sink.state c.args.out.now c.one.new.out in
-    builds 268435456 w (over_source g.B.Source.tells g.B.Source.state c.args.source.now c.load_book.new.source) d k
+    builds 536870912 w (over_source g.B.Source.tells g.B.Source.state c.args.source.now c.load_book.new.source) d k
     (book_view c.in-Ok.book) c.in-Ok.ensures.loads c.one.result
-    (subst (λ (x : Choices). RequestsOver 268435456 x (book_view c.in-Ok.book) (line.Build w.targets) [] d k c.one.result) c.choices_of-choices.ensures c.one.ensures)
+    (subst (λ (x : Choices). RequestsOver 536870912 x (book_view c.in-Ok.book) (line.Build w.targets) [] d k c.one.result) c.choices_of-choices.ensures c.one.ensures)
     c.in-Ok.ensures.read c.in-Ok.ensures.source
 
 pub returns-in-Err : goal.returns-in-Err
 returns-in-Err g c =
-    no_book 268435456 c.args.asked (over_source g.B.Source.tells g.B.Source.state c.args.source.now c.load_book.new.source)
+    no_book 536870912 c.args.asked (over_source g.B.Source.tells g.B.Source.state c.args.source.now c.load_book.new.source)
     (over_disk g.D.Disk.tells g.D.Disk.story g.D.Disk.faults c.args.state.now c.args.state.now)
     (over_sink g.O.Sink.tells g.O.Sink.state c.args.out.now c.args.out.now)
     c.in-Err.status c.in-Err.ensures (record { same = refl; story = refl; faults = refl }) (refl, refl, refl)

@@ -16,7 +16,7 @@ pub returns-in-Ok : goal.returns-in-Ok
 returns-in-Ok g c = inr (
   scene g.D.Disk.story g.D.Disk.faults (c.in-Ok.shell, c.open.new.state),
   scene g.D.Disk.story g.D.Disk.faults (c.request-status.new.shell, c.request-status.new.state),
-  opened_on 268435456 c.args.choices (book_view c.args.book) (over_disk g.D.Disk.tells g.D.Disk.story g.D.Disk.faults c.args.state.now c.open.new.state)
+  opened_on 536870912 c.args.choices (book_view c.args.book) (over_disk g.D.Disk.tells g.D.Disk.story g.D.Disk.faults c.args.state.now c.open.new.state)
       (scene g.D.Disk.story g.D.Disk.faults (c.in-Ok.shell, c.open.new.state)) (g.D.Disk.story c.request-status.new.state) (g.D.Disk.faults c.request-status.new.state)
       (c.request-status.new.state ≡ c.args.state.now) c.in-Ok.ensures,
   refl,

@@ -6,7 +6,7 @@ use Rattle.carte_top.proofs.session.session.Goals as goal
 
 pub returns-in-Ok : goal.returns-in-Ok
 returns-in-Ok g c =
-    sits 268435456 c.args.asked.now (over_source g.B.Source.tells g.B.Source.state c.args.source.now c.load_book.new.source)
+    sits 536870912 c.args.asked.now (over_source g.B.Source.tells g.B.Source.state c.args.source.now c.load_book.new.source)
     (over_disk g.D.Disk.tells g.D.Disk.story g.D.Disk.faults c.args.state.now c.session_over.new.state)
     (over_sink g.O.Sink.tells g.O.Sink.state c.args.out.now c.session_over.new.out)
     (book_view c.in-Ok.book) c.in-Ok.ensures.loads
@@ -18,5 +18,5 @@ returns-in-Err g c =
     sits_no_book c.args.asked.now (over_source g.B.Source.tells g.B.Source.state c.args.source.now c.load_book.new.source)
     (over_disk g.D.Disk.tells g.D.Disk.story g.D.Disk.faults c.args.state.now c.args.state.now)
     (over_sink g.O.Sink.tells g.O.Sink.state c.args.out.now c.args.out.now)
-    268435456 c.in-Err.status c.in-Err.ensures (record { same = refl; story = refl; faults = refl }) (refl, refl, refl)
+    536870912 c.in-Err.status c.in-Err.ensures (record { same = refl; story = refl; faults = refl }) (refl, refl, refl)
     (over_source g.S.Source.tells g.S.Source.state c.args.script.now c.args.script.now) (refl, refl)

@@ -17,7 +17,7 @@ pub returns-in-Ok : goal.returns-in-Ok
 returns-in-Ok g c =
     let m = scene g.D.Disk.story g.D.Disk.faults (c.in-Ok.shell, c.open.new.state) in
     let reads = (g.D.Disk.story c.args.state.now).now.reads in
-    served 268435456 c.args.asked.now (book_view c.args.book) (any_in m.stand)
+    served 536870912 c.args.asked.now (book_view c.args.book) (any_in m.stand)
     (over_source g.S.Source.tells g.S.Source.state c.args.script.now c.session_with.new.script)
     (over_disk g.D.Disk.tells g.D.Disk.story g.D.Disk.faults c.args.state.now c.session_with.new.state)
     (over_sink g.O.Sink.tells g.O.Sink.state c.args.out.now c.session_with.new.out)
@@ -38,6 +38,6 @@ pub returns-in-Err : goal.returns-in-Err
 returns-in-Err g c =
     let d = over_disk g.D.Disk.tells g.D.Disk.story g.D.Disk.faults c.args.state.now c.open.new.state in
     let script = over_source g.S.Source.tells g.S.Source.state c.args.script.now c.args.script.now in
-    sits_no_state 268435456 d (over_sink g.O.Sink.tells g.O.Sink.state c.args.out.now c.args.out.now) c.in-Err.ensures.story (refl, refl, refl)
+    sits_no_state 536870912 d (over_sink g.O.Sink.tells g.O.Sink.state c.args.out.now c.args.out.now) c.in-Err.ensures.story (refl, refl, refl)
     c.args.asked.now (book_view c.args.book) script c.in-Err.status c.in-Err.ensures.loaded c.in-Err.ensures.disk (refl, refl)
-    (stays_unbegun 268435456 (book_view c.args.book) script d c.in-Err.ensures.story)
+    (stays_unbegun 536870912 (book_view c.args.book) script d c.in-Err.ensures.story)

@@ -3,7 +3,7 @@ use Rattle.carte_top.proofs.Outcomes.{outcome}
 use Rattle.carte_top.proofs.top.carte.Goals as goal
 
 pub returns : goal.returns
-returns g c = outcome 268435456 (record {
+returns g c = outcome 536870912 (record {
   words = c.args.words.now;
   book = over_source g.B.Source.tells g.B.Source.state c.args.book.now c.run-status.new.book;
   script = over_source g.S.Source.tells g.S.Source.state c.args.script.now c.run-status.new.script;

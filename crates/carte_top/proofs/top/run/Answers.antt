@@ -5,14 +5,14 @@ use Rattle.carte_top.proofs.top.run.Goals as goal
 
 pub returns-in-Ok : goal.returns-in-Ok
 returns-in-Ok g c =
-    ran_so 268435456 c.args.words.now c.in-Ok.asked (over_source g.B.Source.tells g.B.Source.state c.args.book.now c.command.new.book)
+    ran_so 536870912 c.args.words.now c.in-Ok.asked (over_source g.B.Source.tells g.B.Source.state c.args.book.now c.command.new.book)
     (over_source g.S.Source.tells g.S.Source.state c.args.script.now c.command.new.script)
     (over_disk g.D.Disk.tells g.D.Disk.story g.D.Disk.faults c.args.state.now c.command.new.state)
     (over_sink g.O.Sink.tells g.O.Sink.state c.args.out.now c.command.new.out) c.command.result c.in-Ok.ensures.words c.command.ensures
 
 pub returns-in-Err : goal.returns-in-Err
 returns-in-Err g c =
-    rw c.usage.ensures (unasked 268435456 c.args.words.now (over_source g.B.Source.tells g.B.Source.state c.args.book.now c.args.book.now)
+    rw c.usage.ensures (unasked 536870912 c.args.words.now (over_source g.B.Source.tells g.B.Source.state c.args.book.now c.args.book.now)
     (over_source g.S.Source.tells g.S.Source.state c.args.script.now c.args.script.now)
     (over_disk g.D.Disk.tells g.D.Disk.story g.D.Disk.faults c.args.state.now c.args.state.now)
     (over_sink g.O.Sink.tells g.O.Sink.state c.args.out.now c.args.out.now) c.in-Err.fault c.in-Err.ensures.words

@@ -14,18 +14,18 @@ returns-in-Ok-None g c =
     let u = g.N.Disk.story c.length_of.new.new in
     let K = kept_view c.args.kept.now in
     let none : K ≡ nothing_kept = subst (λ o. IfNone o (K ≡ nothing_kept)) c.in-Ok-None.field-0-is c.in-Ok-None.ensures.nothing in
-    made_length 268435456 K (over_part g.N.Disk.tells g.N.Disk.story g.N.Disk.faults c.args.new.now c.length_of.new.new) (g.N.Disk.faults c.args.new.now) c.length_of.result refl
+    made_length 536870912 K (over_part g.N.Disk.tells g.N.Disk.story g.N.Disk.faults c.args.new.now c.length_of.new.new) (g.N.Disk.faults c.args.new.now) c.length_of.result refl
     (record {
       keeps =
           λ told new.
-          subst (λ t. Keeps 268435456 (InTwo K) t.now.reads) (sym (c.length_of.ensures.same told))
-          (subst (λ M. Keeps 268435456 (InTwo M) s.now.reads) (sym none) (new_keeps 268435456 s.now.reads new.short));
+          subst (λ t. Keeps 536870912 (InTwo K) t.now.reads) (sym (c.length_of.ensures.same told))
+          (subst (λ M. Keeps 536870912 (InTwo M) s.now.reads) (sym none) (new_keeps 536870912 s.now.reads new.short));
       room = inl (none, c.length_of.ensures.same);
     })
-    c.length_of.ensures.length (λ told new. new_leaves 268435456 K s u new (c.length_of.ensures.same told))
+    c.length_of.ensures.length (λ told new. new_leaves 536870912 K s u new (c.length_of.ensures.same told))
 
 pub returns-in-Err : goal.returns-in-Err
 returns-in-Err g c = record {
   made = refl;
-  leaves = λ told new. new_leaves 268435456 (kept_view c.args.kept.now) (g.N.Disk.story c.args.new.now) (g.N.Disk.story c.args.new.now) new refl;
+  leaves = λ told new. new_leaves 536870912 (kept_view c.args.kept.now) (g.N.Disk.story c.args.new.now) (g.N.Disk.story c.args.new.now) new refl;
 }

@@ -19,16 +19,16 @@ returns-then-needed-gt-MOST_STATE g c L is = record {
     λ told. refl,
     refl,
   );
-  leaves = λ told new. new_leaves 268435456 L (g.N.Disk.story c.args.new.now) (g.N.Disk.story c.args.new.now) new refl;
+  leaves = λ told new. new_leaves 536870912 L (g.N.Disk.story c.args.new.now) (g.N.Disk.story c.args.new.now) new refl;
 }
 
 pub returns-in-Ok : goal.returns-in-Ok
 returns-in-Ok g c L is =
     let s = g.N.Disk.story c.args.new.now in
-    made_length 268435456 L (over_part g.N.Disk.tells g.N.Disk.story g.N.Disk.faults c.args.new.now c.length_of.new.new) (g.N.Disk.faults c.write.new.disk) c.length_of.result
+    made_length 536870912 L (over_part g.N.Disk.tells g.N.Disk.story g.N.Disk.faults c.args.new.now c.length_of.new.new) (g.N.Disk.faults c.write.new.disk) c.length_of.result
     c.in-Ok.ensures.cause.passed
     (record {
-      keeps = λ told new. subst (λ u. Keeps 268435456 (InTwo L) u.now.reads) (sym (c.length_of.ensures.same told)) (c.in-Ok.ensures.keeps told new L is);
+      keeps = λ told new. subst (λ u. Keeps 536870912 (InTwo L) u.now.reads) (sym (c.length_of.ensures.same told)) (c.in-Ok.ensures.keeps told new L is);
       room =
           inr (
             c.needed-needed.result,
@@ -36,4 +36,4 @@ returns-in-Ok g c L is =
             omega (arith, c.if-needed-gt-MOST_STATE.false),
           );
     })
-    c.length_of.ensures.length (λ told new. subst (λ u. LeavesOnly s u (KeepsEither 268435456 L)) (sym (c.length_of.ensures.same told)) (c.in-Ok.ensures.leaves told new L is))
+    c.length_of.ensures.length (λ told new. subst (λ u. LeavesOnly s u (KeepsEither 536870912 L)) (sym (c.length_of.ensures.same told)) (c.in-Ok.ensures.leaves told new L is))

@@ -9,4 +9,4 @@ returns-in-Ok c =
     let loaded = c.in-Ok.loaded in
     let read = c.in-Ok.ensures.read tt in
     let empty = subst (λ disk. IsRead loaded.0 loaded.1 (story_of disk).now.reads) ((c.in_ok-disk.ensures {u = tt}).begins) read in
-    read_fresh 268435456 loaded.0 loaded.1 empty c.in-Ok.ensures.starts.0 c.in-Ok.ensures.starts.1
+    read_fresh 536870912 loaded.0 loaded.1 empty c.in-Ok.ensures.starts.0 c.in-Ok.ensures.starts.1

@@ -1,7 +1,0 @@
-use Rattle.std.proofs.Common.{◌≡◌, [], take}
-use Rattle.carte_book.specs.Book.{book_view}
-use Rattle.carte_rebuild.specs.Gathering.{put_links, brought_by}
-use Rattle.carte_rebuild.proofs.gather.beneath_links.Given as goal
-
-abbrev pub invariant-loop-link : goal.invariant-loop-link
-invariant-loop-link l = l.gathered.entries ≡ put_links [] (brought_by (book_view l.book) l.before (take l.link-index l.link-items))

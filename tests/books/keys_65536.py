@@ -1,4 +1,0 @@
-"""One input and 65,535 rules, each one more than the one before it."""
-print("[inputs]\nk0 = 0\n[rules]")
-for i in range(1, 65536):
-    print(f"k{i} = 'k{i - 1} + 1'")
