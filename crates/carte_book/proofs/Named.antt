@@ -1,6 +1,5 @@
 -- What a rule looks up are names of its book's kind.
 use Rattle.std.proofs.Common.{◌≡◌, ◌∙◌, ap, ℕ, Bool, true, false, cond, IsTrue, List, [], ◌∷◌, ◌++◌, option_map, Option, Some, None, Result, Ok, Err, refl, sym, inl, inr}
-use Rattle.std.specs.Arc.{arc_value}
 use Rattle.std.specs.HashMap as hash
 use Rattle.carte_name.specs.declared.kind.Kind.{Kind}
 use Rattle.carte_name.specs.declared.kind.Kind.TheVariants.{Rules, Sheet}
@@ -15,7 +14,6 @@ use Rattle.carte_value.specs.Truths.{Truth, Among}
 use Rattle.carte_value.proofs.Firsts.{among_firsts}
 use Rattle.carte_value.proofs.Sides.{cells_within}
 use Rattle.carte_tree.specs.Applied.{condition, negated, applied, called}
-use Rattle.carte_tree.specs.Code.{tree_of}
 use Rattle.carte_tree.specs.Coercions.{both, each_as, text_of}
 use Rattle.carte_tree.specs.Formula.{IsExpr, AreSteps, AreArgs, IsArg, HasNames, StepsNames, ArgsNames, ArgNames, has_ranges}
 use Rattle.carte_tree.specs.Found.{named, or_no_name, name_in, names_in}
@@ -25,7 +23,7 @@ use Rattle.carte_tree.specs.Tree.{Tree, number, text, ref, neg, chain, call, Ste
 use Rattle.carte_tree.specs.declared.expr.Func.{Func}
 use Rattle.carte_tree.specs.declared.expr.Func.TheVariants as f
 use Rattle.carte_tree.specs.declared.expr.Level.{Level}
-use Rattle.carte_book.specs.Book.{Item, input, rule, content, clean, item_view, book_view}
+use Rattle.carte_book.specs.Book.{Item, input, rule, content, clean, formula_of, item_view, book_view}
 use Rattle.carte_book.specs.Needs.{needs_of, NeedsAreNames}
 use Rattle.carte_book.specs.declared.book.Book.{Book as CodeBook}
 use Rattle.carte_book.specs.declared.book.Item.TheVariants.{Rule as RuleItem}
@@ -150,9 +148,10 @@ mutual
 rule_named : (b : CodeBook) (k : List ℕ) (e : Tree) → content (book_view b) k ≡ Some (rule e) → IsExpr e × HasNames b.kind e
 rule_named b k e stands =
     let found = rule_found (hash.get name_eq b.items k) e (sym (item_found b k) ∙ rule_held (book_view b) k e stands) in
-    let same : Some (rule (tree_of (arc_value found.0))) ≡ Some (rule e) = ap (option_map item_view) (sym found.1) ∙ sym (item_found b k) ∙ rule_held (book_view b) k e stands in
-    let one : tree_of (arc_value found.0) ≡ e = cc in
-    rw (← one) (found_fits b k (RuleItem found.0) found.1)
+    let same : Some (rule (formula_of found.0)) ≡ Some (rule e) = ap (option_map item_view) (sym found.1) ∙ sym (item_found b k) ∙ rule_held (book_view b) k e stands in
+    let one : formula_of found.0 ≡ e = cc in
+    let fits = found_fits b k (RuleItem found.0) found.1 in
+    rw (← one) (fits.0, fits.1)
 
 pub needs_named : (b : CodeBook) → NeedsAreNames (book_view b)
 needs_named b k j = on (content (book_view b) k) refl

@@ -12,6 +12,7 @@ use Rattle.carte_value.specs.Truths.{Truth}
 use Rattle.carte_tree.specs.Tree.{Tree}
 use Rattle.carte_tree.specs.Code.{tree_of}
 use Rattle.carte_tree.specs.Meaning.{eval}
+use Rattle.carte_book.specs.declared.book.Rule.{Rule as CodeRule}
 use Rattle.carte_book.specs.declared.book.Item.{Item as CodeItem}
 use Rattle.carte_book.specs.declared.book.Item.TheVariants.{Input as InputItem, Rule as RuleItem}
 
@@ -65,10 +66,14 @@ rules_of b = rules_among (entries b.items)
 abbrev pub clean : Book → Truth
 clean b = val b (length (rules_of b) + 1)
 
+-- the formula of a rule that stands in memory
+abbrev pub formula_of : CodeRule → Tree
+formula_of r = tree_of (arc_value r.formula)
+
 -- the items that stand in memory
 abbrev pub item_view : CodeItem → Item
 item_view (InputItem v) = input v
-item_view (RuleItem e) = rule (tree_of (arc_value e))
+item_view (RuleItem r) = rule (formula_of r)
 
 abbrev pub entries_view : List (List ℕ × CodeItem) → List (List ℕ × Item)
 entries_view es = map (λ e. (e.0, item_view e.1)) es

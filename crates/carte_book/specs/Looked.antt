@@ -43,4 +43,4 @@ HasRules b names = (k : List ℕ) → (contains name_cmp names k ≡ true) ↔ I
 -- a rule's name was put into the set
 abbrev pub AddsRule : BTreeSet (List ℕ) → BTreeSet (List ℕ) → List ℕ → CodeItem → Type 0
 AddsRule old new k (InputItem v) = (q : List ℕ) → contains name_cmp new q ≡ contains name_cmp old q
-AddsRule old new k (RuleItem e) = (q : List ℕ) → contains name_cmp new q ≡ (if eq_by_cmp name_cmp k q then true else contains name_cmp old q)
+AddsRule old new k (RuleItem r) = (q : List ℕ) → contains name_cmp new q ≡ (if eq_by_cmp name_cmp k q then true else contains name_cmp old q)

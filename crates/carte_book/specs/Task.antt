@@ -6,7 +6,7 @@ use Rattle.carte_name.specs.declared.kind.Kind.TheVariants.{Rules, Sheet}
 use Rattle.carte_value.specs.declared.digest.Digest.{Digest}
 use Rattle.carte_tree.specs.Tree.{Tree}
 use Rattle.carte_tree.specs.Printed.{printed}
-use Rattle.carte_book.specs.Book.{Item, input, rule, Book, content}
+use Rattle.carte_book.specs.Content.{Item, input, rule, Book, content}
 
 -- other bytes than those of a digest of all rules, so that no task is spelled as the rules of a book are
 abbrev pub task_code : Kind → ℕ

@@ -29,6 +29,7 @@ impl Book {
             items: Items::with_hasher(alloc, hasher),
             nothing: Value::Empty,
             known: None,
+            known_tasks: 0,
         }
     }
 
@@ -50,6 +51,7 @@ impl Book {
             items,
             nothing: Value::Empty,
             known: None,
+            known_tasks: 0,
         })
     }
 
@@ -76,7 +78,7 @@ impl Book {
     {
         match self.items.get(name) {
             Some(Item::Input(value)) => Looked::Input(value),
-            Some(Item::Rule(formula)) => Looked::Rule(formula),
+            Some(Item::Rule(rule)) => Looked::Rule(&rule.formula),
             None => self.unheld(name),
         }
     }
@@ -87,7 +89,7 @@ impl Book {
         ensures { IfOk result (IsFormulaAt (book_view self.now) name.now) }
     {
         match self.items.get(name) {
-            Some(Item::Rule(formula)) => Ok(formula.clone()?),
+            Some(Item::Rule(rule)) => Ok(rule.formula.clone()?),
             Some(Item::Input(_)) => unreachable!(),
             None => unreachable!(),
         }
@@ -122,7 +124,7 @@ impl Book {
         self.items.contains_key(name)
     }
 
-    // What it knows of its rules is dropped, since the item may be one.
+    // What it knows of its rules is dropped, since the item may be one, or stand in the place of one.
     pub(crate) fn put(&mut self, name: Name, item: Item) -> Result<(), NoMemory>
         requires name { IsTrue (is_name_of (book_view self.old).kind name) }
         requires item { FitsItem (book_view self.old).kind item }
@@ -131,6 +133,7 @@ impl Book {
         ensures unchanged { OnErr result (book_view self.new ≡ book_view self.old) }
     {
         self.known = None;
+        self.known_tasks = 0;
         match self.items.insert(name, item) {
             Ok(_) => Ok(()),
             Err(_) => Err(NoMemory),

@@ -12,11 +12,19 @@ use std::sync::Arc;
 /// The one name of the map in memory. Items stand in the order in which they were added.
 pub(crate) type Items = IndexMap<Name, Item, Seeded>;
 
-/// What stands at a name of a book. A formula is shared with those who may run it later, without the book.
+/// What stands at a name of a book.
 #[derive(Debug, Drop)]
 pub enum Item {
     Input(Value),
-    Rule(Arc<Expr>),
+    Rule(Rule),
+}
+
+/// A rule. Its formula is shared with those who may run it later, without the book.
+#[derive(Debug, Drop)]
+pub struct Rule {
+    pub(crate) formula: Arc<Expr>,
+    /// The digest of its task, once it was worked out to be kept.
+    pub(crate) task: Option<Digest>,
 }
 
 /// A rule file or a sheet in memory. Its names are of its kind, and its formulas are as reading makes them.
@@ -29,6 +37,8 @@ pub struct Book {
     pub(crate) nothing: Value,
     /// The digest of its rules, once it was asked for.
     pub(crate) known: Option<Digest>,
+    /// Of so many rules, or of more, the digest of the task is known.
+    pub(crate) known_tasks: usize,
     ghost is_nothing: { nothing ≡ Empty },
     ghost fits: { Fits kind items.entries } by { Fits-prop kind items.entries },
     ghost knows: { Knows known (book_with kind items.entries) },

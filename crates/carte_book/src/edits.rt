@@ -7,7 +7,7 @@ ghost use Rattle.carte_book.specs.Book.{book_view, item_view, input, rule};
 ghost use Rattle.carte_book.specs.Edits.{keys_of, IsRefused, Adds, IsInput, IsSettable, Sets};
 
 use crate::items::put_new;
-use crate::{AddFault, Book, Item, Looked, SetFault};
+use crate::{AddFault, Book, Item, Looked, Rule, SetFault};
 use carte_tree::Expr;
 use carte_value::{Name, Value};
 use std::sync::Arc;
@@ -39,7 +39,10 @@ impl Book {
         ensures { Adds (book_view self.old) (book_view self.new) name (rule (tree_of expr)) result }
     {
         match Arc::new(self.alloc, expr) {
-            Ok(formula) => self.add(name, Item::Rule(formula)),
+            Ok(formula) => {
+                let task = None;
+                self.add(name, Item::Rule(Rule { formula, task }))
+            }
             Err(_) => Err(self.refusal(&name)),
         }
     }
@@ -90,9 +93,10 @@ impl Book {
             return Err(SetFault::Limit);
         }
         // An input is no rule, so what is known of these stays so.
-        let known = self.known;
+        let (known, known_tasks) = (self.known, self.known_tasks);
         let done = self.put_value(name, value);
         self.known = known;
+        self.known_tasks = known_tasks;
         done
     }
 

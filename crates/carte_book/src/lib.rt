@@ -25,8 +25,9 @@
 //!
 //! The digest of the rules, and that of one rule's task, are fed from the printed formulas and not from the texts that were
 //! read, so blanks and needless brackets aren't part of them. A book keeps the first once it was asked for: it is asked for
-//! each key by a rebuilder that compares all rules. The laws of the definitions are contracts of functions that do
-//! nothing: only a contract is proved.
+//! each key by a rebuilder that compares all rules. That of a task stands beside its rule where it was to be kept, since a
+//! build asks for it several times a key. The type keeps that what is known is right. The laws of the definitions are
+//! contracts of functions that do nothing: only a contract is proved.
 #![tactic(auto)]
 
 mod access;
@@ -43,7 +44,7 @@ mod order;
 mod reason;
 mod task;
 
-pub use book::{Book, Item, Looked};
+pub use book::{Book, Item, Looked, Rule};
 pub use draft::Draft;
 pub use fault::{AddFault, BookFault, SetFault, Which};
 pub use key_text::KeyText;

@@ -37,7 +37,8 @@ impl Book {
     {
         let mut rules = Vec::new(alloc);
         for (name, item) in &self.items {
-            if let Item::Rule(formula) = item {
+            if let Item::Rule(rule) = item {
+                let formula = &rule.formula;
                 rules.push(HeldRule { name, formula })?;
             }
         }

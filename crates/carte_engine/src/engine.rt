@@ -13,6 +13,7 @@ use crate::planned::{plan_over, raising};
 use crate::{Plan, Scheduler};
 use carte_book::Book;
 use carte_io::Disk;
+use carte_mark::know_tasks;
 use carte_rebuild::Rebuilder;
 use carte_record::Kept;
 use carte_state::{LoadFault, State};
@@ -92,6 +93,14 @@ impl Engine {
         ensures { result ≡ is_some self.now.one }
     {
         self.state.is_old()
+    }
+
+    /// Has the book know the digests of the tasks of the keys that have entries. Whoever builds lets it know them first: it
+    /// is no work where the book knows as many, as in the next line of a session.
+    pub fn know_tasks(&self, alloc: Global, book: &mut Book) -> Result<(), NoMemory>
+        ensures { book_view book.new ≡ book_view book.old }
+    {
+        know_tasks(alloc, &self.kept().entries, book)
     }
 
     /// What a build of the book finds to be kept, as a second one: what became of it by the book's rules, where it is of

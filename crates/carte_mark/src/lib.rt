@@ -36,4 +36,5 @@ mod walk;
 pub use base::{Begun, begin};
 pub use marking::{listed, mark};
 pub use set::{NameSet, holds};
+pub use tasks::know_tasks;
 pub use walk::put_each;

@@ -11,6 +11,20 @@ use carte_record::{Entries, Entry, Kept};
 use carte_value::{Digest, Name, NoMemory};
 use std::alloc::Global;
 
+/// Has the book know the digests of the tasks of the keys that have entries: the marking looks at each of them, and a build at
+/// each key that it reaches. It is no work where the book knows as many.
+pub fn know_tasks(alloc: Global, entries: &Entries, book: &mut Book) -> Result<(), NoMemory>
+    ensures { book_view book.new ≡ book_view book.old }
+{
+    if book.known_tasks() >= entries.len() {
+        return Ok(());
+    }
+    for entry in entries.as_slice() {
+        book.know_task(alloc, &entry.key)?;
+    }
+    Ok(())
+}
+
 /// Puts the keys whose entries have a task that they haven't now.
 pub(crate) fn put_changed_rules(
     alloc: Global,

@@ -1,5 +1,5 @@
 -- Checks that are collected place by place.
-use Rattle.std.proofs.Common.{◌≡◌, ℕ, ◌+◌, ◌<◌, true, false, cond, List, [], ◌∷◌, ◌++◌, Option, suc, length, get_or, take, slice_get, map, refl, ap, sym, ◌∙◌, append_assoc, append-nil}
+use Rattle.std.proofs.Common.{◌≡◌, ℕ, ◌+◌, ◌<◌, true, false, cond, List, [], ◌∷◌, ◌++◌, Option, Some, None, suc, length, get_or, take, slice_get, map, refl, ap, sym, ◌∙◌, append_assoc, append-nil, arith}
 use Rattle.std.proofs.Math.Seq.{take-length}
 use Rattle.std.proofs.lemmas.List.{take_more}
 use Rattle.carte_value.specs.declared.digest.Digest.{Digest}
@@ -8,7 +8,7 @@ use Rattle.carte_task.specs.Checking.{Checking}
 use Rattle.carte_record.specs.declared.trace.Trace.{Trace}
 use Rattle.carte_record.specs.Lookups.{is_trace_of}
 use Rattle.carte_table.specs.Places.{places}
-use Rattle.carte_rebuild.specs.Earlier.{checks_for, checks_if, checks_in}
+use Rattle.carte_rebuild.specs.Earlier.{checks_for, checks_if, checks_in, checks_now}
 
 module _ (task : Digest) (wanted : Option Digest) (vs : List Value) (k : List ℕ) where
   -- those of the traces at these places
@@ -42,3 +42,13 @@ module _ (task : Digest) (wanted : Option Digest) (vs : List Value) (k : List �
   -- at last all of them
   pub at_last : (ts : List Trace) (ns : List ℕ) (i : ℕ) (cs : List Checking) → i ≡ length ns → ns ≡ places (is_trace_of k) ts → cs ≡ checks_at ts (take i ns) → cs ≡ checks_in task wanted vs k ts
   at_last ts ns i cs end are is = is ∙ ap (checks_at ts) (ap (λ m. take m ns) end ∙ take-length ns ∙ are) ∙ at_places ts
+
+  -- none where there are no places
+  pub at_none : (ts : List Trace) (ns : List ℕ) → length ns ≡ 0 → ns ≡ places (is_trace_of k) ts → [] ≡ checks_in task wanted vs k ts
+  at_none ts [] end are = at_last ts [] 0 [] refl are refl
+  at_none ts (n ∷ ns) end are = absurd (let none : length (n ∷ ns) ≡ 0 = end in omega arith)
+
+-- what a key without traces has, whether it is a rule or not
+pub none_now : (task : Option Digest) (wanted : Option Digest) (vs : List Value) (k : List ℕ) (ts : List Trace) (ns : List ℕ) → length ns ≡ 0 → ns ≡ places (is_trace_of k) ts → [] ≡ checks_now task wanted vs k ts
+none_now None wanted vs k ts ns end are = refl
+none_now (Some task) wanted vs k ts ns end are = at_none task wanted vs k ts ns end are

@@ -2,6 +2,8 @@ ghost use Rattle.std.specs.Prelude.{◌≡◌, ◌++◌, option_copied, IfOk, On
 ghost use Rattle.carte_book.specs.Book.{book_view};
 ghost use Rattle.carte_book.specs.Task.{task_now};
 ghost use Rattle.carte_table.specs.Lookups.{first_value};
+ghost use Rattle.carte_table.specs.Places.{places as places_of};
+ghost use Rattle.carte_record.specs.Lookups.{is_trace_of};
 ghost use Rattle.carte_rebuild.specs.Earlier.{is_wanted as wants, may_hold, check_at, checks_if, checks_in, checks_now};
 
 use crate::{Checks, stored};
@@ -13,7 +15,7 @@ use std::alloc::Global;
 
 /// The checks of a key's traces of its own task whose values are in the store, in the order of the traces; where a result
 /// is wanted, of those with that result alone. A trace of another task is passed over before anything is looked up for it,
-/// and what is no rule of the book has no checks.
+/// and what is no rule of the book has no checks. Of a key without traces no task is asked for.
 pub fn checks_of(
     alloc: Global,
     book: &Book,
@@ -24,23 +26,28 @@ pub fn checks_of(
 ) -> Result<Checks, NoMemory>
     ensures { IfOk result (λ checks. checks ≡ checks_now (task_now (book_view book.now) key.now) (option_copied wanted.entry) values.now key.now traces.now) }
 {
+    let places = traces.places(key);
+    if places.is_empty() {
+        return Ok(Checks::new());
+    }
     match book.task_digest(alloc, key)? {
-        Some(task) => checks_with(alloc, traces, values, key, &task, wanted),
+        Some(task) => checks_at(alloc, traces, places, values, key, &task, wanted),
         None => Ok(Checks::new()),
     }
 }
 
-fn checks_with(
+fn checks_at(
     alloc: Global,
     traces: &Traces,
+    places: &[u32],
     values: &Store,
     key: &Name,
     task: &Digest,
     wanted: Option<&Digest>,
 ) -> Result<Checks, NoMemory>
+    requires { places.now ≡ places_of (is_trace_of key.now) traces.now }
     ensures { IfOk result (λ checks. checks ≡ checks_in task.now (option_copied wanted.entry) values.now key.now traces.now) }
 {
-    let places = traces.places(key);
     let mut checks = Checks::new();
     for at in places {
         add(

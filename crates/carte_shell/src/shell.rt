@@ -101,11 +101,11 @@ impl Shell {
         match line {
             Line::Set(name, value) => set_input(alloc, &mut self.book, &name, value),
             Line::Build(targets) => {
-                self.know_digest(alloc)?;
+                self.know_digests(alloc)?;
                 self.build(rt, alloc, disk, &targets, gate)
             }
             Line::Explain(targets) => {
-                self.know_digest(alloc)?;
+                self.know_digests(alloc)?;
                 let rebuilder = self.choices.rebuilder;
                 Ok(explanation(alloc, rebuilder, &mut self.engine, &self.book, &targets)?)
             }
@@ -114,8 +114,9 @@ impl Shell {
         }
     }
 
-    // The digest of all rules is worked out once, and no input changes it. It is wanted to read what is kept in version 1.
-    fn know_digest(&mut self, alloc: Global) -> Result<(), NoMemory>
+    // The digests of tasks, which no input changes, are worked out once. That of all rules is wanted to read what is kept in
+    // version 1.
+    fn know_digests(&mut self, alloc: Global) -> Result<(), NoMemory>
         ensures choices { self.new.choices ≡ self.old.choices }
         ensures book { book_view self.new.book ≡ book_view self.old.book }
         ensures engine { self.new.engine ≡ self.old.engine }
@@ -123,7 +124,7 @@ impl Shell {
         if self.engine.is_old() {
             self.book.know_digest(alloc)?;
         }
-        Ok(())
+        self.engine.know_tasks(alloc, &mut self.book)
     }
 
     fn build<D: Disk, G: Gate, T: Threads + Sync>(

@@ -19,6 +19,7 @@ use Rattle.carte_tree.proofs.expr.Level.TheSendSync as level
 use Rattle.carte_tree.proofs.expr.Op.TheSendSync as op
 use Rattle.carte_tree.proofs.expr.Arg.TheLaws.TheKnot as tree
 use Rattle.carte_tree.specs.contracts.expr.Expr as Expr
+use Rattle.carte_book.specs.contracts.book.Rule as Rule
 use Rattle.carte_book.specs.contracts.book.Item as Item
 use Rattle.carte_book.specs.contracts.book.Book as Book
 use Rattle.carte_effect.proofs.digests.Digests.TheSendSync as digests
@@ -36,11 +37,14 @@ expr_send = search (sent_parts, tree.send-Expr) depth 20
 expr_sync : IsSync Expr.the_row
 expr_sync = search (shared_parts, tree.sync-Expr) depth 20
 
+rule_sync : IsSync (Rule.the_field).row
+rule_sync = struct_sync (fields.shape Rule.the_type) (search (sendable, Arc-sync, expr_send, expr_sync), (search (sendable, digest.the_sync) depth 20, tt))
+
 item_sync : IsSync (Item.the_field).row
-item_sync = enum_sync (choice.shape Item.the_type) ((value.the_field_sync, tt), ((search (sendable, Arc-sync, expr_send, expr_sync), tt), tt))
+item_sync = enum_sync (choice.shape Item.the_type) ((value.the_field_sync, tt), ((rule_sync, tt), tt))
 
 book_field_sync : IsSync (Book.the_field).row
-book_field_sync = struct_sync (fields.shape Book.the_type) (search (sendable, crosses), (search (sendable, kind.the_field_sync), (search (sendable, crosses, map.the_sync, name.the_sync, item_sync, seeded.the_field_sync) depth 20, (search (sendable, value.the_field_sync), (search (sendable, digest.the_sync) depth 20, tt)))))
+book_field_sync = struct_sync (fields.shape Book.the_type) (search (sendable, crosses), (search (sendable, kind.the_field_sync), (search (sendable, crosses, map.the_sync, name.the_sync, item_sync, seeded.the_field_sync) depth 20, (search (sendable, value.the_field_sync), (search (sendable, digest.the_sync) depth 20, (search (sendable, crosses), tt))))))
 
 pub book_sync : IsSync Book.the_row
 book_sync = recorded_sync (Book.the_field).row _ _ (Book.the_type).to_one book_field_sync

@@ -24,8 +24,8 @@ unreachable-requires-in-None c =
 
 pub returns : goal.returns
 returns c =
-    let found : hash.get name_eq c.args.self.now.items c.args.name.now ≡ Some (RuleItem c.in-Some-Rule.formula) = cc (c.in-Some-Rule.ensures.value) in
+    let found : hash.get name_eq c.args.self.now.items c.args.name.now ≡ Some (RuleItem c.in-Some-Rule.rule) = cc (c.in-Some-Rule.ensures.value) in
     rw c.in_ok-clone-in-Some-Rule.ensures.cases (
       ap (λ o. or_default o (default_of c.args.self.now.kind c.args.name.now)) (item_found c.args.self.now c.args.name.now ∙ ap (option_map item_view) found),
-      (found_fits c.args.self.now c.args.name.now (RuleItem c.in-Some-Rule.formula) found).0,
+      (found_fits c.args.self.now c.args.name.now (RuleItem c.in-Some-Rule.rule) found).0,
     )

@@ -14,7 +14,7 @@ returns-in-Some-Input-clause-answer c =
 
 pub returns-in-Some-Rule-clause-answer : goal.returns-in-Some-Rule-clause-answer
 returns-in-Some-Rule-clause-answer c =
-    let found : hash.get name_eq c.args.self.now.items c.args.name.now ≡ Some (RuleItem c.in-Some-Rule.formula) = cc (c.in-Some-Rule.ensures.value) in
+    let found : hash.get name_eq c.args.self.now.items c.args.name.now ≡ Some (RuleItem c.in-Some-Rule.rule) = cc (c.in-Some-Rule.ensures.value) in
     rw c.deref.ensures (ap (λ o. or_default o (default_of c.args.self.now.kind c.args.name.now)) (item_found c.args.self.now c.args.name.now ∙ ap (option_map item_view) found))
 
 pub returns-in-None-clause-answer : goal.returns-in-None-clause-answer
@@ -24,8 +24,9 @@ returns-in-None-clause-answer c =
 
 pub returns-in-Some-Rule-clause-formula : goal.returns-in-Some-Rule-clause-formula
 returns-in-Some-Rule-clause-formula c =
-    let found : hash.get name_eq c.args.self.now.items c.args.name.now ≡ Some (RuleItem c.in-Some-Rule.formula) = cc (c.in-Some-Rule.ensures.value) in
-    rw c.deref.ensures (found_fits c.args.self.now c.args.name.now (RuleItem c.in-Some-Rule.formula) found)
+    let found : hash.get name_eq c.args.self.now.items c.args.name.now ≡ Some (RuleItem c.in-Some-Rule.rule) = cc (c.in-Some-Rule.ensures.value) in
+    let fits = found_fits c.args.self.now c.args.name.now (RuleItem c.in-Some-Rule.rule) found in
+    rw c.deref.ensures (fits.0, fits.1)
 
 pub returns-in-Some-Input-clause-others : goal.returns-in-Some-Input-clause-others
 returns-in-Some-Input-clause-others c = no_others c.args.self.now
