@@ -30,7 +30,7 @@ use Rattle.carte_top.specs.Found.{Carries, for_last}
 use Rattle.carte_top.specs.Outcome.{IsShort, status_of}
 use Rattle.carte_top.proofs.Putting.{kept_on}
 use Rattle.carte_history.specs.Steps.{AreBuilt, AreCommitted, ArePutBy, AreSat, AreSteps, AreStepsFor, AreStoppedBy, EndsSo, Steps, steps_answered, steps_ended, steps_lines, steps_replied, steps_unreplied}
-use Rattle.carte_history.proofs.Lines.{IsTaken, StandsOn, cut_ended, taken_answered, taken_lines}
+use Rattle.carte_history.proofs.Lines.{StandsOn, cut_ended, taken_answered, taken_lines}
 use Rattle.carte_history.proofs.Stretches.{IsCut, IsStretch, Passes, cut_then, passes_of, stretch_then}
 use Rattle.carte_state.specs.Versions.{AnyKept}
 

@@ -1,12 +1,10 @@
 -- The lines of a session as steps, one line after another.
-use Rattle.std.proofs.Common.{◌≡◌, ℕ, ◌+◌, true, List, [], ◌∷◌, ◌++◌, Ok, Err, refl, sym, ◌∙◌, ap, subst, inl, inr, arith}
+use Rattle.std.proofs.Common.{◌≡◌, ℕ, ◌+◌, true, List, [], ◌∷◌, ◌++◌, sym, ◌∙◌, ap, subst, inl, inr, arith}
 use Rattle.carte_record.specs.declared.batch.Batch.{Batch}
 use Rattle.carte_session.specs.Session.{Goes}
 use Rattle.carte_session.specs.declared.end.StepEnd.{StepEnd}
 use Rattle.carte_session.specs.declared.end.StepEnd.TheVariants as ending
 use Rattle.carte_state.specs.States.{IsKeptOn, Stand, any_in}
-use Rattle.carte_state.specs.declared.fault.ApplyFault.{ApplyFault}
-use Rattle.carte_state.specs.declared.fault.ApplyFault.TheVariants as applying
 use Rattle.carte_words.specs.declared.line.Line.{Line}
 use Rattle.carte_words.specs.declared.line.Line.TheVariants as line
 use Rattle.carte_engine.specs.Clearing.{clearing}

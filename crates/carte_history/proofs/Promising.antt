@@ -1,5 +1,5 @@
 -- What a history promises holds of each of its runs.
-use Rattle.std.proofs.Common.{◌≡◌, ◌⊎◌, ℕ, ◌+◌, ◌<◌, ◌≤◌, List, [], ◌∷◌, ◌++◌, refl, sym, ◌∙◌, ap, subst, inl, inr, arith, append_assoc, append-nil}
+use Rattle.std.proofs.Common.{◌≡◌, ◌⊎◌, ℕ, ◌<◌, ◌≤◌, List, [], ◌∷◌, ◌++◌, refl, sym, ◌∙◌, ap, subst, inl, inr, arith, append_assoc, append-nil}
 use Rattle.carte_io.specs.Disk.{IsSettled, IsWithin, Leaves, Story}
 use Rattle.carte_io.specs.MemDisks.{MemoryOfDisk, begun_disk, story_of, within_of}
 use Rattle.carte_io.specs.Stations.{IsAtOneOf, StepsThrough, calls_in, last_of}
@@ -16,7 +16,7 @@ use Rattle.carte_state.specs.Folding.{Keeps}
 use Rattle.carte_state.proofs.Folds.{keeps_one}
 use Rattle.carte_report.specs.declared.status.Status.{Status}
 use Rattle.carte_report.specs.declared.status.Status.TheVariants as status
-use Rattle.carte_top.specs.Due.{IsDue, IsHindered}
+use Rattle.carte_top.specs.Due.{IsHindered}
 use Rattle.carte_top.specs.Histories.{AreBooks}
 use Rattle.carte_top.specs.Sound.{KeepsSound, StaysSound}
 use Rattle.carte_top.proofs.HistoryRuns.{front_of}

@@ -4,16 +4,15 @@ use Rattle.std.proofs.lemmas.List.{take_all, take_more}
 use Rattle.carte_io.specs.MemDisks.{MemoryOfDisk, begun_disk}
 use Rattle.carte_history.specs.declared.run.Run.{Run}
 use Rattle.carte_history.specs.declared.run.Shown.{Shown}
-use Rattle.carte_io.specs.Crashes.{IsPicked}
-use Rattle.carte_io.specs.Disk.{IsImage}
 use Rattle.carte_io.specs.Memory.{MemoryOfSink, MemoryOfSource}
 use Rattle.carte_io.specs.MemDisks.{story_of}
 use Rattle.carte_io.specs.Streams.{SinkState, SourceState}
-use Rattle.carte_report.specs.declared.status.Status.{Status}
 use Rattle.carte_top.specs.Whole.{IsOutcome}
 use Rattle.carte_history.proofs.Promising.{is_history}
 use Rattle.carte_history.specs.Promises.{IsHistory}
-use Rattle.carte_history.specs.Shown.{AreShown, IsAnswered, IsShown, Ran, around_of, bare, holding, pick_of, stopped_by}
+use Rattle.carte_history.specs.Shown.{AreShown, IsAnswered, IsLeft, IsNext, IsShown, Ran, around_of, bare, holding, stopped_by}
+use Rattle.carte_history.specs.declared.run.Stop.{Stop}
+use Rattle.carte_history.specs.declared.run.Stop.TheVariants as stops
 
 shown_more : (limit : ℕ) (file mid : List ℕ) (runs : List Run) (shown : List Shown) (rans : List Ran) (run : Run) (s : Shown) (r : Ran) → AreShown limit file runs shown rans mid
     → IsShown limit mid run s r → AreShown limit file (runs ++ run ∷ []) (shown ++ s ∷ []) (rans ++ r ∷ []) r.file
@@ -61,13 +60,43 @@ seen_source m = record { left = m.left; faults = m.faults; last = m.last; reads 
 abbrev pub seen_sink : MemoryOfSink → SinkState
 seen_sink m = record { taken = m.taken; handed = m.handed; faults = m.faults }
 
-module _ (limit : ℕ) (file : List ℕ) (run : Run) (s : Shown) (r : Ran) (next : MemoryOfDisk) where
-  pub shown_one : r.words ≡ run.words.items → r.book ≡ holding run.book.items → r.script ≡ holding run.script.items → r.old ≡ stopped_by run.stop (begun_disk file []) → r.out ≡ bare → r.err ≡ bare
-      → IsOutcome limit (around_of r) r.status → s.status ≡ r.status → s.out.items ≡ r.out_after.taken → s.err.items ≡ r.err_after.taken
-      → IsAnswered r.status run.stop (story_of r.new).now.passed r.err_after.faults → IsPicked (pick_of run.stop) (story_of r.new).now r.file → IsImage (story_of r.new).now r.file
-      → s.image.items ≡ r.file → next ≡ begun_disk r.file [] → (next ≡ begun_disk s.image.items []) × (x : Ran) × IsShown limit file run s x
-  shown_one words book script begins out err outcome ended said told answered picked image left next_is = (
-    next_is ∙ ap (λ xs. begun_disk xs []) (sym left),
-    r,
-    record { words = words; book = book; script = script; begins = begins; empty = (out, err); outcome = outcome; ended = ended; out = said; err = told; answered = answered; picked = picked; image = image; left = left },
+-- a stop leaves what the disk held at first
+first_of_stopped : (stop : Stop) (d : MemoryOfDisk) → (stopped_by stop d).first ≡ d.first
+first_of_stopped stops.None d = refl
+first_of_stopped (stops.After calls pick) d = refl
+
+pub stopped_first : (stop : Stop) (old new : MemoryOfDisk) → new ≡ stopped_by stop old → new.first ≡ old.first
+stopped_first stop old new is = ap (λ (d : MemoryOfDisk). d.first) is ∙ first_of_stopped stop old
+
+pub stopped_begun : (stop : Stop) (old new : MemoryOfDisk) → new ≡ stopped_by stop old → old ≡ begun_disk old.first [] → new ≡ stopped_by stop (begun_disk new.first [])
+stopped_begun stop old new is begun =
+    is ∙ ap (stopped_by stop) begun ∙ ap (λ xs. stopped_by stop (begun_disk xs [])) (sym (stopped_first stop old new is))
+
+-- the image that a crash leaves is what the next disk reads
+pub next_read : (stop : Stop) (disk next : MemoryOfDisk) (image : List ℕ) → IsNext stop disk next next.first → image ≡ (story_of next).now.reads → IsNext stop disk next image
+next_read stop disk next image ends reads =
+    subst (IsNext stop disk next) (sym (reads ∙ ap (λ d. (story_of d).now.reads) ends.begins)) ends
+
+module _ (limit : ℕ) (run : Run) (r : Ran) (said told : List ℕ) (faults : ℕ) (s : Shown) (next : MemoryOfDisk) where
+  pub shown_one : r.words ≡ run.words.items → r.book ≡ holding run.book.items → r.script ≡ holding run.script.items → r.old ≡ stopped_by run.stop (begun_disk r.old.first []) → r.out ≡ bare → r.err ≡ bare
+      → IsOutcome limit (around_of r) r.status → said ≡ r.out_after.taken → told ≡ r.err_after.taken → faults ≡ r.err_after.faults → IsLeft run.stop r.status said told faults r.new next s
+      → (next ≡ begun_disk s.image.items []) × (x : Ran) × IsShown limit r.old.first run s x
+  shown_one words book script begins no_out no_err outcome out err failed left = (
+    left.ends.begins,
+    record r { file = s.image.items },
+    record {
+      words = words;
+      book = book;
+      script = script;
+      begins = begins;
+      empty = (no_out, no_err);
+      outcome = outcome;
+      ended = left.ended;
+      out = left.out ∙ out;
+      err = left.err ∙ err;
+      answered = subst (IsAnswered r.status run.stop (story_of r.new).now.passed) failed left.answered;
+      picked = left.ends.picked;
+      image = left.ends.is_image;
+      left = refl;
+    },
   )

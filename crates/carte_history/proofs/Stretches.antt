@@ -1,5 +1,5 @@
 -- Commits one after another as steps: the images stand, and the calls are counted.
-use Rattle.std.proofs.Common.{◌≡◌, ℕ, ◌+◌, ◌<◌, ◌≤◌, Bool, true, false, List, [], ◌∷◌, ◌++◌, Ok, Err, refl, sym, ◌∙◌, ap, subst, inl, inr, arith}
+use Rattle.std.proofs.Common.{◌≡◌, ℕ, ◌+◌, ◌<◌, ◌≤◌, Bool, true, false, List, [], ◌∷◌, ◌++◌, Ok, Err, refl, sym, ◌∙◌, ap, subst, inl, arith}
 use Rattle.carte_io.specs.Disk.{Story}
 use Rattle.carte_io.specs.Stations.{StepsThrough, calls_in, last_of}
 use Rattle.carte_io.proofs.Acknowledged.{AreMade, calls_in-append, last_of-append}

@@ -1,7 +1,7 @@
 -- What a history promises of each of its runs.
 use Rattle.std.specs.Prelude.{ℕ, ◌≡◌, ◌⊎◌, ◌<◌, ◌≤◌, List, [], ◌∷◌, ◌++◌}
 use Rattle.carte_io.specs.MemDisks.{story_of}
-use Rattle.carte_io.specs.Stations.{Step, calls_in, last_of}
+use Rattle.carte_io.specs.Stations.{calls_in, last_of}
 use Rattle.carte_io.specs.declared.crashes.Pick.{Pick}
 use Rattle.carte_book.specs.Book.{Book}
 use Rattle.carte_record.specs.Kept.{nothing_kept}

@@ -1,5 +1,5 @@
 -- What a history shows of its runs: each is a run of the top call over devices in memory.
-use Rattle.std.specs.Prelude.{ℕ, ◌≡◌, ◌+◌, ◌-◌, ◌^◌, ◌≤◌, List, [], ◌∷◌, Option, Some, length, min}
+use Rattle.std.specs.Prelude.{ℕ, ◌≡◌, ◌+◌, ◌-◌, ◌^◌, ◌≤◌, List, [], ◌∷◌, Some, length, min}
 use Rattle.carte_io.specs.Crashes.{IsPicked}
 use Rattle.carte_io.specs.Disk.{IsImage}
 use Rattle.carte_io.specs.MemDisks.{MemoryOfDisk, begun_disk, story_of}
@@ -96,6 +96,20 @@ pub record IsShown (limit : ℕ) (file : List ℕ) (run : Run) (shown : Shown) (
   pub picked : IsPicked (pick_of run.stop) (story_of r.new).now r.file
   pub image : IsImage (story_of r.new).now r.file
   pub left : shown.image.items ≡ r.file
+
+-- behind a run over this disk the next one finds that with this image, which a crash leaves, as it is picked
+pub record IsNext (stop : Stop) (disk next : MemoryOfDisk) (image : List ℕ) : Type 0 where
+  pub picked : IsPicked (pick_of stop) (story_of disk).now image
+  pub is_image : IsImage (story_of disk).now image
+  pub begins : next ≡ begun_disk image []
+
+-- what is shown of a run that ended so, with what its outputs took and the failures of standard error, over this disk and the next one
+pub record IsLeft (stop : Stop) (status : Status) (said told : List ℕ) (faults : ℕ) (disk next : MemoryOfDisk) (shown : Shown) : Type 0 where
+  pub answered : IsAnswered status stop (story_of disk).now.passed faults
+  pub ended : shown.status ≡ status
+  pub out : shown.out.items ≡ said
+  pub err : shown.err.items ≡ told
+  pub ends : IsNext stop disk next shown.image.items
 
 -- one after another from a file on: each finds what the one before it left
 abbrev pub AreShown : ℕ → List ℕ → List Run → List Shown → List Ran → List ℕ → Type 0

@@ -27,9 +27,8 @@ pub fn history<G: Gate, T: Threads + Sync>(
     let mut disk = MemDisk::of(alloc, &[], &[])?;
     let mut shown = Vec::new(alloc);
     for run in runs {
-        let (one, next) = show(rt, alloc, run, disk, hasher, gate)?;
+        let one = show(rt, alloc, run, &mut disk, hasher, gate)?;
         shown.push(one)?;
-        disk = next;
     }
     Ok(shown)
 }

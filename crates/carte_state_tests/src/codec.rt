@@ -27,17 +27,38 @@ fn is_spelled<T: Spelled + Drop>(alloc: Global, item: T, bytes: &[u8]) -> Result
 #[test]
 fn items_are_spelled(rt: HostRuntime) -> Result<(), Fail> {
     let alloc = rt.alloc();
-    assert!(&rt; is_spelled(alloc, false, b"\0\x09")?);
-    assert!(&rt; is_spelled(alloc, true, b"\x01\x09")?);
-    assert!(&rt; is_spelled(alloc, Digest([7; 32]), SEVENS)?);
-    assert!(&rt; is_spelled(alloc, Value::Number(60), b"\x01\0\0\0\0\0\0\0\x3c\x09")?);
-    let pair = (Value::Empty, Value::Bad(Bad::Ref));
-    assert!(&rt; is_spelled(alloc, pair, b"\0\x03\x03\x09")?);
-    assert!(&rt; is_spelled(alloc, None::<bool>, b"\0\x09")?);
-    assert!(&rt; is_spelled(alloc, Some((true, false)), b"\x01\x01\0\x09")?);
-    assert!(&rt; is_spelled(alloc, Items::<Link>::new(alloc), b"\0\0\0\0\x09")?);
-    assert!(&rt; is_spelled(alloc, links(alloc)?, LINKS)?);
+    assert!(&rt; are_flags_spelled(alloc)?);
+    assert!(&rt; are_values_spelled(alloc)?);
+    assert!(&rt; are_options_spelled(alloc)?);
+    assert!(&rt; are_lists_spelled(alloc)?);
     Ok(())
+}
+
+fn are_flags_spelled(alloc: Global) -> Result<bool, Fail> {
+    Ok(is_spelled(alloc, false, b"\0\x09")? && is_spelled(alloc, true, b"\x01\x09")?)
+}
+
+fn are_values_spelled(alloc: Global) -> Result<bool, Fail> {
+    let pair = (Value::Empty, Value::Bad(Bad::Ref));
+    Ok(
+        is_spelled(alloc, pair, b"\0\x03\x03\x09")?
+            && is_spelled(alloc, Digest([7; 32]), SEVENS)?
+            && is_spelled(alloc, Value::Number(60), b"\x01\0\0\0\0\0\0\0\x3c\x09")?,
+    )
+}
+
+fn are_options_spelled(alloc: Global) -> Result<bool, Fail> {
+    Ok(
+        is_spelled(alloc, None::<bool>, b"\0\x09")?
+            && is_spelled(alloc, Some((true, false)), b"\x01\x01\0\x09")?,
+    )
+}
+
+fn are_lists_spelled(alloc: Global) -> Result<bool, Fail> {
+    Ok(
+        is_spelled(alloc, Items::<Link>::new(alloc), b"\0\0\0\0\x09")?
+            && is_spelled(alloc, links(alloc)?, LINKS)?,
+    )
 }
 
 const SEVENS: &[u8] =
@@ -66,7 +87,17 @@ fn is_unread<T: Spelled + Drop>(alloc: Global, bytes: &[u8]) -> bool {
     }
 }
 
-const NO_NAMES: [&[u8]; 7] = [
+// Whether none of these bytes spell such data.
+fn are_unread<T: Spelled + Drop>(alloc: Global, rows: &[&[u8]]) -> bool {
+    for bytes in rows {
+        if !is_unread::<T>(alloc, bytes) {
+            return false;
+        }
+    }
+    true
+}
+
+const NO_NAMES: &[&[u8]] = &[
     b"",
     b"\0",
     b"\x03a1",
@@ -76,19 +107,13 @@ const NO_NAMES: [&[u8]; 7] = [
     b"\x04ABC1",
 ];
 
-const NO_LISTS: [&[u8]; 3] = [b"\xff\xff\xff\xff", b"\0\0\0\x02\x01a", b"\0\0\0"];
+const NO_LISTS: &[&[u8]] = &[b"\xff\xff\xff\xff", b"\0\0\0\x02\x01a", b"\0\0\0"];
 
 #[test]
 fn other_bytes_are_not_there(rt: HostRuntime) {
     let alloc = rt.alloc();
-    for bytes in NO_NAMES {
-        assert!(&rt; is_unread::<Name>(alloc, bytes));
-    }
-    for bytes in NO_LISTS {
-        assert!(&rt; is_unread::<Items<Name>>(alloc, bytes));
-    }
-    assert!(&rt; is_unread::<bool>(alloc, b"\x02"));
-    assert!(&rt; is_unread::<Option<bool>>(alloc, b"\x02\0"));
-    assert!(&rt; is_unread::<Digest>(alloc, &[0; 31]));
-    assert!(&rt; is_unread::<Value>(alloc, b"\x04"));
+    assert!(&rt; are_unread::<Name>(alloc, NO_NAMES));
+    assert!(&rt; are_unread::<Items<Name>>(alloc, NO_LISTS));
+    assert!(&rt; is_unread::<bool>(alloc, b"\x02") && is_unread::<Option<bool>>(alloc, b"\x02\0"));
+    assert!(&rt; is_unread::<Digest>(alloc, &[0; 31]) && is_unread::<Value>(alloc, b"\x04"));
 }

@@ -12,19 +12,31 @@ fn number(value: i64) -> Digest {
 }
 
 /// The inputs a, b and a again were 1, 2 and 3.
-fn seen(alloc: Global) -> Result<Seen, Fail> {
-    let mut seen = Seen::new(alloc, Seeded::of(7));
-    for (text, value) in [("a", 1), ("b", 2), ("a", 3)] {
-        let name = Name::rule(alloc, text)?;
-        let digest = number(value);
-        seen.push(Link { name, digest })?;
+const INPUTS: [(&str, i64); 3] = [("a", 1), ("b", 2), ("a", 3)];
+
+// Lists are boxed here, so that one call drops each.
+fn seen(alloc: Global) -> Result<Box<Seen>, Fail> {
+    let mut seen = Box::new(alloc, Seen::new(alloc, Seeded::of(7)))?;
+    for (text, value) in INPUTS {
+        see(alloc, &mut seen, text, value)?;
     }
-    Ok(seen.copy(alloc)?)
+    Ok(Box::new(alloc, seen.copy(alloc)?)?)
+}
+
+fn see(alloc: Global, seen: &mut Seen, text: &str, value: i64) -> Result<(), Fail> {
+    let name = Name::rule(alloc, text)?;
+    let digest = number(value);
+    Ok(seen.push(Link { name, digest })?)
 }
 
 fn found(alloc: Global, text: &str) -> Result<Option<Digest>, Fail> {
+    let seen = seen(alloc)?;
+    found_in(alloc, &seen, text)
+}
+
+fn found_in(alloc: Global, seen: &Seen, text: &str) -> Result<Option<Digest>, Fail> {
     let name = Name::rule(alloc, text)?;
-    Ok(seen(alloc)?.find(&name).copied())
+    Ok(seen.find(&name).copied())
 }
 
 /// Puts a value with its digest.
@@ -47,35 +59,56 @@ fn stored(alloc: Global, digest: &Digest, at: usize) -> Result<(bool, Option<Dig
     Ok((store.find(digest).is_some(), store.digest(at).copied()))
 }
 
+fn is_found(alloc: Global, text: &str, want: Option<Digest>) -> Result<bool, Fail> {
+    Ok(found(alloc, text)? == want)
+}
+
+fn is_stored(
+    alloc: Global,
+    digest: &Digest,
+    at: usize,
+    want: (bool, Option<Digest>),
+) -> Result<bool, Fail> {
+    Ok(stored(alloc, digest, at)? == want)
+}
+
 #[test]
 fn lists_find_the_first(rt: HostRuntime) -> Result<(), Fail> {
     let alloc = rt.alloc();
-    assert_eq!(&rt; found(alloc, "a")?, Some(number(1)));
-    assert_eq!(&rt; found(alloc, "c")?, None);
-    assert_eq!(&rt; stored(alloc, &number(7), 1)?, (true, Some(number(7))));
-    assert_eq!(&rt; stored(alloc, &number(8), 2)?, (false, None));
+    assert!(&rt; is_found(alloc, "a", Some(number(1)))?);
+    assert!(&rt; is_found(alloc, "c", None)?);
+    assert!(&rt; is_stored(alloc, &number(7), 1, (true, Some(number(7))))?);
+    assert!(&rt; is_stored(alloc, &number(8), 2, (false, None))?);
     Ok(())
 }
 
 /// Traces of a, b, a and a.
-fn traces(alloc: Global) -> Result<Traces, Fail> {
-    let mut traces = Traces::new(alloc, Seeded::of(7));
+fn traces(alloc: Global) -> Result<Box<Traces>, Fail> {
+    let mut traces = Box::new(alloc, Traces::new(alloc, Seeded::of(7)))?;
     for key in ["a", "b", "a", "a"] {
-        let key = Name::rule(alloc, key)?;
-        let links = SharedLinks::of(alloc, Links::new(alloc))?;
-        traces.push(Trace {
-            key,
-            task: number(0),
-            links,
-            result: number(1),
-        })?;
+        traces.push(trace(alloc, key)?)?;
     }
-    Ok(traces.copy(alloc)?)
+    Ok(Box::new(alloc, traces.copy(alloc)?)?)
+}
+
+fn trace(alloc: Global, key: &str) -> Result<Trace, Fail> {
+    let links = SharedLinks::of(alloc, Links::new(alloc))?;
+    let key = Name::rule(alloc, key)?;
+    Ok(Trace {
+        key,
+        task: number(0),
+        links,
+        result: number(1),
+    })
 }
 
 fn has_places(alloc: Global, key: &str, places: &[u32]) -> Result<bool, Fail> {
-    let key = Name::rule(alloc, key)?;
     let traces = traces(alloc)?;
+    has_places_in(alloc, &traces, key, places)
+}
+
+fn has_places_in(alloc: Global, traces: &Traces, key: &str, places: &[u32]) -> Result<bool, Fail> {
+    let key = Name::rule(alloc, key)?;
     Ok(traces.places(&key) == places)
 }
 

@@ -11,6 +11,7 @@ use carte_record::Batch;
 use carte_state::{ApplyFault, State};
 use carte_value::{Name, Names, NoMemory, Seeded};
 use std::alloc::Global;
+use std::process::Abort;
 use std::test::Fail;
 
 // The file of the small example, of 537 bytes: the header, an open frame with a body of 523 bytes, and a closed gate byte.
@@ -22,11 +23,12 @@ fn small_file(alloc: Global) -> Result<Vec<u8>, NoMemory> {
     Ok(file)
 }
 
-fn loaded(alloc: Global, disk: &mut MemDisk, limit: u64) -> Result<State, Fail>
+// States and batches are boxed here, so that one call drops each.
+fn loaded(alloc: Global, disk: &mut MemDisk, limit: u64) -> Result<Box<State>, Fail>
     requires { limit < 2 ^ 32 }
 {
     match State::load(alloc, disk, limit, Seeded::of(7)) {
-        Ok(state) => Ok(state),
+        Ok(state) => Ok(Box::new(alloc, state)?),
         Err(_) => Err(Fail::from("it loads")),
     }
 }
@@ -47,7 +49,7 @@ fn measured(alloc: Global, state: &State) -> Result<(usize, usize, u64), NoMemor
 
 /// The same of a file, of which these keys are marked.
 fn live_of(alloc: Global, file: &[u8], stale: &Names) -> Result<(usize, usize, u64), Fail> {
-    let mut disk = MemDisk::of(alloc, file, &[])?;
+    let mut disk = Box::new(alloc, MemDisk::of(alloc, file, &[])?)?;
     let mut state = loaded(alloc, &mut disk, 537)?;
     marked(alloc, &mut state, stale)
 }
@@ -88,8 +90,8 @@ fn can_turn(state: &State) -> bool
 }
 
 // A batch of 38 bytes.
-fn marks(alloc: Global) -> Result<Batch, Fail> {
-    let mut marks = Batch::new(alloc, Seeded::of(7));
+fn marks(alloc: Global) -> Result<Box<Batch>, Fail> {
+    let mut marks = Box::new(alloc, Batch::new(alloc, Seeded::of(7)))?;
     marks.stale = b1(alloc)?;
     Ok(marks)
 }
@@ -162,16 +164,18 @@ fn again_of(
     Ok((place(state), bodies.len() == 1 && first.bytes() == body))
 }
 
-// The limit, what is wanted of a file, what its rewriting gives, and its bytes and the calls that passed then. The closed
-// gate byte of the first file is at 536: the move stands behind it up to 551, the roots up to 585, and the 529 bytes of the
-// region up to 1114. No place in front of the region is free then, so that the second goes behind it; and the third goes to
-// where the first was.
-const TURNS: [(
+type Turn = (
     u64,
     (u64, u64, bool),
     (Option<(u64, u64)>, (u64, u64, u64, u64)),
     (usize, u64),
-); 4] = [
+);
+
+// The limit, what is wanted of a file, what its rewriting gives, and its bytes and the calls that passed then. The closed
+// gate byte of the first file is at 536: the move stands behind it up to 551, the roots up to 585, and the 529 bytes of the
+// region up to 1114. No place in front of the region is free then, so that the second goes behind it; and the third goes to
+// where the first was.
+const TURNS: [Turn; 4] = [
     (
         1113,
         (1114, 1114, false),
@@ -202,12 +206,31 @@ const TURNS: [(
 fn a_state_is_rewritten(rt: HostRuntime) -> Result<(), Fail> {
     let alloc = rt.alloc();
     let body = small(alloc)?;
-    let mut disk = MemDisk::of(alloc, &small_file(alloc)?, &[])?;
-    for (limit, want, done, size) in TURNS {
-        assert_eq!(&rt; wanted(alloc, &mut disk, limit)?, want);
-        assert_eq!(&rt; rewritten(alloc, &mut disk, limit)?, done);
-        assert_eq!(&rt; (disk.bytes().len(), disk.passed()), size);
-        assert_eq!(&rt; again(alloc, &mut disk, &body)?, (done.1, true));
+    let mut disk = small_disk(alloc)?;
+    for turn in TURNS {
+        check_turn(&rt, alloc, &mut disk, &body, turn)?;
     }
+    Ok(())
+}
+
+fn small_disk(alloc: Global) -> Result<Box<MemDisk>, NoMemory> {
+    let file = small_file(alloc)?;
+    Ok(Box::new(alloc, MemDisk::of(alloc, &file, &[])?)?)
+}
+
+fn check_turn<R: Abort>(
+    rt: &R,
+    alloc: Global,
+    disk: &mut MemDisk,
+    body: &[u8],
+    turn: Turn,
+) -> Result<(), Fail>
+    requires { turn.0 < 2 ^ 32 }
+{
+    let (limit, want, done, size) = turn;
+    assert_eq!(rt; wanted(alloc, disk, limit)?, want);
+    assert_eq!(rt; rewritten(alloc, disk, limit)?, done);
+    assert_eq!(rt; (disk.bytes().len(), disk.passed()), size);
+    assert_eq!(rt; again(alloc, disk, body)?, (done.1, true));
     Ok(())
 }

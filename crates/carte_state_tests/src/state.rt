@@ -1,13 +1,13 @@
 //! What a state keeps over loads, crashes and faults.
 
-ghost use Rattle.std.specs.Prelude.{◌≡◌, true, List, IfOk};
+ghost use Rattle.std.specs.Prelude.{◌≡◌, true, false, List, IfOk, IfSome};
 ghost use Rattle.carte_codec.specs.Each.{EachFits};
 ghost use Rattle.carte_record.specs.Bodies.{IsUnmarked};
 ghost use Rattle.carte_record.specs.declared.batch.Batch.{Batch as SomeBatch};
 ghost use Rattle.carte_state.specs.Runs.{AreUnmarked, BeginAll};
 ghost use Rattle.carte_state.specs.States.{any_in};
 
-use carte_io::{Disk, MemDisk};
+use carte_io::MemDisk;
 use carte_record::{Batch, DeepTraces, Entries, Seen, Start, Store, Traces};
 use carte_state::{State, apply_all};
 use carte_value::{Names, NoMemory, Seeded, Value};
@@ -34,32 +34,51 @@ fn number_batch(alloc: Global, start: Start, number: i64) -> Result<Batch, NoMem
     })
 }
 
-// How many values a disk keeps, and 99 where its state is bad.
-fn count_on<D: Disk>(alloc: Global, disk: &mut D) -> usize {
+// The state of a disk, or none where it is bad. It is boxed, so that one call drops it.
+fn state_on(alloc: Global, disk: &mut MemDisk) -> Result<Option<Box<State>>, NoMemory>
+    ensures { IfOk result (λ found. IfSome found (λ state. state.value.journal.broken ≡ false)) }
+{
     match State::load(alloc, disk, 1 << 20, Seeded::of(7)) {
-        Ok(state) => state.kept().values.len(),
-        Err(_) => 99,
+        Ok(state) => Ok(Some(Box::new(alloc, state)?)),
+        Err(_) => Ok(None),
+    }
+}
+
+// How many values a disk keeps, and 99 where its state is bad.
+fn count_on(alloc: Global, disk: &mut MemDisk) -> Result<usize, NoMemory> {
+    match state_on(alloc, disk)? {
+        Some(state) => Ok(state.kept().values.len()),
+        None => Ok(99),
     }
 }
 
 // Whether a disk keeps a number.
-fn has_on(alloc: Global, disk: &mut MemDisk, number: i64) -> bool {
-    match State::load(alloc, disk, 1 << 20, Seeded::of(7)) {
-        Ok(state) => state.value_of(&Value::Number(number).digest()).is_some(),
-        Err(_) => false,
+fn has_on(alloc: Global, disk: &mut MemDisk, number: i64) -> Result<bool, NoMemory> {
+    match state_on(alloc, disk)? {
+        Some(state) => Ok(state.value_of(&Value::Number(number).digest()).is_some()),
+        None => Ok(false),
     }
 }
 
 // Applies 1 behind a clearing, and then 2. Whether both were taken.
-fn apply_two<D: Disk>(alloc: Global, disk: &mut D) -> Result<bool, NoMemory> {
-    let Ok(mut state) = State::load(alloc, disk, 1 << 20, Seeded::of(7)) else {
-        return Ok(false);
-    };
-    if !is_new(&state) {
+fn apply_two(alloc: Global, disk: &mut MemDisk) -> Result<bool, NoMemory> {
+    match state_on(alloc, disk)? {
+        Some(state) => {
+            let mut state = state;
+            apply_to(alloc, &mut state, disk)
+        }
+        None => Ok(false),
+    }
+}
+
+fn apply_to(alloc: Global, state: &mut State, disk: &mut MemDisk) -> Result<bool, NoMemory>
+    requires { state.old.journal.broken ≡ false }
+{
+    if !is_new(state) {
         return Ok(false);
     }
     let batches = two_batches(alloc)?;
-    Ok(apply_all(&mut state, alloc, disk, batches).is_ok())
+    Ok(apply_all(state, alloc, disk, batches).is_ok())
 }
 
 // Nothing is kept in version 1, so batches may begin as they like.
@@ -88,11 +107,11 @@ fn loaded(alloc: Global, numbers: [i64; 2]) -> Result<(u64, usize, [bool; 2]), N
     } else {
         0
     };
-    let count = count_on(alloc, &mut disk);
+    let count = count_on(alloc, &mut disk)?;
     let [first, second] = numbers;
     let has = [
-        has_on(alloc, &mut disk, first),
-        has_on(alloc, &mut disk, second),
+        has_on(alloc, &mut disk, first)?,
+        has_on(alloc, &mut disk, second)?,
     ];
     Ok((passed, count, has))
 }

@@ -6,6 +6,7 @@ use carte_state::{LoadFault, State};
 use carte_value::{NoMemory, Seeded};
 use std::alloc::Global;
 use std::marker::Sync;
+use std::process::Abort;
 use std::test::Fail;
 use std::thread::Threads;
 
@@ -42,9 +43,23 @@ fn loaded<G: Gate, T: Threads + Sync>(
     gate: &G,
 ) -> Result<String, Fail> {
     let file = file_of(alloc, numbers)?;
-    let mut disk = MemDisk::of(alloc, &file, &[])?;
-    match State::load_by(rt, alloc, &mut disk, 1 << 20, Seeded::of(7), workers, gate) {
-        Ok(state) => listed(alloc, &state),
+    let mut disk = Box::new(alloc, MemDisk::of(alloc, &file, &[])?)?;
+    loaded_from(rt, alloc, &mut disk, workers, gate)
+}
+
+fn loaded_from<G: Gate, T: Threads + Sync>(
+    rt: &T,
+    alloc: Global,
+    disk: &mut MemDisk,
+    workers: usize,
+    gate: &G,
+) -> Result<String, Fail> {
+    match State::load_by(rt, alloc, disk, 1 << 20, Seeded::of(7), workers, gate) {
+        Ok(state) => {
+            // In a box, so that one call drops it.
+            let state = Box::new(alloc, state)?;
+            listed(alloc, &state)
+        }
         Err(LoadFault::BadState(offset)) => Ok(format!(in alloc; "bad at {offset}")?),
         Err(_) => Err(Fail::new("it isn't loaded")),
     }
@@ -60,7 +75,7 @@ fn listed(alloc: Global, state: &State) -> Result<String, Fail> {
 }
 
 /// Files, and what they keep. Parts of them have several lengths.
-const FILES: [(&[u8], &str); 6] = [
+const FILES: &[(&[u8], &str)] = &[
     (&[], ""),
     (&[7], "7 "),
     (&[1, 2, 3, 4, 5, 6, 7, 8, 9], "1 2 3 4 5 6 7 8 9 "),
@@ -74,12 +89,23 @@ fn bodies_are_read_by_any_number(rt: HostRuntime) -> Result<(), Fail> {
     let alloc = rt.alloc();
     for (numbers, want) in FILES {
         for workers in [1, 2, 3, 7, 64] {
-            let free = loaded(&rt, alloc, numbers, workers, &Counting::of(false))?;
-            let wide = loaded(&rt, alloc, numbers, workers, &Counting::of(true))?;
-            assert_eq!(&rt; free.as_str(), want, "{workers}");
-            assert_eq!(&rt; wide.as_str(), want, "{workers}");
+            read_as(&rt, alloc, numbers, workers, false, want)?;
+            read_as(&rt, alloc, numbers, workers, true, want)?;
         }
     }
+    Ok(())
+}
+
+fn read_as<R: Abort + Threads + Sync>(
+    rt: &R,
+    alloc: Global,
+    numbers: &[u8],
+    workers: usize,
+    all: bool,
+    want: &str,
+) -> Result<(), Fail> {
+    let text = loaded(rt, alloc, numbers, workers, &Counting::of(all))?;
+    assert_eq!(rt; text.as_str(), want, "{workers}");
     Ok(())
 }
 
@@ -96,17 +122,25 @@ fn entered<T: Threads + Sync>(
     Ok(counting.entered())
 }
 
-/// Each part of bodies is entered once, and few bodies are one part where the gate doesn't ask for more.
+const NINE: &[u8] = &[1, 2, 3, 4, 5, 6, 7, 8, 9];
+
+/// Files, workers, whether the gate asks for all parts, and how often each is entered: once, and few bodies are one part where the
+/// gate doesn't ask for more.
+const PARTS: &[(&[u8], usize, bool, u64)] = &[
+    (NINE, 7, false, 1),
+    (NINE, 1, true, 1),
+    (NINE, 2, true, 11),
+    (NINE, 7, true, 1_111_111),
+    (&[1, 0], 64, true, 11),
+    (&[], 2, true, 0),
+];
+
 #[test]
 fn parts_of_bodies_are_entered_once(rt: HostRuntime) -> Result<(), Fail> {
-    let alloc = rt.alloc();
-    let nine = [1, 2, 3, 4, 5, 6, 7, 8, 9];
-    assert_eq!(&rt; entered(&rt, alloc, &nine, 7, false)?, 1);
-    assert_eq!(&rt; entered(&rt, alloc, &nine, 1, true)?, 1);
-    assert_eq!(&rt; entered(&rt, alloc, &nine, 2, true)?, 11);
-    assert_eq!(&rt; entered(&rt, alloc, &nine, 7, true)?, 1_111_111);
-    assert_eq!(&rt; entered(&rt, alloc, &[1, 0], 64, true)?, 11);
-    assert_eq!(&rt; entered(&rt, alloc, &[], 2, true)?, 0);
+    for (numbers, workers, all, want) in PARTS {
+        let parts = entered(&rt, rt.alloc(), numbers, *workers, *all)?;
+        assert_eq!(&rt; parts, *want, "{workers}");
+    }
     Ok(())
 }
 

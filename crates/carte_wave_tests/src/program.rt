@@ -31,26 +31,53 @@ fn shown<G: Gate, T: Threads + Sync>(
     gate: &G,
 ) -> Result<String, Fail> {
     let words = words_of(alloc, words)?;
+    let mut state = Box::new(alloc, MemDisk::of(alloc, state, &[])?)?;
+    shown_over(rt, alloc, words.as_slice(), &mut state, gate)
+}
+
+fn shown_over<G: Gate, T: Threads + Sync>(
+    rt: &T,
+    alloc: Global,
+    words: &[Word],
+    state: &mut MemDisk,
+    gate: &G,
+) -> Result<String, Fail> {
     let mut book = MemSource::of(alloc, TWO.as_bytes(), &[])?;
     let mut script = MemSource::of(alloc, b"build b a", &[])?;
-    let mut state = MemDisk::of(alloc, state, &[])?;
+    answer(rt, alloc, words, &mut book, &mut script, state, gate)
+}
+
+fn answer<G: Gate, T: Threads + Sync>(
+    rt: &T,
+    alloc: Global,
+    words: &[Word],
+    book: &mut MemSource,
+    script: &mut MemSource,
+    state: &mut MemDisk,
+    gate: &G,
+) -> Result<String, Fail> {
     let mut out = MemSink::new(alloc, 4096, &[])?;
     let mut err = MemSink::new(alloc, 4096, &[])?;
-    let hasher = Seeded::of(7);
     let status = carte(
         rt,
         alloc,
-        words.as_slice(),
-        &mut book,
-        &mut script,
-        &mut state,
+        words,
+        book,
+        script,
+        state,
         &mut out,
         &mut err,
-        hasher,
+        Seeded::of(7),
         gate,
     );
-    let out = str::from_utf8(out.bytes())?;
-    Ok(format!(in alloc; "{} {out}", status.code())?)
+    // In a box, so that one call drops it.
+    let code = Box::new(alloc, status)?.code();
+    printed(alloc, code, out.bytes())
+}
+
+fn printed(alloc: Global, code: u8, out: &[u8]) -> Result<String, Fail> {
+    let out = str::from_utf8(out)?;
+    Ok(format!(in alloc; "{code} {out}")?)
 }
 
 /// The two rules are one wave of two jobs, in two parts, and the two bodies of a state are read in two parts: were one begun only
@@ -71,7 +98,7 @@ fn program_meets(rt: HostRuntime) -> Result<(), Fail> {
     Ok(())
 }
 
-const RUNS: [(&str, &str); 3] = [
+const RUNS: &[(&str, &str)] = &[
     (
         "build b s b a --workers 7 --list",
         "0 b = 4\na = 2\nran a\nran b\nran 2, given up 0, reused 0\n",
@@ -90,7 +117,7 @@ const RUNS: [(&str, &str); 3] = [
 fn other_runs_are_those_of_one_worker(rt: HostRuntime) -> Result<(), Fail> {
     for (words, want) in RUNS {
         let text = shown(&rt, rt.alloc(), words, &[], &Wide)?;
-        assert_eq!(&rt; text.as_str(), want, "{words}");
+        assert_eq!(&rt; text.as_str(), *want, "{words}");
     }
     Ok(())
 }

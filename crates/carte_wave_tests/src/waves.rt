@@ -14,8 +14,10 @@ use std::process::Abort;
 use std::test::Fail;
 use std::thread::Threads;
 
-fn book_of(alloc: Global, text: &str) -> Result<Book, Fail> {
-    read_rules(alloc, text.as_bytes(), Seeded::of(7)).map_err(|_| Fail::new("no book"))
+// Books, what is kept and the ends of builds are boxed here, so that one call drops each.
+fn book_of(alloc: Global, text: &str) -> Result<Box<Book>, Fail> {
+    let book = read_rules(alloc, text.as_bytes(), Seeded::of(7)).map_err(|_| Fail::new("no book"))?;
+    Ok(Box::new(alloc, book)?)
 }
 
 fn targets_of(alloc: Global, texts: &str) -> Result<Names, Fail> {
@@ -35,15 +37,17 @@ fn by_waves<G: Gate, T: Threads + Sync>(
     workers: usize,
     gate: &G,
 ) -> Result<String, Fail> {
-    let kept = Kept::empty(alloc, Seeded::of(7));
+    let kept = Box::new(alloc, Kept::empty(alloc, Seeded::of(7)))?;
     let end = carte_wave::build(rt, alloc, &Verify, &kept, book, targets, workers, gate)?;
+    let end = Box::new(alloc, end)?;
     told(alloc, &end)
 }
 
 /// The same by suspending.
 fn by_suspending(alloc: Global, book: &Book, targets: &Names) -> Result<String, Fail> {
-    let kept = Kept::empty(alloc, Seeded::of(7));
+    let kept = Box::new(alloc, Kept::empty(alloc, Seeded::of(7)))?;
     let end = carte_suspend::build(alloc, &Verify, &kept, book, targets)?;
+    let end = Box::new(alloc, end)?;
     told(alloc, &end)
 }
 
@@ -107,7 +111,7 @@ const DYNAMIC: &str =
     "[inputs]\nx = 1\nno = 0\nway = 'left'\n[rules]\nleft = 'x + 1'\nright = 'far'\npick = 'INDIRECT(way)'\nsome = 'IF(no, right, pick)'\ntop = 'some + pick'";
 
 /// Worked out by hand. What is stuck doesn't hold up what isn't, and a rule that no value leads to isn't started.
-const BUILDS: [(&str, &str, &str); 6] = [
+const BUILDS: &[(&str, &str, &str)] = &[
     (
         DIAMOND,
         "top",
@@ -155,7 +159,7 @@ fn waves_come_to_what_waiting_does(rt: HostRuntime) -> Result<(), Fail> {
 }
 
 /// 200 rules over one input, and all of them as targets.
-fn many(alloc: Global) -> Result<(Book, Names), Fail> {
+fn many(alloc: Global) -> Result<(Box<Book>, Names), Fail> {
     let mut text = String::from_str(alloc, "[inputs]\nx = 1\n[rules]\n")?;
     let mut targets = Names::new(alloc);
     for number in 0..200u32 {

@@ -1,5 +1,9 @@
 //! A batch as bytes.
 
+ghost use Rattle.std.specs.Prelude.{IfOk, IfSome};
+ghost use Rattle.carte_codec.specs.Each.{EachFits};
+ghost use Rattle.carte_record.specs.Bodies.{IsUnmarked};
+
 use carte_record::Batch;
 use carte_value::{Digest, NoMemory, Seeded, Value};
 use std::alloc::Global;
@@ -30,9 +34,19 @@ pub(crate) fn small(alloc: Global) -> Result<Vec<u8>, NoMemory> {
     Ok(body)
 }
 
+/// The batch whose bytes these are. It is boxed, so that one call drops it.
+fn decoded(alloc: Global, body: &[u8]) -> Result<Option<Box<Batch>>, NoMemory>
+    ensures { IfOk result (λ found. IfSome found (λ batch. EachFits IsUnmarked batch.value.entries)) }
+{
+    match Batch::decode(alloc, body, Seeded::of(7))? {
+        Some(batch) => Ok(Some(Box::new(alloc, batch)?)),
+        None => Ok(None),
+    }
+}
+
 /// What the bytes are written as where they are a batch, and else nothing.
 fn again(alloc: Global, body: &[u8]) -> Result<Vec<u8>, NoMemory> {
-    match Batch::decode(alloc, body, Seeded::of(7))? {
+    match decoded(alloc, body)? {
         Some(batch) => batch.encode(alloc),
         None => Ok(Vec::new(alloc)),
     }
@@ -89,7 +103,7 @@ fn has_b1(batch: &Batch) -> bool {
 /// What the batch of the small example has.
 fn found(alloc: Global) -> Result<[bool; 5], NoMemory> {
     let body = small(alloc)?;
-    match Batch::decode(alloc, body.as_slice(), Seeded::of(7))? {
+    match decoded(alloc, body.as_slice())? {
         Some(batch) => Ok(told(&batch)),
         None => Ok([false; 5]),
     }

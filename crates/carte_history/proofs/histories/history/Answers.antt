@@ -1,4 +1,4 @@
-use Rattle.std.proofs.Common.{◌≡◌, ◌+◌, ◌≤◌, [], length, take, arith, rules, sym, subst}
+use Rattle.std.proofs.Common.{◌+◌, ◌≤◌, length, take, arith, rules, sym, subst}
 use Rattle.carte_history.proofs.Showing.{SoFar, shown_next, so_far_all, so_far_none}
 use Rattle.carte_history.proofs.histories.history.Goals as goal
 
@@ -11,8 +11,8 @@ show-requires-clause-begun g c = λ κs lives. c.loop-run.invariant.1
 pub loop-run-preserved : goal.loop-run-preserved
 loop-run-preserved g c =
     let one = c.in_ok-one.ensures in
-    subst (λ xs. SoFar 536870912 (take (c.loop-run.run-index + 1) c.args.runs.now) xs c.in_ok-one.next) (sym c.in_ok-push.ensures.items)
-    (shown_next 536870912 c.args.runs.now c.loop-run.run-index c.run-item.result c.loop-run.shown.items c.in_ok-one.one c.loop-run.disk c.in_ok-one.next
+    subst (λ xs. SoFar 536870912 (take (c.loop-run.run-index + 1) c.args.runs.now) xs c.show.new.disk) (sym c.in_ok-push.ensures.items)
+    (shown_next 536870912 c.args.runs.now c.loop-run.run-index c.run-item.result c.loop-run.shown.items c.in_ok-one.one c.loop-run.disk c.show.new.disk
     c.loop-run-test.true c.run-item.is c.loop-run.invariant one.0 one.1 one.2)
 
 pub returns : goal.returns
