@@ -1,13 +1,13 @@
 #!/usr/bin/env python3
 """Measures incremental builds against a plain Rust program: builds.py PROGRAM [KEYS..]
 
-Both read the same generated book and keep the same state file with the same syncs (plain_builds.rs). Five builds in a
+Both read the same generated book and keep the same state file with the same syncs (plain_builds.rs). Six builds in a
 row: from nothing; the same again; after an edit of three inputs; after an edit of an input on which about half of the
-reached keys depend; after an edit of one rule whose value stays. Of each: instructions and allocations a key of the book, counted by callgrind, user and system time
+reached keys depend; this again; after an edit of one rule whose value stays. Of each: instructions and allocations a key of the book, counted by callgrind, user and system time
 and the greatest memory in runs of their own, each beside the plain program's. Both programs must print the same values
 and counts and leave the same bytes. The script ends with 1 where a bound isn't kept: with 65,536 keys at most 3 times the plain program's
-instructions and at most 64 MB (96 in the fourth build), at most 8 allocations a key, at most 1.1 times the instructions
-a key of 8,192 keys, and in the last build at most 1.1 times those of the second. BOUND=4 sets the first. Other words: --rebuilder NAME and --scheduler NAME are handed to the program.
+instructions and at most 64 MB (96 from the fourth build on), at most 8 allocations a key, at most 1.1 times the instructions
+a key of 8,192 keys, and in the last build at most 1.1 times those of the one before, where nothing changed. BOUND=4 sets the first. Other words: --rebuilder NAME and --scheduler NAME are handed to the program.
 """
 import filecmp
 import os
@@ -23,7 +23,7 @@ sys.path.insert(0, str(BENCH))
 from generated import generated  # noqa: E402
 
 SEED = 1
-ALLOCATIONS, GROWTH, MEGABYTES = 8, 1.1, {"from nothing": 64, "nothing changed": 64, "3 inputs changed": 64, "half of the keys": 96, "one rule edited": 64}
+ALLOCATIONS, GROWTH, MEGABYTES = 8, 1.1, {"from nothing": 64, "nothing changed": 64, "3 inputs changed": 64, "half of the keys": 96, "half again": 96, "one rule edited": 96}
 ALLOCATING = re.compile(r"cfn=\((\d+)\)(?: (.*))?$|calls=(\d+) ")
 
 
@@ -152,12 +152,12 @@ def turned(book, target):
 
 
 def books_of(keys, target):
-    """The books of the five builds."""
+    """The books of the six builds."""
     text = generated(SEED, keys)
     few, half = choose(text, target)
     edited_few = edited(text, {name: 1 for name in few})
     edited_half = edited(edited_few, {half: 1})
-    return zip(MEGABYTES, (text, text, edited_few, edited_half, turned(edited_half, target)))
+    return zip(MEGABYTES, (text, text, edited_few, edited_half, edited_half, turned(edited_half, target)))
 
 
 def is_past(bound, *values):
@@ -177,7 +177,7 @@ def told(keys, name, carte, plain, bounds):
 
 
 def measure(program, extra, plain, keys, folder, bound):
-    """The instructions of the five builds, and whether all that is wanted of them by themselves holds."""
+    """The instructions of the six builds, and whether all that is wanted of them by themselves holds."""
     target, book = f"k{keys - 1}", f"{folder}/book.toml"
     states = [f"{folder}/{name}.{keys}.state" for name in ("carte", "plain")]
     costs, kept = [], True
@@ -191,7 +191,7 @@ def measure(program, extra, plain, keys, folder, bound):
         print(line + ("" if same else "; THE REPLIES OR THE STATES DIFFER"), flush=True)
         kept &= same and "ABOVE" not in line
         costs.append(carte.instructions / keys)
-    ratio = costs[-1] / costs[1]
+    ratio = costs[-1] / costs[-2]
     print(f"{keys} keys: one rule edited to nothing changed: {ratio:.3f}{is_past(GROWTH, ratio)}", flush=True)
     return costs, kept and ratio <= GROWTH
 

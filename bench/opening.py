@@ -108,7 +108,7 @@ def body(turn, keys, same):
         entries.append(name + task + digest + b"\0" + listed(needs))
         traces.append(name + task + links + digest)
     nothing = listed([])
-    return b"\x03\0" + listed(values) + nothing + nothing + listed(entries) + nothing + listed(traces) + nothing + nothing + b"\0"
+    return b"\x04\0" + listed(values) + nothing + nothing + listed(entries) + nothing + listed(traces) + nothing + nothing + b"\0"
 
 
 def state(path, bodies, same):

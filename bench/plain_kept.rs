@@ -238,7 +238,7 @@ fn put_count(bytes: &mut Vec<u8>, count: usize) {
 
 /// The frame of a batch behind its gate byte.
 fn frame(batch: &Kept) -> Vec<u8> {
-    let mut bytes = vec![0, 0, 0, 0, 3, 0];
+    let mut bytes = vec![0, 0, 0, 0, 4, 0];
     put_count(&mut bytes, batch.values.items.len());
     for value in &batch.values.items {
         bytes.extend_from_slice(&spelled(*value));
@@ -319,7 +319,7 @@ impl<'s> Bytes<'s> {
 fn load(path: &str) -> Kept {
     let bytes = std::fs::read(path).expect("a readable state");
     let (mut body, mut kept) = (Bytes(&bytes[13..]), Kept::new());
-    assert!(bytes.starts_with(b"CARTE01\n\x01") && body.take() == *b"\x03\0", "a first batch");
+    assert!(bytes.starts_with(b"CARTE01\n\x01") && body.take() == *b"\x04\0", "a first batch");
     for _ in 0..body.count() {
         let bytes: [u8; 9] = body.take();
         let value = i64::from_be_bytes(bytes[1..].try_into().unwrap());

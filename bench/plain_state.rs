@@ -104,7 +104,7 @@ impl<'s> Bytes<'s> {
 
 pub fn apply<'a: 's, 's, B: Book<'a>>(kept: &mut Kept<'s, B::Value>, digests: &'s [Digest], book: &B, body: &'a [u8]) {
     let mut body = Bytes(body);
-    assert_eq!(body.take(), b"\x03\0", "a batch of version 2 that goes on");
+    assert_eq!(body.take(), b"\x04\0", "a batch of version 2 that goes on");
     let count = body.count();
     kept.values.reserve(count);
     for digest in digests {
@@ -257,7 +257,7 @@ impl Batch {
         let length = parts.iter().map(|part| 4 + part.bytes.len()).sum::<usize>() + 3;
         let mut frame = Vec::with_capacity(length + 5);
         frame.extend_from_slice(&(length as u32).to_be_bytes());
-        frame.extend_from_slice(&[3, 0]);
+        frame.extend_from_slice(&[4, 0]);
         for part in parts {
             frame.extend_from_slice(&part.count.to_be_bytes());
             frame.extend_from_slice(&part.bytes);
