@@ -109,7 +109,7 @@ def live_alone(runs):
 
 def too_little_room(runs):
     """A rewriting behind the bank that leaves too little room is made all the same: refused with the number of the rewritten file. The next run puts the region in front."""
-    body, size = edited_body(runs), 180_000_000
+    body, size = edited_body(runs), 360_000_000
     live = states.LIMIT - 57 - size - 50
     before = dead_and_live(size, live, 57)
     due, is_over, after = outcome(runs, "too little room", before, BUILD, body, None)

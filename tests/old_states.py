@@ -111,7 +111,7 @@ def migrated(data, rules, is_sheet):
 
 def is_old(data):
     bodies = states.read(data).bodies
-    return bool(bodies) and bodies[0][1][0] == 1
+    return bool(bodies) and bodies[-1][1][0] == 1
 
 
 def small_one():
