@@ -230,7 +230,7 @@ def left_of(kept, count):
     kept = copy.deepcopy(kept)
     for way in engine.WAYS:
         kept.traces[way] = {name: ends[:count] for name, ends in kept.traces[way].items()}
-    named = {entry.result for entry in kept.entries.values()} | {result for way in engine.WAYS for ends in kept.traces[way].values() for _, result in ends}
+    named = {entry.result for entry in kept.entries.values()} | {result for way in engine.WAYS for ends in kept.traces[way].values() for *_, result in ends}
     kept.store = {digest: value for digest, value in kept.store.items() if digest in named}
     return kept
 
@@ -298,21 +298,21 @@ def each_call(trims):
 # Full states
 
 def with_traces(traces, values=()):
-    return batches.spell((("go on",), list(values), [], [], [], traces, [], [], None))
+    return batches.spell(("go on", list(values), [], [], [], [], traces, [], [], None))
 
 
 def filled(data):
     """The state with short traces behind it, so that no further batch has room."""
-    short = (b"z000000", [], batches.digest(60))
+    short = (b"z000000", bytes(32), [], batches.digest(60))
     count = (states.LIMIT - len(data) - 5 - len(EMPTY)) // len(batches.spell_trace(short))
-    return states.committed(data, with_traces([(b"z%06d" % at, [], batches.digest(60)) for at in range(count)]))
+    return states.committed(data, with_traces([(b"z%06d" % at, bytes(32), [], batches.digest(60)) for at in range(count)]))
 
 
 def long_traces(name_of, size):
     """Traces of a hundred links, which take so many bytes; a key is worked out of the number of a trace."""
     links = [(b"x%d" % at, bytes([at]) * 32) for at in range(100)]
-    one = len(batches.spell_trace((name_of(0), [(b"n%06d" % 0, bytes(32)), *links], batches.digest(60))))
-    return [(name_of(at), [(b"n%06d" % at, bytes(32)), *links], batches.digest(60)) for at in range(size // one)]
+    one = len(batches.spell_trace((name_of(0), bytes(32), [(b"n%06d" % 0, bytes(32)), *links], batches.digest(60))))
+    return [(name_of(at), bytes(32), [(b"n%06d" % at, bytes(32)), *links], batches.digest(60)) for at in range(size // one)]
 
 
 def full(trims):
