@@ -43,6 +43,8 @@ def write_book(path, keys, size):
 def measure(program, plain, keys, size, folder):
     book, target = f"{folder}/book.toml", f"k{keys - 1}"
     write_book(book, keys, size)
+    # what another book left there would be reused
+    pathlib.Path(folder, "state").unlink(missing_ok=True)
     proved, bare = [program, "build", book, f"{folder}/state", target], [plain, book, target]
     assert output_of(proved) == output_of(bare), "the replies differ"
     counts = [instructions(words, folder) / keys for words in (proved, bare)]
