@@ -13,7 +13,8 @@ use Rattle.carte_name.specs.Names.{name_eq}
 use Rattle.carte_value.specs.Truths.{Truth, Among}
 use Rattle.carte_value.proofs.Firsts.{among_firsts}
 use Rattle.carte_value.proofs.Sides.{cells_within}
-use Rattle.carte_tree.specs.Applied.{condition, negated, applied, called}
+use Rattle.carte_tree.specs.Applied.{condition, negated, applied}
+use Rattle.carte_tree.specs.Functions.{called}
 use Rattle.carte_tree.specs.Coercions.{both, each_as, text_of}
 use Rattle.carte_tree.specs.Formula.{IsExpr, AreSteps, AreArgs, IsArg, HasNames, StepsNames, ArgsNames, ArgNames, has_ranges}
 use Rattle.carte_tree.specs.Found.{named, or_no_name, name_in, names_in}

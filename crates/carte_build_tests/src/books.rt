@@ -34,9 +34,15 @@ fn add_input(alloc: Global, book: &mut Book, at: &str, value: i64) -> Result<(),
     Ok(())
 }
 
-/// A rule file whose inputs, parted by blanks, have this value each, with rules written as `name: formula`.
-pub(crate) fn book_of(alloc: Global, inputs: &str, value: i64, rules: &str) -> Result<Book, Fail> {
-    let mut book = Book::new(alloc, Kind::Rules, Seeded::of(7));
+/// A rule file whose inputs, parted by blanks, have this value each, with rules written as `name: formula`. It is boxed, so that
+/// one call drops it.
+pub(crate) fn book_of(
+    alloc: Global,
+    inputs: &str,
+    value: i64,
+    rules: &str,
+) -> Result<Box<Book>, Fail> {
+    let mut book = Box::new(alloc, Book::new(alloc, Kind::Rules, Seeded::of(7)))?;
     for at in inputs.split_whitespace() {
         add_input(alloc, &mut book, at, value)?;
     }

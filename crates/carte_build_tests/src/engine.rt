@@ -2,6 +2,8 @@
 //!
 //! A build is proved once for any rebuilder; `by` alone names them, since that their jobs cross threads is proved anew at each call.
 
+ghost use Rattle.std.specs.Prelude.{◌≡◌, false, IfOk};
+
 use crate::books::{book_of, names_of};
 use carte_book::Book;
 use carte_construct::Construct;
@@ -15,13 +17,22 @@ use carte_verify::Verify;
 use carte_wave::NoGate;
 use std::alloc::Global;
 use std::marker::Sync;
+use std::process::Abort;
 use std::test::Fail;
 use std::thread::Threads;
 
 /// The chain of docs/REBUILDERS.md.
 const CHAIN: &str = "b: a / 2; c: b + 1";
 
-/// A build over the disk, from loading on.
+// Engines, disks and what was built are boxed here, so that one call drops each.
+fn loaded(alloc: Global, disk: &mut MemDisk) -> Result<Box<Engine>, Fail>
+    ensures { IfOk result (λ engine. engine.value.journal.broken ≡ false) }
+{
+    let engine = Engine::load(alloc, disk, 65536, Seeded::of(7))?;
+    Ok(Box::new(alloc, engine)?)
+}
+
+/// What a build over the disk shows, from loading on.
 fn built_of<R: Rebuilder, T: Threads + Sync>(
     rt: &T,
     alloc: Global,
@@ -31,29 +42,13 @@ fn built_of<R: Rebuilder, T: Threads + Sync>(
     scheduler: Scheduler,
     workers: usize,
     targets: &Names,
-) -> Result<Built, Fail> {
-    let mut engine = Engine::load(alloc, disk, 65536, Seeded::of(7))?;
+) -> Result<String, Fail> {
+    let mut engine = loaded(alloc, disk)?;
     let built = engine.build(
         rt, alloc, disk, book, rebuilder, scheduler, workers, targets, &NoGate,
     )?;
-    Ok(built)
-}
-
-/// A build of c. The book and the targets stand in this function alone: whatever lives is dropped at each question mark.
-fn built<R: Rebuilder, T: Threads + Sync>(
-    rt: &T,
-    alloc: Global,
-    disk: &mut MemDisk,
-    rebuilder: &R,
-    scheduler: Scheduler,
-    workers: usize,
-    a: i64,
-) -> Result<Built, Fail> {
-    let book = book_of(alloc, "a", a, CHAIN)?;
-    let targets = names_of(alloc, "c")?;
-    built_of(
-        rt, alloc, disk, &book, rebuilder, scheduler, workers, &targets,
-    )
+    let built = Box::new(alloc, built)?;
+    printed(alloc, &built)
 }
 
 /// The target's value, how many rules ran, how many starts were given up, and how many rules were reused.
@@ -77,51 +72,96 @@ fn foreseen_of<R: Rebuilder>(
     book: &Book,
     rebuilder: &R,
     targets: &Names,
-) -> Result<usize, Fail> {
-    let mut engine = Engine::load(alloc, disk, 65536, Seeded::of(7))?;
-    Ok(
-        engine
-            .preview(alloc, book, rebuilder, targets)?
-            .finished
-            .len(),
-    )
+) -> Result<String, Fail> {
+    let mut engine = loaded(alloc, disk)?;
+    let work = Box::new(alloc, engine.preview(alloc, book, rebuilder, targets)?)?;
+    Ok(format!(in alloc; "{} foreseen; ", work.finished.len())?)
 }
 
-fn foreseen<R: Rebuilder>(alloc: Global, disk: &mut MemDisk, rebuilder: &R) -> Result<usize, Fail> {
-    let book = book_of(alloc, "a", 2, CHAIN)?;
+/// A build, or a preview where there are no workers: one call for both, since that jobs cross threads is proved anew at each.
+fn said_of<R: Rebuilder, T: Threads + Sync>(
+    rt: &T,
+    alloc: Global,
+    disk: &mut MemDisk,
+    book: &Book,
+    rebuilder: &R,
+    scheduler: Scheduler,
+    workers: usize,
+    targets: &Names,
+) -> Result<String, Fail> {
+    if workers == 0 {
+        foreseen_of(alloc, disk, book, rebuilder, targets)
+    } else {
+        built_of(
+            rt, alloc, disk, book, rebuilder, scheduler, workers, targets,
+        )
+    }
+}
+
+/// By one of the four.
+fn by<T: Threads + Sync>(
+    rt: &T,
+    alloc: Global,
+    disk: &mut MemDisk,
+    book: &Book,
+    at: usize,
+    scheduler: Scheduler,
+    workers: usize,
+    targets: &Names,
+) -> Result<String, Fail> {
+    match at {
+        0 => said_of(rt, alloc, disk, book, &Verify, scheduler, workers, targets),
+        1 => said_of(
+            rt, alloc, disk, book, &Construct, scheduler, workers, targets,
+        ),
+        2 => said_of(rt, alloc, disk, book, &Deep, scheduler, workers, targets),
+        _ => said_of(rt, alloc, disk, book, &Dirty, scheduler, workers, targets),
+    }
+}
+
+/// The same of c. The book and the targets stand in this function alone: whatever lives is dropped at each question mark.
+fn said<T: Threads + Sync>(
+    rt: &T,
+    alloc: Global,
+    disk: &mut MemDisk,
+    at: usize,
+    scheduler: Scheduler,
+    workers: usize,
+    a: i64,
+) -> Result<String, Fail> {
+    let book = book_of(alloc, "a", a, CHAIN)?;
     let targets = names_of(alloc, "c")?;
-    foreseen_of(alloc, disk, &book, rebuilder, &targets)
+    by(rt, alloc, disk, &book, at, scheduler, workers, &targets)
 }
 
 fn clean(alloc: Global, disk: &mut MemDisk) -> Result<(), Fail> {
-    let mut engine = Engine::load(alloc, disk, 65536, Seeded::of(7))?;
+    let mut engine = loaded(alloc, disk)?;
     engine.clean(alloc, disk)?;
     Ok(())
 }
 
 /// A preview, and one build for each value of a. What was kept is cleaned where the value is 0.
-fn in_a_row<R: Rebuilder, T: Threads + Sync>(
+fn in_a_row<T: Threads + Sync>(
     rt: &T,
     alloc: Global,
-    rebuilder: &R,
+    at: usize,
     scheduler: Scheduler,
     workers: usize,
 ) -> Result<String, Fail> {
-    let mut disk = MemDisk::of(alloc, &[], &[])?;
-    let count = foreseen(alloc, &mut disk, rebuilder)?;
-    let mut text = format!(in alloc; "{count} foreseen; ")?;
+    let mut disk = Box::new(alloc, MemDisk::of(alloc, &[], &[])?)?;
+    let mut text = said(rt, alloc, &mut disk, at, scheduler, 0, 2)?;
     for a in [2, 3, 4, 2, 0, 2] {
-        let said = step(rt, alloc, &mut disk, rebuilder, scheduler, workers, a)?;
+        let said = step(rt, alloc, &mut disk, at, scheduler, workers, a)?;
         text.push_str(said.as_str())?;
     }
     Ok(text)
 }
 
-fn step<R: Rebuilder, T: Threads + Sync>(
+fn step<T: Threads + Sync>(
     rt: &T,
     alloc: Global,
     disk: &mut MemDisk,
-    rebuilder: &R,
+    at: usize,
     scheduler: Scheduler,
     workers: usize,
     a: i64,
@@ -130,24 +170,7 @@ fn step<R: Rebuilder, T: Threads + Sync>(
         clean(alloc, disk)?;
         return Ok(String::from_str(alloc, "cleaned; ")?);
     }
-    let built = built(rt, alloc, disk, rebuilder, scheduler, workers, a)?;
-    printed(alloc, &built)
-}
-
-/// By one of the four.
-fn by<T: Threads + Sync>(
-    rt: &T,
-    alloc: Global,
-    at: usize,
-    scheduler: Scheduler,
-    workers: usize,
-) -> Result<String, Fail> {
-    match at {
-        0 => in_a_row(rt, alloc, &Verify, scheduler, workers),
-        1 => in_a_row(rt, alloc, &Construct, scheduler, workers),
-        2 => in_a_row(rt, alloc, &Deep, scheduler, workers),
-        _ => in_a_row(rt, alloc, &Dirty, scheduler, workers),
-    }
+    said(rt, alloc, disk, at, scheduler, workers, a)
 }
 
 // From the table of docs/REBUILDERS.md. By a topological order each rule that didn't run is reused; where rules wait, deep
@@ -174,40 +197,39 @@ const RESTARTING: [&str; 4] = [
     "2 foreseen; 2 2 1 0; 2 2 0 0; 3 2 0 0; 2 2 0 0; cleaned; 2 2 1 0; ",
 ];
 
-#[test]
-fn each_rebuilder_builds_in_order(rt: HostRuntime) -> Result<(), Fail> {
-    for (at, want) in TOPOLOGICAL.iter().enumerate() {
-        let text = by(&rt, rt.alloc(), at, Scheduler::Topological, 1)?;
+/// That what each of the four builds is what is wanted of it.
+fn each_comes_to<R: Abort + Threads + Sync>(
+    rt: &R,
+    alloc: Global,
+    wanted: &[&str],
+    scheduler: Scheduler,
+    workers: usize,
+) -> Result<(), Fail> {
+    for (at, want) in wanted.iter().enumerate() {
+        let text = in_a_row(rt, alloc, at, scheduler, workers)?;
         assert_eq!(rt; text.as_str(), *want, "{at}");
     }
     Ok(())
+}
+
+#[test]
+fn each_rebuilder_builds_in_order(rt: HostRuntime) -> Result<(), Fail> {
+    each_comes_to(&rt, rt.alloc(), &TOPOLOGICAL, Scheduler::Topological, 1)
 }
 
 #[test]
 fn each_rebuilder_builds_what_is_asked_for(rt: HostRuntime) -> Result<(), Fail> {
-    for (at, want) in SUSPENDING.iter().enumerate() {
-        let text = by(&rt, rt.alloc(), at, Scheduler::Suspending, 1)?;
-        assert_eq!(rt; text.as_str(), *want, "{at}");
-    }
-    Ok(())
+    each_comes_to(&rt, rt.alloc(), &SUSPENDING, Scheduler::Suspending, 1)
 }
 
 #[test]
 fn several_workers_build_as_one(rt: HostRuntime) -> Result<(), Fail> {
-    for (at, want) in SUSPENDING.iter().enumerate() {
-        let text = by(&rt, rt.alloc(), at, Scheduler::Suspending, 7)?;
-        assert_eq!(rt; text.as_str(), *want, "{at}");
-    }
-    Ok(())
+    each_comes_to(&rt, rt.alloc(), &SUSPENDING, Scheduler::Suspending, 7)
 }
 
 #[test]
 fn each_rebuilder_begins_anew(rt: HostRuntime) -> Result<(), Fail> {
-    for (at, want) in RESTARTING.iter().enumerate() {
-        let text = by(&rt, rt.alloc(), at, Scheduler::Restarting, 1)?;
-        assert_eq!(rt; text.as_str(), *want, "{at}");
-    }
-    Ok(())
+    each_comes_to(&rt, rt.alloc(), &RESTARTING, Scheduler::Restarting, 1)
 }
 
 #[test]

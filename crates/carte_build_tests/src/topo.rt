@@ -34,7 +34,7 @@ const DYNAMIC: &str =
 
 // Worked out by hand: depth first with references in their order, the reason of the first stuck target, and before it
 // the shortest path to a dynamic rule, of equally short ones the first in byte order.
-const ORDERS: [(&str, &str, &str); 19] = [
+const ORDERS: &[(&str, &str, &str)] = &[
     (DIAMOND, "top", "order base left right top"),
     (DIAMOND, "right", "order base right"),
     (DIAMOND, "right top", "order base right left top"),
@@ -57,7 +57,7 @@ const ORDERS: [(&str, &str, &str); 19] = [
 ];
 
 // Worked out by hand from the order of paths: the shortest, and of these the first name by name.
-const PATHS: [(&str, &str, &str); 13] = [
+const PATHS: &[(&str, &str, &str)] = &[
     ("t: INDIRECT(x)", "t", "path t"),
     ("t: b + a; a: INDIRECT(x); b: INDIRECT(x)", "t", "path t a"),
     (
@@ -93,7 +93,7 @@ const PATHS: [(&str, &str, &str); 13] = [
 fn orders_and_reasons(rt: HostRuntime) -> Result<(), Fail> {
     for (rules, targets, want) in ORDERS {
         let text = ordered(rt.alloc(), rules, targets)?;
-        assert_eq!(rt; text.as_str(), want, "{targets} in {rules}");
+        assert_eq!(rt; text.as_str(), *want, "{targets} in {rules}");
     }
     Ok(())
 }
@@ -102,7 +102,7 @@ fn orders_and_reasons(rt: HostRuntime) -> Result<(), Fail> {
 fn first_dynamic_paths(rt: HostRuntime) -> Result<(), Fail> {
     for (rules, targets, want) in PATHS {
         let text = path(rt.alloc(), rules, targets)?;
-        assert_eq!(rt; text.as_str(), want, "{targets} in {rules}");
+        assert_eq!(rt; text.as_str(), *want, "{targets} in {rules}");
     }
     Ok(())
 }

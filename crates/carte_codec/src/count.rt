@@ -1,4 +1,5 @@
 ghost use Rattle.std.specs.Prelude.{◌≡◌, ◌++◌, ◌<◌, ◌^◌, OnOk};
+ghost use Rattle.carte_value.specs.Lists.{Begins};
 ghost use Rattle.carte_codec.specs.Parts.{spelled_count, FitsCount};
 ghost use Rattle.carte_codec.specs.Spellings.{IsRead};
 
@@ -8,7 +9,8 @@ use carte_value::NoMemory;
 /// Puts a count in 4 bytes, the greatest first, behind `out`.
 pub(crate) fn write_count(count: usize, out: &mut Vec<u8>) -> Result<(), NoMemory>
     requires { count < 2 ^ 32 }
-    ensures { OnOk result (out.new.items ≡ out.old.items ++ spelled_count count) }
+    ensures bytes { OnOk result (out.new.items ≡ out.old.items ++ spelled_count count) }
+    ensures front { Begins out.old.items out.new.items }
 {
     out.extend_from_slice((count as u32).to_be_bytes().as_slice())?;
     Ok(())

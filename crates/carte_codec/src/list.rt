@@ -1,5 +1,6 @@
-ghost use Rattle.std.specs.Prelude.{◌≡◌, ◌<◌, ◌^◌, ◌++◌, ◌∷◌, [], List, length, IfOk, OnOk};
+ghost use Rattle.std.specs.Prelude.{◌≡◌, ◌<◌, ◌^◌, ◌++◌, ◌∷◌, [], List, length, is_ok, IfOk, OnOk, if◌then◌else◌};
 ghost use Rattle.std.specs.List.{flat_map};
+ghost use Rattle.carte_value.specs.Lists.{Begins};
 ghost use Rattle.carte_codec.specs.Each.{EachFits};
 ghost use Rattle.carte_codec.specs.Parts.{spelled_list, FitsList, FitsMany};
 ghost use Rattle.carte_codec.specs.Spellings.{IsRead};
@@ -24,9 +25,9 @@ pub trait ListOf<T>: Sized {
     fn empty(alloc: Global, room: usize) -> Result<Self, NoMemory>
         ensures { IfOk result (λ list. items list ≡ []) };
 
-    /// Puts an item behind the others.
+    /// Puts an item behind the others. Where there is no room for it, it is dropped and nothing has changed.
     fn put(&mut self, item: T) -> Result<(), NoMemory>
-        ensures { OnOk result (items self.new ≡ items self.old ++ item ∷ []) };
+        ensures { items self.new ≡ (if is_ok result then items self.old ++ item ∷ [] else items self.old) };
 
     /// The items, of which there are at most 2^32 - 1.
     fn all(&self) -> &[T]
@@ -34,11 +35,12 @@ pub trait ListOf<T>: Sized {
         ensures bound { length result.now < 2 ^ 32 };
 }
 
-/// Puts how many there are, and each in order, behind `out`.
+/// Puts how many there are, and each in order, behind `out`. Where there is no memory, a part of it may stand there.
 pub fn write_list<T: Spelled>(items: &[T], out: &mut Vec<u8>) -> Result<(), NoMemory>
     requires { length items.now < 2 ^ 32 }
     ensures bytes { OnOk result (out.new.items ≡ out.old.items ++ spelled_list T.spelling items.now) }
     ensures fits { OnOk result (EachFits T.may items.now → FitsList T.fits items.now) }
+    ensures front { Begins out.old.items out.new.items }
 {
     write_count(items.len(), out)?;
     write_items(items, out)
@@ -47,6 +49,7 @@ pub fn write_list<T: Spelled>(items: &[T], out: &mut Vec<u8>) -> Result<(), NoMe
 fn write_items<T: Spelled>(items: &[T], out: &mut Vec<u8>) -> Result<(), NoMemory>
     ensures bytes { OnOk result (out.new.items ≡ out.old.items ++ flat_map T.spelling items.now) }
     ensures fits { OnOk result (EachFits T.may items.now → EachFits T.fits items.now) }
+    ensures front { Begins out.old.items out.new.items }
 {
     for item in items {
         match item.write(out) {

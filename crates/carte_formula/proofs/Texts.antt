@@ -5,7 +5,8 @@ use Rattle.carte_name.specs.Names.{is_upper}
 use Rattle.carte_tree.specs.Tree.{rank, Tree, number, text, ref, neg, chain, call, Steps, no_step, step, Args, no_arg, arg, Arg, one, cells, first_corner, last_corner}
 use Rattle.carte_formula.specs.Tokens.{Level, Token, digits, quoted, rpar}
 use Rattle.carte_formula.specs.Print.{name_by, bracketed, shown, steps_shown, args_shown, later_shown, arg_shown}
-use Rattle.carte_tree.specs.Printed.{tight, func_name, op_bytes, in_brackets, printed, steps_printed, args_printed, later_printed, arg_printed}
+use Rattle.carte_tree.specs.Functions.{func_name}
+use Rattle.carte_tree.specs.Printed.{tight, op_bytes, in_brackets, printed, steps_printed, args_printed, later_printed, arg_printed}
 use Rattle.carte_lexer.specs.Lexer.{token_bytes, text_of}
 
 text_append : (ts us : List Token) → text_of (ts ++ us) ≡ text_of ts ++ text_of us

@@ -1,5 +1,5 @@
 -- Where the machine goes on a formula begins so, and where it stops none does.
-use Rattle.std.proofs.Common.{ℕ, pos, zero, suc, true, List, [], ◌∷◌, ◌++◌, length, ◌≡◌, ◌≤◌, ◌+◌, ◌⊎◌, inl, inr, Option, Some, None, refl, length-append, arith}
+use Rattle.std.proofs.Common.{ℕ, pos, zero, suc, Bool, true, List, [], ◌∷◌, ◌++◌, length, ◌≡◌, ◌≤◌, ◌+◌, ◌⊎◌, inl, inr, Option, Some, None, refl, length-append, arith, nat_le}
 use Rattle.std.proofs.lemmas.Bool.{le-leb}
 use Rattle.std.proofs.lemmas.Bool.Decides.{nat_tests}
 use Rattle.carte_value.specs.Areas.{area_of}
@@ -39,23 +39,15 @@ abbrev least : Arity → ℕ
 least many = 0
 least (between a b) = a
 
-abbrev Ordered : Arity → Type 0
-Ordered many = Unit {0}
-Ordered (between a b) = a ≤ b
+abbrev is_ordered : Arity → Bool
+is_ordered many = true
+is_ordered (between a b) = nat_le a b
 
-ordered : (f : Func) → Ordered (arity f)
-ordered functions.Len = omega arith
-ordered functions.Upper = omega arith
-ordered functions.Lines = omega arith
-ordered functions.Line = omega arith
-ordered functions.Not = omega arith
-ordered functions.If = omega arith
-ordered functions.Pick = omega arith
-ordered functions.Indirect = omega arith
-ordered functions.Gather = omega arith
-ordered _ = tt
+ordered : (f : Func) → is_ordered (arity f) ≡ true
+ordered functions.Sum = refl
+ordered _ = refl
 
-enough_or_room : (a : Arity) (n : ℕ) → Ordered a → (enough_in a n ≡ true) ⊎ (room_in a n ≡ true)
+enough_or_room : (a : Arity) (n : ℕ) → is_ordered a ≡ true → (enough_in a n ≡ true) ⊎ (room_in a n ≡ true)
 enough_or_room many n h = inl refl
 enough_or_room (between a b) n h = grind (arith, nat_tests)
 

@@ -3,7 +3,8 @@
 ghost use Rattle.std.specs.Prelude.{◌≡◌, ◌<◌, ◌^◌, true, length, None, IfOk, IfErr};
 ghost use Rattle.carte_tree.specs.declared.expr.Op.TheVariants.{Join};
 ghost use Rattle.carte_tree.specs.Coercions.{first_bad};
-ghost use Rattle.carte_tree.specs.Applied.{applied, called, condition, is_strict, negated, pick};
+ghost use Rattle.carte_tree.specs.Applied.{applied, condition, negated, pick};
+ghost use Rattle.carte_tree.specs.Functions.{called, is_strict};
 
 use crate::arithmetic::{add, divide, multiply, negative, subtract};
 use crate::coercions::first_bad;

@@ -1,6 +1,6 @@
 //! Sessions of which one call of a device fails.
 
-use crate::runs::{BUILD, EDITED, PLAIN, by_pieces, status_of};
+use crate::runs::{BUILD, EDITED, PLAIN, answer, by_pieces};
 use carte_io::{MemDisk, MemSink, MemSource};
 use std::alloc::Global;
 use std::marker::Sync;
@@ -43,20 +43,22 @@ fn failing<T: Threads + Sync>(
     let out = [call_of(Device::Out, device, call)];
     let mut book = MemSource::of(alloc, PLAIN.as_bytes(), &book)?;
     let mut script = MemSource::slow(alloc, SCRIPT.as_bytes(), 9, &script)?;
-    let mut out = MemSink::new(alloc, 16, &out)?;
-    let mut err = MemSink::new(alloc, 4096, &[])?;
-    let status = status_of(
-        rt,
-        alloc,
-        SESSION,
-        &mut book,
-        &mut script,
-        state,
-        &mut out,
-        &mut err,
-    )?;
+    said(rt, alloc, &mut book, &mut script, state, &out)
+}
+
+/// The same over these sources, where such calls of standard output fail.
+fn said<T: Threads + Sync>(
+    rt: &T,
+    alloc: Global,
+    book: &mut MemSource,
+    script: &mut MemSource,
+    state: &mut MemDisk,
+    failing: &[u64],
+) -> Result<(u8, String), Fail> {
+    let mut out = MemSink::new(alloc, 16, failing)?;
+    let (code, _) = answer(rt, alloc, SESSION, book, script, state, &mut out, 4096)?;
     let text = String::from_str(alloc, str::from_utf8(out.bytes())?)?;
-    Ok((status.code(), text))
+    Ok((code, text))
 }
 
 /// How many calls of the device the session makes, each of which fails in turn: with that device's status, behind a front of the
@@ -68,15 +70,7 @@ fn fail_each<T: Abort + Threads + Sync>(
     code: u8,
 ) -> Result<u64, Fail> {
     for call in 1..100 {
-        let failed = call_of(Device::State, device, call);
-        let mut state = MemDisk::of(alloc, &[], &[failed])?;
-        let (status, text) = failing(rt, alloc, device, call, &mut state)?;
-        let mut left = MemDisk::of(alloc, state.bytes(), &[])?;
-        let next = by_pieces(rt, alloc, BUILD, EDITED.as_bytes(), b"", &mut left, 4096)?;
-        assert!(rt;
-            next.starts_with("0 B2 = 62\n"),
-            "{device:?} {call}: {next}"
-        );
+        let (status, text) = fail_at(rt, alloc, device, call)?;
         if status == 0 {
             assert_eq!(rt; text.as_str(), REPLIES);
             return Ok(call - 1);
@@ -88,6 +82,29 @@ fn fail_each<T: Abort + Threads + Sync>(
         );
     }
     Ok(100)
+}
+
+fn fail_at<T: Abort + Threads + Sync>(
+    rt: &T,
+    alloc: Global,
+    device: Device,
+    call: u64,
+) -> Result<(u8, String), Fail> {
+    let failed = call_of(Device::State, device, call);
+    let mut state = Box::new(alloc, MemDisk::of(alloc, &[], &[failed])?)?;
+    let shown = failing(rt, alloc, device, call, &mut state)?;
+    let next = next_run(rt, alloc, state.bytes())?;
+    assert!(rt;
+        next.starts_with("0 B2 = 62\n"),
+        "{device:?} {call}: {next}"
+    );
+    Ok(shown)
+}
+
+/// What a build of the edited book shows over a state with these bytes.
+fn next_run<T: Threads + Sync>(rt: &T, alloc: Global, bytes: &[u8]) -> Result<String, Fail> {
+    let mut state = Box::new(alloc, MemDisk::of(alloc, bytes, &[])?)?;
+    by_pieces(rt, alloc, BUILD, EDITED.as_bytes(), b"", &mut state, 4096)
 }
 
 // The book and its end; the script by nine bytes a call and its end; the state's length, and the calls of the three commits; the
@@ -105,9 +122,13 @@ fn each_call_of_a_session_may_fail(rt: HostRuntime) -> Result<(), Fail> {
         let made = fail_each(&rt, rt.alloc(), device, code)?;
         assert_eq!(rt; made, calls, "{device:?}");
     }
-    // The last sync of the first commit fails: its reply isn't written.
-    let mut state = MemDisk::of(rt.alloc(), &[], &[7])?;
-    let (status, text) = failing(&rt, rt.alloc(), Device::State, 0, &mut state)?;
+    let (status, text) = unsynced(&rt, rt.alloc())?;
     assert_eq!(rt; (status, text.as_str()), (6, "set A1\n"));
     Ok(())
+}
+
+/// The last sync of the first commit fails: its reply isn't written.
+fn unsynced<T: Threads + Sync>(rt: &T, alloc: Global) -> Result<(u8, String), Fail> {
+    let mut state = Box::new(alloc, MemDisk::of(alloc, &[], &[7])?)?;
+    failing(rt, alloc, Device::State, 0, &mut state)
 }

@@ -4,6 +4,7 @@ use crate::runs::{BUILD, PLAIN, by_pieces};
 use carte_io::MemDisk;
 use std::alloc::Global;
 use std::marker::Sync;
+use std::process::Abort;
 use std::test::Fail;
 use std::thread::Threads;
 
@@ -31,20 +32,30 @@ fn wanted(length: usize, whole: usize) -> &'static str {
 
 #[test]
 fn a_state_is_whole_or_refused(rt: HostRuntime) -> Result<(), Fail> {
-    let mut state = MemDisk::of(rt.alloc(), &[], &[])?;
-    assert_eq!(rt; built(&rt, rt.alloc(), &mut state)?.as_str(), RAN);
-    let bytes = state.bytes().to_vec(rt.alloc())?;
+    let bytes = first_state(&rt, rt.alloc())?;
     assert_eq!(rt; bytes.len(), 537);
     for length in 0..538 {
-        let mut cut = MemDisk::of(rt.alloc(), &bytes[..length], &[])?;
-        let text = built(&rt, rt.alloc(), &mut cut)?;
+        let text = built_over(&rt, rt.alloc(), &bytes[..length])?;
         assert_eq!(rt; text.as_str(), wanted(length, 537), "{length} bytes");
     }
     Ok(())
 }
 
+/// The bytes that a first build leaves.
+fn first_state<R: Abort + Threads + Sync>(rt: &R, alloc: Global) -> Result<Vec<u8>, Fail> {
+    let mut state = Box::new(alloc, MemDisk::of(alloc, &[], &[])?)?;
+    let text = built(rt, alloc, &mut state)?;
+    assert_eq!(rt; text.as_str(), RAN);
+    Ok(state.bytes().to_vec(alloc)?)
+}
+
+fn built_over<T: Threads + Sync>(rt: &T, alloc: Global, bytes: &[u8]) -> Result<String, Fail> {
+    let mut state = Box::new(alloc, MemDisk::of(alloc, bytes, &[])?)?;
+    built(rt, alloc, &mut state)
+}
+
 // A state's bytes, and what a build over it shows.
-const STATES: [(&[u8], &str); 4] = [
+const STATES: &[(&[u8], &str)] = &[
     (
         b"carte\x000\n\x01\0\0\0\x10\x01\0",
         "7 carte: bad state at byte 0\n",
@@ -60,19 +71,24 @@ const STATES: [(&[u8], &str); 4] = [
 #[test]
 fn other_bytes_are_refused(rt: HostRuntime) -> Result<(), Fail> {
     for (bytes, want) in STATES {
-        let mut state = MemDisk::of(rt.alloc(), bytes, &[])?;
-        let text = built(&rt, rt.alloc(), &mut state)?;
-        assert_eq!(rt; text.as_str(), want);
+        let text = built_over(&rt, rt.alloc(), bytes)?;
+        assert_eq!(rt; text.as_str(), *want);
     }
-    // Behind a closed gate byte stands nothing: a commit goes over what is there, and the file stays as long as it is.
-    let mut bytes = b"CARTE01\n\0".to_vec(rt.alloc())?;
-    let behind = vec![in rt.alloc(); 0xffu8; 1_000_000]?;
-    bytes.extend_from_slice(&behind)?;
-    let mut state = MemDisk::of(rt.alloc(), &bytes, &[])?;
-    assert_eq!(rt; built(&rt, rt.alloc(), &mut state)?.as_str(), RAN);
+    let mut state = long_state(rt.alloc())?;
+    let text = built(&rt, rt.alloc(), &mut state)?;
+    assert_eq!(rt; text.as_str(), RAN);
     assert_eq!(rt; state.bytes().len(), 1_000_009);
-    assert_eq!(rt; built(&rt, rt.alloc(), &mut state)?.as_str(), REUSED);
+    let text = built(&rt, rt.alloc(), &mut state)?;
+    assert_eq!(rt; text.as_str(), REUSED);
     Ok(())
+}
+
+/// Behind a closed gate byte stands nothing: a commit goes over what is there, and the file stays as long as it is.
+fn long_state(alloc: Global) -> Result<Box<MemDisk>, Fail> {
+    let mut bytes = b"CARTE01\n\0".to_vec(alloc)?;
+    let behind = vec![in alloc; 0xffu8; 1_000_000]?;
+    bytes.extend_from_slice(&behind)?;
+    Ok(Box::new(alloc, MemDisk::of(alloc, &bytes, &[])?)?)
 }
 
 /// Which cell is asked for hangs on another one.
@@ -82,23 +98,18 @@ const DYNAMIC: &str = "10,\"=IF(C1=1,B2,A2)\",1\n20,\"=IF(C1=1,A1,B1)\"\n";
 fn a_book_is_read_or_refused(rt: HostRuntime) -> Result<(), Fail> {
     let bytes = DYNAMIC.as_bytes();
     for length in 0..bytes.len() + 1 {
-        let mut state = MemDisk::of(rt.alloc(), &[], &[])?;
-        let book = &bytes[..length];
-        let text = by_pieces(
-            &rt,
-            rt.alloc(),
-            "build q.csv s B1",
-            book,
-            b"",
-            &mut state,
-            4096,
-        )?;
-        let front = [
-            text.starts_with("0 "),
-            text.starts_with("1 "),
-            text.starts_with("3 "),
-        ];
-        assert!(rt; front.contains(&true), "{length} bytes: {text}");
+        let text = built_of(&rt, rt.alloc(), &bytes[..length])?;
+        assert!(rt; is_answer(text.as_str()), "{length} bytes: {text}");
     }
     Ok(())
+}
+
+/// What a build of these bytes shows.
+fn built_of<T: Threads + Sync>(rt: &T, alloc: Global, book: &[u8]) -> Result<String, Fail> {
+    let mut state = Box::new(alloc, MemDisk::of(alloc, &[], &[])?)?;
+    by_pieces(rt, alloc, "build q.csv s B1", book, b"", &mut state, 4096)
+}
+
+fn is_answer(text: &str) -> bool {
+    text.starts_with("0 ") || text.starts_with("1 ") || text.starts_with("3 ")
 }

@@ -2,12 +2,15 @@
 
 use crate::runs::{BUILD, PLAIN, by_pieces};
 use carte_io::MemDisk;
+use std::alloc::Global;
+use std::marker::Sync;
 use std::test::Fail;
+use std::thread::Threads;
 
 const SESSION: &str = "session p.csv s";
 
 // Words, a script, and what is shown.
-const RUNS: [(&str, &str, &str); 5] = [
+const RUNS: &[(&str, &str, &str)] = &[
     (BUILD, "", "0 B2 = 60\nran 2, given up 0, reused 0\n"),
     (
         SESSION,
@@ -27,18 +30,29 @@ const RUNS: [(&str, &str, &str); 5] = [
 fn single_bytes_are_as_good_as_many(rt: HostRuntime) -> Result<(), Fail> {
     for (words, script, want) in RUNS {
         for most in [1, 2, 4096] {
-            let mut state = MemDisk::of(rt.alloc(), &[], &[])?;
-            let text = by_pieces(
-                &rt,
-                rt.alloc(),
-                words,
-                PLAIN.as_bytes(),
-                script.as_bytes(),
-                &mut state,
-                most,
-            )?;
-            assert_eq!(rt; text.as_str(), want, "{words}, {most} bytes a call");
+            let text = shown(&rt, rt.alloc(), words, script, most)?;
+            assert_eq!(rt; text.as_str(), *want, "{words}, {most} bytes a call");
         }
     }
     Ok(())
+}
+
+/// What such a run shows over an empty state.
+fn shown<T: Threads + Sync>(
+    rt: &T,
+    alloc: Global,
+    words: &str,
+    script: &str,
+    most: usize,
+) -> Result<String, Fail> {
+    let mut state = Box::new(alloc, MemDisk::of(alloc, &[], &[])?)?;
+    by_pieces(
+        rt,
+        alloc,
+        words,
+        PLAIN.as_bytes(),
+        script.as_bytes(),
+        &mut state,
+        most,
+    )
 }

@@ -1,8 +1,9 @@
 //! What the tables share: words, books, and runs of the top call over memory.
 
+ghost use Rattle.std.specs.Prelude.{◌≤◌};
+
 use carte_history::{Run, Shown, Stop};
 use carte_io::{Disk, MemDisk, MemSink, MemSource, NoGate, Sink, Source};
-use carte_report::Status;
 use carte_top::carte;
 use carte_value::Seeded;
 use carte_words::Word;
@@ -28,8 +29,16 @@ pub(crate) fn words_of(alloc: Global, text: &str) -> Result<Vec<Word>, Fail> {
     Ok(words)
 }
 
-/// A run of a history, without a script.
-pub(crate) fn run_of(alloc: Global, words: &str, book: &str, stop: Stop) -> Result<Run, Fail> {
+/// The runs of a history, without scripts.
+pub(crate) fn runs_of(alloc: Global, rows: &[(&str, &str, Stop)]) -> Result<Vec<Run>, Fail> {
+    let mut runs = Vec::new(alloc);
+    for (words, book, stop) in rows {
+        runs.push(run_of(alloc, words, book, *stop)?)?;
+    }
+    Ok(runs)
+}
+
+fn run_of(alloc: Global, words: &str, book: &str, stop: Stop) -> Result<Run, Fail> {
     Ok(Run {
         words: words_of(alloc, words)?,
         book: book.as_bytes().to_vec(alloc)?,
@@ -44,30 +53,23 @@ pub(crate) fn told(alloc: Global, shown: &Shown) -> Result<String, Fail> {
     Ok(format!(in alloc; "{} {out}", shown.status.code())?)
 }
 
-/// A run of the top call over such devices; standard output and standard error come last.
-pub(crate) fn status_of<B: Source, S: Source, D: Disk, O: Sink, E: Sink, T: Threads + Sync>(
+/// The exit status of a run of the top call over such devices; standard output and standard error come last. It has one way
+/// out, since along each is carried what the call says of all of them.
+fn code_of<B: Source, S: Source, D: Disk, O: Sink, E: Sink, T: Threads + Sync>(
     rt: &T,
     alloc: Global,
-    words: &str,
+    words: &[Word],
     book: &mut B,
     script: &mut S,
     state: &mut D,
     out: &mut O,
     err: &mut E,
-) -> Result<Status, Fail> {
-    let words = words_of(alloc, words)?;
-    Ok(carte(
-        rt,
-        alloc,
-        words.as_slice(),
-        book,
-        script,
-        state,
-        out,
-        err,
-        Seeded::of(7),
-        &NoGate,
-    ))
+) -> u8 {
+    let hasher = Seeded::of(7);
+    let status = carte(
+        rt, alloc, words, book, script, state, out, err, hasher, &NoGate,
+    );
+    status.code()
 }
 
 /// The exit status, and what stands on both outputs, of a run that reads so many bytes a call and writes as many.
@@ -84,8 +86,7 @@ pub(crate) fn by_pieces<T: Threads + Sync>(
     let mut book = MemSource::slow(alloc, book, most, &[])?;
     let mut script = MemSource::slow(alloc, script, most, &[])?;
     let mut out = MemSink::new(alloc, most, &[])?;
-    let mut err = MemSink::new(alloc, most, &[])?;
-    let status = status_of(
+    let (code, err) = answer(
         rt,
         alloc,
         words,
@@ -93,9 +94,33 @@ pub(crate) fn by_pieces<T: Threads + Sync>(
         &mut script,
         state,
         &mut out,
-        &mut err,
+        most,
     )?;
-    let out = str::from_utf8(out.bytes())?;
-    let err = str::from_utf8(err.bytes())?;
-    Ok(format!(in alloc; "{} {out}{err}", status.code())?)
+    printed(alloc, code, out.bytes(), err.as_slice())
+}
+
+/// The exit status, and the bytes on standard error, which takes so many a call.
+pub(crate) fn answer<T: Threads + Sync>(
+    rt: &T,
+    alloc: Global,
+    words: &str,
+    book: &mut MemSource,
+    script: &mut MemSource,
+    state: &mut MemDisk,
+    out: &mut MemSink,
+    most: usize,
+) -> Result<(u8, Vec<u8>), Fail>
+    requires { 1 ≤ most }
+{
+    let words = words_of(alloc, words)?;
+    let mut err = MemSink::new(alloc, most, &[])?;
+    let code = code_of(rt, alloc, &words, book, script, state, out, &mut err);
+    let said = err.bytes().to_vec(alloc)?;
+    Ok((code, said))
+}
+
+fn printed(alloc: Global, code: u8, out: &[u8], err: &[u8]) -> Result<String, Fail> {
+    let out = str::from_utf8(out)?;
+    let err = str::from_utf8(err)?;
+    Ok(format!(in alloc; "{code} {out}{err}")?)
 }

@@ -1,7 +1,7 @@
 //! Runs that are cut off behind so many writing calls.
 
-use crate::runs::{BUILD, EDITED, PLAIN, run_of, told};
-use carte_history::{Run, Stop, history};
+use crate::runs::{BUILD, EDITED, PLAIN, runs_of, told};
+use carte_history::{Run, Shown, Stop, history};
 use carte_io::{NoGate, Pick};
 use carte_value::Seeded;
 use std::alloc::Global;
@@ -32,15 +32,15 @@ fn stopped<T: Threads + Sync>(
     words: &str,
     stop: Stop,
 ) -> Result<(bool, String), Fail> {
-    let runs = [
-        run_of(alloc, words, PLAIN, Stop::None)?,
-        run_of(alloc, words, EDITED, stop)?,
-        run_of(alloc, words, EDITED, Stop::None)?,
+    let rows = [
+        (words, PLAIN, Stop::None),
+        (words, EDITED, stop),
+        (words, EDITED, Stop::None),
     ];
-    let mut texts = shown(rt, alloc, &runs)?;
-    let last = texts.pop().unwrap_or(String::new(alloc));
-    let cut = texts.pop().unwrap_or(String::new(alloc));
-    Ok((cut.starts_with("6 "), last))
+    let runs = runs_of(alloc, &rows)?;
+    let texts = shown(rt, alloc, runs.as_slice())?;
+    let last = String::from_str(alloc, text_at(&texts, 2))?;
+    Ok((text_at(&texts, 1).starts_with("6 "), last))
 }
 
 /// How many stops of such a pairing there are, with one pick, until a run isn't stopped.
@@ -71,11 +71,16 @@ fn a_run_after_each_stop_is_right(rt: HostRuntime) -> Result<(), Fail> {
             let words = format!(in rt.alloc();
                 "{BUILD} --scheduler {scheduler} --rebuilder {rebuilder}"
             )?;
-            for pick in PICKS {
-                let stops = stops_of(&rt, rt.alloc(), words.as_str(), pick)?;
-                assert_eq!(rt; stops, 4, "{words}");
-            }
+            each_pick(&rt, rt.alloc(), words.as_str())?;
         }
+    }
+    Ok(())
+}
+
+fn each_pick<R: Abort + Threads + Sync>(rt: &R, alloc: Global, words: &str) -> Result<(), Fail> {
+    for pick in PICKS {
+        let stops = stops_of(rt, alloc, words, pick)?;
+        assert_eq!(rt; stops, 4, "{words}");
     }
     Ok(())
 }
@@ -87,7 +92,7 @@ const REUSED: &str = "0 B2 = 60\nran 0, given up 0, reused 2\n";
 // How many writing calls pass, and what a second run shows where what wasn't synced is lost, or kept, or filled with bytes that are no
 // gate, or that are an open one. The six calls are the write of the header, its sync, the write of the frame, its sync, the write of
 // the gate byte, its sync.
-const FIRST: [(u64, [&str; 4]); 7] = [
+const FIRST: &[(u64, [&str; 4])] = &[
     (0, [RAN, RAN, RAN, RAN]),
     (1, [RAN, RAN, RAN, RAN]),
     (2, [RAN, RAN, RAN, RAN]),
@@ -107,53 +112,78 @@ fn text_at(texts: &[String], at: usize) -> &str {
 #[test]
 fn crashes_of_the_first_commit(rt: HostRuntime) -> Result<(), Fail> {
     for (calls, wanted) in FIRST {
-        for (pick, want) in PICKS.into_iter().zip(wanted) {
-            let runs = [
-                run_of(rt.alloc(), BUILD, PLAIN, Stop::After(calls, pick))?,
-                run_of(rt.alloc(), BUILD, PLAIN, Stop::None)?,
-            ];
-            let texts = shown(&rt, rt.alloc(), &runs)?;
-            let first = if calls < 6 { "6 " } else { RAN };
-            assert_eq!(rt; text_at(&texts, 0), first, "{calls}, {pick:?}");
-            assert_eq!(rt; text_at(&texts, 1), want, "{calls}, {pick:?}");
+        for (pick, want) in PICKS.iter().zip(wanted.iter()) {
+            check_crash(&rt, rt.alloc(), *calls, *pick, want)?;
         }
     }
     Ok(())
 }
 
+fn check_crash<R: Abort + Threads + Sync>(
+    rt: &R,
+    alloc: Global,
+    calls: u64,
+    pick: Pick,
+    want: &str,
+) -> Result<(), Fail> {
+    let texts = crashed(rt, alloc, Stop::After(calls, pick))?;
+    let first = if calls < 6 { "6 " } else { RAN };
+    assert_eq!(rt; text_at(&texts, 0), first, "{calls}, {pick:?}");
+    assert_eq!(rt; text_at(&texts, 1), want, "{calls}, {pick:?}");
+    Ok(())
+}
+
+/// What a first build that is stopped shows, and the next one.
+fn crashed<T: Threads + Sync>(rt: &T, alloc: Global, stop: Stop) -> Result<Vec<String>, Fail> {
+    let runs = runs_of(alloc, &[(BUILD, PLAIN, stop), (BUILD, PLAIN, Stop::None)])?;
+    shown(rt, alloc, runs.as_slice())
+}
+
 /// What a run shows: the line on standard error, and the state's bytes as the next run finds them.
 #[test]
 fn a_history_shows_its_files(rt: HostRuntime) -> Result<(), Fail> {
-    let runs = [
-        run_of(rt.alloc(), "build p.csv s", PLAIN, Stop::None)?,
-        run_of(rt.alloc(), BUILD, PLAIN, Stop::None)?,
-        run_of(rt.alloc(), BUILD, EDITED, Stop::After(0, Pick::Lost))?,
-    ];
-    let files = history(&rt, rt.alloc(), &runs, Seeded::of(7), &NoGate)?;
+    let files = three_files(&rt, rt.alloc())?;
     assert_eq!(rt; files.len(), 3);
-    assert_eq!(rt;
-        files[0].err.as_slice(),
-        b"carte: usage: no target\n".as_slice()
-    );
+    has_line(&rt, &files[0], b"carte: usage: no target\n");
     assert_eq!(rt; files[0].image.len(), 0);
-    assert_eq!(rt; files[1].err.len(), 0);
+    has_line(&rt, &files[1], b"");
     assert_eq!(rt; files[1].image.len(), 537);
-    assert_eq!(rt;
-        files[2].err.as_slice(),
-        b"carte: the state's device failed\n".as_slice()
-    );
+    has_line(&rt, &files[2], b"carte: the state's device failed\n");
     assert_eq!(rt; files[2].image.as_slice(), files[1].image.as_slice());
-    let none = history(&rt, rt.alloc(), &[], Seeded::of(7), &NoGate)?;
-    assert_eq!(rt; none.len(), 0);
-    let runs = [
-        run_of(rt.alloc(), BUILD, PLAIN, Stop::After(5, Pick::Fill(0x77)))?,
-        run_of(rt.alloc(), BUILD, PLAIN, Stop::None)?,
-        run_of(rt.alloc(), BUILD, PLAIN, Stop::None)?,
+    any_length(&rt, rt.alloc())
+}
+
+fn has_line<R: Abort>(rt: &R, shown: &Shown, line: &[u8]) {
+    assert_eq!(rt; shown.err.as_slice(), line);
+}
+
+fn three_files<T: Threads + Sync>(rt: &T, alloc: Global) -> Result<Vec<Shown>, Fail> {
+    let rows = [
+        ("build p.csv s", PLAIN, Stop::None),
+        (BUILD, PLAIN, Stop::None),
+        (BUILD, EDITED, Stop::After(0, Pick::Lost)),
     ];
-    let texts = shown(&rt, rt.alloc(), &runs)?;
+    let runs = runs_of(alloc, &rows)?;
+    Ok(history(rt, alloc, runs.as_slice(), Seeded::of(7), &NoGate)?)
+}
+
+fn any_length<R: Abort + Threads + Sync>(rt: &R, alloc: Global) -> Result<(), Fail> {
+    let none = shown(rt, alloc, &[])?;
+    assert_eq!(rt; none.len(), 0);
+    let texts = three_texts(rt, alloc)?;
     assert_eq!(rt; texts.len(), 3);
     assert_eq!(rt; text_at(&texts, 0), "6 ");
     assert_eq!(rt; text_at(&texts, 1), RAN);
     assert_eq!(rt; text_at(&texts, 2), REUSED);
     Ok(())
+}
+
+fn three_texts<T: Threads + Sync>(rt: &T, alloc: Global) -> Result<Vec<String>, Fail> {
+    let rows = [
+        (BUILD, PLAIN, Stop::After(5, Pick::Fill(0x77))),
+        (BUILD, PLAIN, Stop::None),
+        (BUILD, PLAIN, Stop::None),
+    ];
+    let runs = runs_of(alloc, &rows)?;
+    shown(rt, alloc, runs.as_slice())
 }

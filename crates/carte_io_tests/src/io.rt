@@ -4,6 +4,8 @@ use carte_io::{
     Disk, FileDisk, MemSink, MemSource, ReadEnd, ReadSource, Sink, Source, WriteSink, read_whole,
     write_all,
 };
+use carte_value::NoMemory;
+use std::alloc::Global;
 use std::fs::OpenOptions;
 use std::io::{self, ErrorKind, Write};
 use std::test::Fail;
@@ -22,36 +24,53 @@ impl Write for Unflushable {
     }
 }
 
+/// Whether the source has these bytes left, of which it reads so many at most.
+fn gives<S: Source>(alloc: Global, source: &mut S, limit: usize, want: &[u8]) -> bool {
+    match read_whole(alloc, source, limit) {
+        Ok(bytes) => bytes.as_slice() == want,
+        Err(_) => false,
+    }
+}
+
+fn gives_all_behind_a_fault(alloc: Global) -> Result<bool, NoMemory> {
+    let mut source = MemSource::of(alloc, b"abcdef", &[1])?;
+    let failed = read_whole(alloc, &mut source, 6).is_err();
+    Ok(failed && gives(alloc, &mut source, 6, b"abcdef"))
+}
+
+fn is_too_long(alloc: Global) -> Result<bool, NoMemory> {
+    let mut longer = MemSource::of(alloc, b"abcdef", &[])?;
+    let end = read_whole(alloc, &mut longer, 5);
+    Ok(matches!(end, Err(ReadEnd::TooLong)))
+}
+
+fn gives_three_pieces(alloc: Global) -> Result<bool, NoMemory> {
+    let long = vec![in alloc; 7u8; 20000]?;
+    let mut pieces = MemSource::of(alloc, &long, &[])?;
+    Ok(gives(alloc, &mut pieces, 20000, &long))
+}
+
+/// The second call of this one fails, and moves nothing.
+fn gives_small_pieces(alloc: Global) -> Result<bool, NoMemory> {
+    let mut slow = MemSource::slow(alloc, b"abcde", 2, &[2])?;
+    let mut into = [b'.'; 4];
+    let first = slow.read(&mut into).ok() == Some(2);
+    let second = slow.read(&mut into).is_err();
+    let moved = first && second && into == *b"ab..";
+    Ok(moved && gives(alloc, &mut slow, 3, b"cde"))
+}
+
 #[test]
 fn a_source_is_read_whole(rt: HostRuntime) -> Result<(), Fail> {
-    let mut source = MemSource::of(rt.alloc(), b"abcdef", &[1])?;
     assert!(rt;
-        read_whole(rt.alloc(), &mut source, 6).is_err(),
+        gives_all_behind_a_fault(rt.alloc())?,
         "the first call fails"
     );
-    let bytes = read_whole(rt.alloc(), &mut source, 6)?;
-    assert_eq!(rt; bytes.as_slice(), b"abcdef".as_slice());
-    let mut longer = MemSource::of(rt.alloc(), b"abcdef", &[])?;
-    assert!(rt;
-        matches!(
-            read_whole(rt.alloc(), &mut longer, 5),
-            Err(ReadEnd::TooLong)
-        )
-    );
-    let long = vec![in rt.alloc(); 7u8; 20000]?;
-    let mut pieces = MemSource::of(rt.alloc(), &long, &[])?;
-    let bytes = read_whole(rt.alloc(), &mut pieces, 20000)?;
-    assert_eq!(rt; bytes.as_slice(), long.as_slice(), "by three pieces");
-    let mut slow = MemSource::slow(rt.alloc(), b"abcde", 2, &[2])?;
-    let mut into = [b'.'; 4];
-    assert_eq!(rt; slow.read(&mut into).ok(), Some(2));
-    assert!(rt; slow.read(&mut into).is_err(), "it moves nothing");
-    assert_eq!(rt; into, *b"ab..");
-    let bytes = read_whole(rt.alloc(), &mut slow, 3)?;
-    assert_eq!(rt; bytes.as_slice(), b"cde".as_slice());
+    assert!(rt; is_too_long(rt.alloc())?);
+    assert!(rt; gives_three_pieces(rt.alloc())?);
+    assert!(rt; gives_small_pieces(rt.alloc())?);
     let mut slice = ReadSource::of(b"xyz".as_slice());
-    let bytes = read_whole(rt.alloc(), &mut slice, 100)?;
-    assert_eq!(rt; bytes.as_slice(), b"xyz".as_slice());
+    assert!(rt; gives(rt.alloc(), &mut slice, 100, b"xyz"));
     Ok(())
 }
 

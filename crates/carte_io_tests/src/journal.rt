@@ -77,30 +77,24 @@ fn damaged_files_load_by_the_format(rt: HostRuntime) -> Result<(), Fail> {
 // A file of one body, `ab`.
 const ONE: [u8; 16] = *b"CARTE01\n\x01\0\0\0\x02ab\0";
 
-// A disk after a commit of `ab` that was let make so many calls in all but those of the list, and whether it was Ok.
-fn committed(
-    alloc: Global,
-    bytes: &[u8],
-    failing: &[u64],
-    calls: u64,
-) -> Result<(MemDisk, bool), NoMemory> {
-    let mut disk = MemDisk::of(alloc, bytes, failing)?;
+// Whether a commit of `ab` to the disk, which lets so many calls be made, is Ok.
+fn commits(alloc: Global, disk: &mut MemDisk) -> Result<bool, NoMemory> {
     let frame = Frame::of(alloc, b"ab")?;
-    let Ok((mut journal, _bodies)) = Journal::load(alloc, &mut disk, 1000) else {
-        return Ok((disk, false));
+    let Ok((mut journal, _bodies)) = Journal::load(alloc, disk, 1000) else {
+        return Ok(false);
     };
-    disk.stop_after(calls);
-    let done = journal.commit(&mut disk, &frame).is_ok();
-    Ok((disk, done && !journal.is_broken()))
+    disk.stop_after(100);
+    let done = journal.commit(disk, &frame).is_ok();
+    Ok(done && !journal.is_broken())
 }
 
 #[test]
 fn a_commit_has_its_bytes(rt: HostRuntime) -> Result<(), Fail> {
-    let (mut disk, done) = committed(rt.alloc(), b"", &[], 100)?;
-    assert!(rt; done);
+    let mut disk = Box::new(rt.alloc(), MemDisk::of(rt.alloc(), b"", &[])?)?;
+    assert!(rt; commits(rt.alloc(), &mut disk)?);
     assert_eq!(rt; disk.bytes(), ONE.as_slice());
     assert_eq!(rt; disk.passed(), 6);
-    let Ok((journal, bodies)) = Journal::load(rt.alloc(), &mut disk, 1000) else {
+    let Ok((journal, bodies)) = Journal::load(rt.alloc(), &mut *disk, 1000) else {
         return Err(Fail::from("it loads"));
     };
     assert!(rt; !journal.is_broken());

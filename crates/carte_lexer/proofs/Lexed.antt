@@ -8,7 +8,8 @@ use Rattle.carte_name.specs.declared.kind.Kind.{Kind}
 use Rattle.carte_name.specs.declared.kind.Kind.TheVariants.{Rules, Sheet}
 use Rattle.carte_lexer.specs.Tokens.{eq, add, sub, mul, div, join, Func, Token, digits, quoted, word, cell, op, lpar, rpar, comma, colon, Placed, tokens_of}
 use Rattle.carte_lexer.specs.Kinds.{OfKind, AllOfKind}
-use Rattle.carte_lexer.specs.Lexer.{Class, numeral, small, capitals, letters, less, greater, inside, closing, Start, blank, single, begins, wrong, is_blank, sign_of, start_of, low_class, high_class, grown_run, going_on, token_of, func_token, func_of, quoted_text, Pending, idle, run, before, emit, from_start, from_run, lexed}
+use Rattle.carte_tree.specs.Functions.{func_of}
+use Rattle.carte_lexer.specs.Lexer.{Class, numeral, small, capitals, letters, less, greater, inside, closing, Start, blank, single, begins, wrong, is_blank, sign_of, start_of, low_class, high_class, grown_run, going_on, token_of, func_token, quoted_text, Pending, idle, run, before, emit, from_start, from_run, lexed}
 
 abbrev OfRules : Kind → Type 0
 OfRules Rules = Unit {0}

@@ -1,9 +1,9 @@
 -- The printed bytes of tokens give these tokens.
-use Rattle.std.proofs.Common.{ℕ, pos, negsuc, suc, Bool, true, false, List, [], ◌∷◌, ◌++◌, length, ◌≡◌, ◌≤◌, ◌<◌, ◌+◌, ◌-◌, ◌^◌, ◌&&◌, ◌||◌, ◌==◌, ◌⊎◌, inl, inr, Option, Some, None, Result, Ok, if◌then◌else◌, refl, ◌∙◌, ap, append_assoc, length-append, add-zero, arith, nat_le, slice_range}
+use Rattle.std.proofs.Common.{ℕ, pos, negsuc, suc, Bool, true, false, List, [], ◌∷◌, ◌++◌, length, ◌≡◌, ◌≤◌, ◌<◌, ◌+◌, ◌-◌, ◌^◌, ◌&&◌, ◌||◌, ◌==◌, ◌⊎◌, inl, inr, Option, Some, None, Result, Ok, if◌then◌else◌, refl, ◌∙◌, ap, append_assoc, length-append, add-zero, arith, subst, nat_lt, nat_le, slice_range}
 use Rattle.std.specs.Fmt.{decimal}
 use Rattle.std.specs.List.{list_all}
 use Rattle.std.specs.Str.{str_to_ascii_uppercase}
-use Rattle.std.proofs.lemmas.Bool.{lt-ltb, le-leb, eqb-true, ne_eqb}
+use Rattle.std.proofs.lemmas.Bool.{ltb-true, lt-ltb, le-leb, eqb-true, ne_eqb}
 use Rattle.std.proofs.Math.Nat.{le_refl}
 use Rattle.std.proofs.lemmas.List.{append-nil, take-append-le, take_all}
 use Rattle.carte_name.specs.Names.{is_rule_name, is_cell_name, is_digit, is_lower, is_upper, is_letter, is_name_byte}
@@ -13,7 +13,8 @@ use Rattle.carte_lexer.specs.Tokens.{Op, eq, ne, lt, le, gt, ge, join, add, sub,
 use Rattle.carte_tree.specs.declared.expr.Func.TheVariants as functions
 use Rattle.carte_lexer.specs.Kinds.{OfKind, AllOfKind}
 use Rattle.carte_lexer.specs.Lexer.{Class, numeral, small, capitals, letters, less, greater, inside, closing, Start, begins, start_of, low_class, high_class, grown_run, going_on, token_of, sheet_token, quoted_text, unpaired, Pending, idle, run, before, emit, from_start, from_run, lexed, token_bytes, text_of}
-use Rattle.carte_tree.specs.Printed.{func_name, doubled}
+use Rattle.carte_tree.specs.Functions.{func_name}
+use Rattle.carte_tree.specs.Printed.{doubled}
 use Rattle.carte_lexer.proofs.Bytes.{and_both, and_left, and_right, or_true, within, below, above, decimal_all, decimal_value, decimal_some, first_rest, is_cell_byte, cell_parts, cell_raised, rule_parts}
 use Rattle.carte_lexer.proofs.Clear.{Closing, Opening, Bracket, Clear, AllClear}
 
@@ -186,23 +187,24 @@ func_sheet : (f : Func) → token_of letters (func_name f) ≡ Some (func f)
 func_sheet functions.Sum = refl
 func_sheet _ = refl
 
+func_some : (f : Func) → nat_lt 0 (length (func_name f)) ≡ true
+func_some functions.Sum = refl
+func_some _ = refl
+
+func_upper : (f : Func) → list_all is_upper (func_name f) ≡ true
+func_upper functions.Sum = refl
+func_upper _ = refl
+
+func_word : (f : Func) → list_all is_word_byte (func_name f) ≡ true
+func_word functions.Sum = refl
+func_word _ = refl
+
 func_parts : (f : Func) → (a : ℕ) × (xs : List ℕ) × (func_name f ≡ a ∷ xs) × (is_upper a ≡ true) × (list_all is_upper xs ≡ true) × (list_all is_word_byte xs ≡ true)
-func_parts functions.Sum = (83, 85 ∷ 77 ∷ [], refl, refl, refl, refl)
-func_parts functions.Min = (77, 73 ∷ 78 ∷ [], refl, refl, refl, refl)
-func_parts functions.Max = (77, 65 ∷ 88 ∷ [], refl, refl, refl, refl)
-func_parts functions.Count = (67, 79 ∷ 85 ∷ 78 ∷ 84 ∷ [], refl, refl, refl, refl)
-func_parts functions.Concat = (67, 79 ∷ 78 ∷ 67 ∷ 65 ∷ 84 ∷ [], refl, refl, refl, refl)
-func_parts functions.And = (65, 78 ∷ 68 ∷ [], refl, refl, refl, refl)
-func_parts functions.Or = (79, 82 ∷ [], refl, refl, refl, refl)
-func_parts functions.Len = (76, 69 ∷ 78 ∷ [], refl, refl, refl, refl)
-func_parts functions.Upper = (85, 80 ∷ 80 ∷ 69 ∷ 82 ∷ [], refl, refl, refl, refl)
-func_parts functions.Lines = (76, 73 ∷ 78 ∷ 69 ∷ 83 ∷ [], refl, refl, refl, refl)
-func_parts functions.Line = (76, 73 ∷ 78 ∷ 69 ∷ [], refl, refl, refl, refl)
-func_parts functions.Not = (78, 79 ∷ 84 ∷ [], refl, refl, refl, refl)
-func_parts functions.If = (73, 70 ∷ [], refl, refl, refl, refl)
-func_parts functions.Pick = (80, 73 ∷ 67 ∷ 75 ∷ [], refl, refl, refl, refl)
-func_parts functions.Indirect = (73, 78 ∷ 68 ∷ 73 ∷ 82 ∷ 69 ∷ 67 ∷ 84 ∷ [], refl, refl, refl, refl)
-func_parts functions.Gather = (71, 65 ∷ 84 ∷ 72 ∷ 69 ∷ 82 ∷ [], refl, refl, refl, refl)
+func_parts f =
+    let (a, xs, is) = first_rest (func_name f) (ltb-true 0 (length (func_name f)) (func_some f)) in
+    let upper : (is_upper a && list_all is_upper xs) ≡ true = subst (λ bs. list_all is_upper bs ≡ true) is (func_upper f) in
+    let word : (is_word_byte a && list_all is_word_byte xs) ≡ true = subst (λ bs. list_all is_word_byte bs ≡ true) is (func_word f) in
+    (a, xs, is, and_left (is_upper a) (list_all is_upper xs) upper, and_right (is_upper a) (list_all is_upper xs) upper, and_right (is_word_byte a) (list_all is_word_byte xs) word)
 
 func_lexed : (q : Kind) (f : Func) (ts : List Token) → Bracket ts → Lexes q (func f) (text_of ts)
 func_lexed Rules f ts c at =

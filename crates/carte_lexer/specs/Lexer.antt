@@ -1,5 +1,5 @@
 -- The tokens of a text.
-use Rattle.std.specs.Prelude.{ℕ, pos, Bool, true, false, List, [], ◌∷◌, ◌++◌, length, slice_index, slice_range, nat_lt, nat_le, codes, ◌==◌, ◌&&◌, ◌||◌, ◌+◌, ◌-◌, ◌^◌, Option, Some, None, Result, Ok, Err, if◌then◌else◌, bytes_eq}
+use Rattle.std.specs.Prelude.{ℕ, pos, Bool, true, false, List, [], ◌∷◌, ◌++◌, length, slice_index, slice_range, nat_lt, nat_le, codes, ◌==◌, ◌&&◌, ◌||◌, ◌+◌, ◌-◌, ◌^◌, Option, Some, None, Result, Ok, Err, if◌then◌else◌}
 use Rattle.std.specs.Fmt.{signed_decimal}
 use Rattle.std.specs.Str.{str_to_ascii_uppercase}
 use Rattle.std.specs.Str.Parse.{digits_value}
@@ -7,8 +7,8 @@ use Rattle.carte_name.specs.Names.{is_digit, is_lower, is_upper, is_letter, is_n
 use Rattle.carte_name.specs.declared.kind.Kind.{Kind}
 use Rattle.carte_name.specs.declared.kind.Kind.TheVariants.{Rules, Sheet}
 use Rattle.carte_lexer.specs.Tokens.{Op, eq, ne, lt, le, gt, ge, join, add, sub, mul, div, Func, Token, digits, quoted, word, cell, func, op, lpar, rpar, comma, colon, sign_token, Placed}
-use Rattle.carte_tree.specs.Printed.{func_name, op_bytes, text_bytes}
-use Rattle.carte_tree.specs.declared.expr.Func.TheVariants as functions
+use Rattle.carte_tree.specs.Functions.{func_name, func_of}
+use Rattle.carte_tree.specs.Printed.{op_bytes, text_bytes}
 pub use Rattle.carte_lexer.specs.declared.tokens.Class.{Class}
 pub use Rattle.carte_lexer.specs.declared.tokens.Class.TheVariants.{Digits as numeral, Word as small, Capitals as capitals, Letters as letters, Less as less, Greater as greater, Inside as inside, Quote as closing}
 use Rattle.carte_lexer.specs.declared.tokens.Start.{Start as CodeStart}
@@ -30,17 +30,6 @@ start_by code.Wrong = wrong
 
 abbrev pub is_blank : ℕ → Bool
 is_blank b = ((b == 32 || b == 9) || b == 10) || b == 13
-
-abbrev pub funcs : List Func
-funcs = functions.Sum ∷ functions.Min ∷ functions.Max ∷ functions.Count ∷ functions.Concat ∷ functions.And ∷ functions.Or ∷ functions.Len ∷ functions.Upper ∷ functions.Lines ∷ functions.Line ∷ functions.Not ∷ functions.If ∷ functions.Pick ∷ functions.Indirect ∷ functions.Gather ∷ []
-
-abbrev pub func_among : List Func → List ℕ → Option Func
-func_among [] bs = None
-func_among (f ∷ fs) bs = if bytes_eq bs (func_name f) then Some f else func_among fs bs
-
--- the function of this name
-abbrev pub func_of : List ℕ → Option Func
-func_of bs = func_among funcs bs
 
 -- a byte that is a token alone, or begins one
 abbrev pub sign_of : ℕ → Start

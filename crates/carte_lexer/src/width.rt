@@ -1,4 +1,4 @@
-ghost use Rattle.std.specs.Prelude.{◌≡◌, ◌≤◌, ◌∷◌, [], List, OnOk};
+ghost use Rattle.std.specs.Prelude.{◌≡◌, ◌≤◌, ◌∷◌, [], List, OnOk, OnErr};
 ghost use Rattle.carte_lexer.specs.declared.tokens.Token.TheVariants as tokens;
 ghost use Rattle.carte_lexer.specs.Tokens.{Placed, sign_token};
 ghost use Rattle.carte_lexer.specs.Widths.{wide_from};
@@ -46,10 +46,11 @@ impl Ranges {
         }
     }
 
-    /// A token follows.
+    /// A token follows. Where there is no memory, nothing has changed.
     #[inline(always)]
     pub fn take(&mut self, alloc: Global, placed: &Placed) -> Result<(), NoMemory>
-        ensures { OnOk result ((ps : List Placed) → wide_after self.old (placed.now ∷ ps) ≡ wide_after self.new ps) }
+        ensures refused { OnErr result (self.new ≡ self.old) }
+        ensures taken { OnOk result ((ps : List Placed) → wide_after self.old (placed.now ∷ ps) ≡ wide_after self.new ps) }
     {
         match &placed.token {
             Token::Cell(cell) => self.take_cell(alloc, placed.place, cell),
@@ -87,7 +88,8 @@ impl Ranges {
     }
 
     fn take_cell(&mut self, alloc: Global, place: usize, cell: &Cell) -> Result<(), NoMemory>
-        ensures { OnOk result ((ps : List Placed) → wide_after self.old (record { place = place; token = tokens.Cell cell.now } ∷ ps) ≡ wide_after self.new ps) }
+        ensures refused { OnErr result (self.new ≡ self.old) }
+        ensures taken { OnOk result ((ps : List Placed) → wide_after self.old (record { place = place; token = tokens.Cell cell.now } ∷ ps) ≡ wide_after self.new ps) }
     {
         let corner = cell.copy(alloc)?;
         let begun = mem::replace(&mut self.begun, Begun::Corner(place, corner));

@@ -1,11 +1,14 @@
 -- Lists of names to which names are put, each once.
-use Rattle.std.proofs.Common.{◌≡◌, ◌⊎◌, ℕ, suc, zero, ◌<◌, Bool, true, false, ◌||◌, cond, List, [], ◌∷◌, ◌++◌, length, Some, slice_get, take, add-one, ◌+◌, refl, ap, sym, ◌∙◌, subst, inl, inr, arith}
+use Rattle.std.proofs.Common.{◌≡◌, ◌↔◌, ◌⊎◌, ℕ, suc, zero, ◌<◌, Bool, true, false, ◌||◌, cond, List, [], ◌∷◌, ◌++◌, length, Some, None, slice_get, take, add-one, ◌+◌, refl, ap, sym, ◌∙◌, subst, inl, inr, arith, Result, Ok, Err}
 use Rattle.std.specs.List.{list_any}
+use Rattle.std.specs.Prelude.{IfOk, OnErr}
 use Rattle.indexmap.specs.IndexSet.{insert_key}
 use Rattle.carte_name.specs.Names.{name_eq}
+use Rattle.carte_value.specs.Lists.{Begins}
 use Rattle.carte_value.specs.Truths.{Among}
 use Rattle.carte_value.proofs.Members.{among_append, among_left, among_right}
 use Rattle.carte_table.proofs.Names.{name_eq_is, name_eq_self}
+use Rattle.carte_table.proofs.Steps.{begins_self}
 use Rattle.carte_mark.specs.Puts.{put_all}
 
 pub any_among : (rs : List (List ℕ)) (k : List ℕ) → list_any (name_eq k) rs ≡ true → Among rs k
@@ -27,6 +30,19 @@ among_any (r ∷ rs) k (inr later) = on (name_eq k r) (among_any rs k later)
 
 abbrev pub put : List (List ℕ) → List ℕ → List (List ℕ)
 put rs k = insert_key name_eq rs k
+
+-- what was there stays in front
+put_begins : (rs new : List (List ℕ)) (k : List ℕ) → new ≡ insert_key name_eq rs k → Begins rs new
+put_begins rs new k is = subst (Begins rs) (sym is) (on (list_any (name_eq k) rs))
+  where
+    on : (t : Bool) → Begins rs (cond t rs (rs ++ k ∷ []))
+    on true = begins_self rs
+    on false = (k ∷ [], refl)
+
+-- whatever a set answers to the name
+pub insert_begins : {A E : Type 0} (r : Result A E) (rs new : List (List ℕ)) (k : List ℕ) → IfOk r (λ x. new ≡ insert_key name_eq rs k) → OnErr r (new ≡ rs) → Begins rs new
+insert_begins (Ok x) rs new k is same = put_begins rs new k is
+insert_begins (Err e) rs new k is same = subst (Begins rs) (sym same) (begins_self rs)
 
 -- one name
 one_only : (rs : List (List ℕ)) (k j : List ℕ) → Among (put rs k) j → Among rs j ⊎ (j ≡ k)
@@ -122,3 +138,20 @@ pub get_there : (rs : List (List ℕ)) (i : ℕ) → i < length rs → (q : List
 get_there [] i below = absurd (omega arith)
 get_there (r ∷ rs) zero below = (r, refl)
 get_there (r ∷ rs) (suc i) below = get_there rs i (omega arith)
+
+-- a list of one name
+pub only_among : (rs : List (List ℕ)) (q k : List ℕ) (t : Bool) → length rs ≡ 1 → slice_get rs 0 ≡ Some q → t ≡ name_eq q k → (t ≡ true) ↔ Among rs k
+only_among [] q k t one there is = absurd (omega (arith, one))
+only_among (r ∷ []) q k t one there is = ((λ same. inl (sym (first_is ∙ name_eq_is q k (sym is ∙ same)))), back)
+  where
+    first_is : r ≡ q
+    first_is = cc there
+
+    back : Among (r ∷ []) k → t ≡ true
+    back (inl same) = is ∙ (ap (λ j. name_eq j k) (sym (same ∙ first_is)) ∙ name_eq_self k)
+    back (inr nowhere) = absurd nowhere
+only_among (r ∷ s ∷ rs) q k t one there is = absurd (omega (arith, one))
+
+pub only_there : (rs : List (List ℕ)) → length rs ≡ 1 → ¬ (slice_get rs 0 ≡ None)
+only_there [] one none = absurd (omega (arith, one))
+only_there (r ∷ rs) one none = cc

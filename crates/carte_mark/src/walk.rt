@@ -1,6 +1,7 @@
 ghost use Rattle.std.specs.Prelude.{◌≡◌, ◌<◌, length, slice_get, Some, ℕ, List, OnOk, IfOk};
 ghost use Rattle.std.specs.HashMap.{get};
 ghost use Rattle.carte_name.specs.Names.{name_eq};
+ghost use Rattle.carte_value.specs.Lists.{Begins};
 ghost use Rattle.carte_mark.specs.Puts.{put_all};
 ghost use Rattle.carte_mark.specs.Passes.{AreReached};
 ghost use Rattle.carte_mark.specs.Tables.{keys_in};
@@ -57,9 +58,10 @@ fn put_users(
     }
 }
 
-/// Puts each of these names into a set, behind the others where it isn't there.
+/// Puts each of these names into a set, behind the others where it isn't there. Where there is no memory, some may stand there.
 pub fn put_each(alloc: Global, keys: &Names, reached: &mut NameSet) -> Result<(), NoMemory>
-    ensures { OnOk result (reached.new.keys ≡ put_all reached.old.keys keys.now) }
+    ensures front { Begins reached.old.keys reached.new.keys }
+    ensures put { OnOk result (reached.new.keys ≡ put_all reached.old.keys keys.now) }
 {
     for key in keys.as_slice() {
         put(alloc, key, reached)?;

@@ -2,6 +2,8 @@ pub mod Ascii
 pub mod Fronts
 pub mod Prefixes
 pub mod CellPrefixes
+pub mod Counted
+pub mod Ends
 pub mod Raised
 pub mod Places
 pub mod Written

@@ -1,12 +1,38 @@
-ghost use Rattle.std.specs.Prelude.{◌≡◌, take, drop};
+ghost use Rattle.std.specs.Prelude.{◌≡◌, ◌≤◌, ◌+◌, length, take, drop};
 ghost use Rattle.std.specs.Int.{w64, from_be_bytes};
 ghost use Rattle.carte_name.specs.Fronts.{front_of};
 ghost use Rattle.carte_name.specs.Names.{name_cmp, name_eq};
 
 use std::cmp::Ordering;
+use std::simd::Simd;
 
 /// The first 16 bytes, with zeros behind them where there are fewer.
 pub(crate) fn front_of(text: &[u8]) -> [u8; 16]
+    ensures { result ≡ front_of text.now }
+{
+    match text.len() {
+        8..=16 => by_ends::<8>(text),
+        4..=7 => by_ends::<4>(text),
+        _ => by_bytes(text),
+    }
+}
+
+// The first and the last N bytes, which may overlap: each of these is one load and one store, where bytes by the length are a call.
+#[inline(always)]
+fn by_ends<const N: usize>(text: &[u8]) -> [u8; 16]
+    requires from { N ≤ length text.now }
+    requires to { length text.now ≤ N + N }
+    requires few { length text.now ≤ 16 }
+    ensures { result ≡ front_of text.now }
+{
+    let mut front = [0; 16];
+    let last = text.len() - N;
+    Simd::<u8, N>::from_slice(text).copy_to_slice(&mut front);
+    Simd::<u8, N>::from_slice(&text[last..]).copy_to_slice(&mut front[last..]);
+    front
+}
+
+fn by_bytes(text: &[u8]) -> [u8; 16]
     ensures { result ≡ front_of text.now }
 {
     let mut front = [0; 16];

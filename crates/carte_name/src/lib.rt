@@ -17,7 +17,8 @@
 //! contract of a function that does nothing.
 //!
 //! Tests of names take no memory, so a text that is no name is refused whether or not there is memory. They read bytes,
-//! since names are ASCII: what is read from a file needn't be tried as UTF-8 first.
+//! since names are ASCII: what is read from a file needn't be tried as UTF-8 first. A short name is tested where it will
+//! stand, all of its bytes at once.
 //!
 //! `NoMemory` stands here too, as this is the lowest crate: every other one answers it.
 #![tactic(auto)]

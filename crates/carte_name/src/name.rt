@@ -1,9 +1,10 @@
-ghost use Rattle.std.specs.Prelude.{◌≡◌, ◌≤◌, length, slice_index, ℕ, Some, refl, IsTrue, IfOk};
+ghost use Rattle.std.specs.Prelude.{◌≡◌, ◌≤◌, length, slice_index, ℕ, Some, false, refl, IsTrue, IfOk, MatchOption};
 ghost use Rattle.std.proofs.Common.{rules};
 ghost use Rattle.std.specs.Ordering.{nat_cmp};
 ghost use Rattle.std.specs.Cmp.{on_equiv, on_total, on_po, on_per, partial_equiv_from_equiv};
 ghost use Rattle.std.specs.Cmp.Lexicographic.{nat_list_eq_equiv, nat_list_cmp_total, texts_ties, texts_po};
-ghost use Rattle.carte_name.specs.Fronts.{fed, fed_alike};
+ghost use Rattle.std.specs.Arc.{arc_str_bytes};
+ghost use Rattle.carte_name.specs.Fronts.{fed, fed_alike, front_of};
 ghost use Rattle.carte_name.specs.Names.{name_cmp, name_eq, is_name, is_rule_name, is_cell_name, is_cell_text};
 ghost use Rattle.carte_name.specs.Places.{cell_at, IsPlace, IsPlaceOf};
 ghost use Rattle.carte_name.specs.Kinds.{is_name_of, is_text_of, name_of};
@@ -13,7 +14,9 @@ ghost use Rattle.std.specs.Str.{str_to_ascii_uppercase};
 use crate::cell_name::cell_name;
 use crate::front::{alike, front_of, order};
 use crate::held::Held;
-use crate::name_text::{cell_prefix, first, is_cell, is_name, is_rule, name_prefix, rule_prefix};
+use crate::name_text::{
+    cell_prefix, first, is_cell, is_name, is_rule, is_rule_front, name_prefix, rule_prefix,
+};
 use crate::place::{column, row};
 use crate::{Kind, NameFault, NoMemory};
 use std::alloc::{AllocError, Global};
@@ -55,10 +58,29 @@ impl Name {
     pub fn rule(alloc: Global, text: &str) -> Result<Name, NameFault>
         ensures { IsNameRead is_rule_name text.now text.now result }
     {
-        if !is_rule(text.as_bytes()) {
-            return Err(NameFault::BadName(rule_prefix(text.as_bytes())));
+        let bytes = text.as_bytes();
+        if bytes.len() <= 16 {
+            return match Name::short_rule(bytes) {
+                Some(name) => Ok(name),
+                None => Err(NameFault::BadName(rule_prefix(bytes))),
+            };
+        }
+        if !is_rule(bytes) {
+            return Err(NameFault::BadName(rule_prefix(bytes)));
         }
         Ok(Name::held(alloc, text)?)
+    }
+
+    /// The name of a rule file that stands in itself: its bytes are tested where they stand then.
+    fn short_rule(text: &[u8]) -> Option<Name>
+        requires { length text.now ≤ 16 }
+        ensures { MatchOption result (is_rule_name text.now ≡ false) (λ k. IsTrue (is_rule_name text.now) × (k ≡ text.now)) }
+    {
+        let front = front_of(text);
+        if !is_rule_front(&front, text) {
+            return None;
+        }
+        Some(Name::short(text, front))
     }
 
     /// Reads a name of a cell, in either case: A to ZZ, and then a row from 1 to 9999 without leading zeros.
@@ -86,6 +108,12 @@ impl Name {
     pub fn exact_bytes(alloc: Global, text: &[u8]) -> Result<Name, NameFault>
         ensures { IsNameRead is_name text.now text.now result }
     {
+        if text.len() <= 16
+            && first(text).is_ascii_lowercase()
+            && let Some(name) = Name::short_rule(text)
+        {
+            return Ok(name);
+        }
         if !is_name(text) {
             return Err(NameFault::BadName(name_prefix(text)));
         }
@@ -117,18 +145,18 @@ impl Name {
         ensures { IfOk result (λ k. k ≡ text.now) }
     {
         if text.len() <= 16 {
-            return Ok(Name::short(text.as_bytes()));
+            return Ok(Name::short(text.as_bytes(), front_of(text.as_bytes())));
         }
         let held = Held::Long(NO_HINT, ArcStr::from_str(alloc, text)?);
         Ok(Name { held })
     }
 
-    fn short(text: &[u8]) -> Name
+    fn short(text: &[u8], front: [u8; 16]) -> Name
         requires name { IsTrue (is_name text.now) }
         requires few { length text.now ≤ 16 }
+        requires padded { front ≡ front_of text.now }
         ensures { result ≡ text.now }
     {
-        let front = front_of(text);
         let held = Held::Short(text.len() as u8, NO_HINT, front);
         Name { held }
     }
@@ -264,12 +292,13 @@ impl PartialEq for Name {
 
     ghost laws = { partial_equiv_from_equiv nat_list_eq_equiv };
 
+    #[inline(always)]
     fn eq(&self, other: &Name) -> bool {
         match (&self.held, &other.held) {
             (Held::Short(length, _, front), Held::Short(others, _, theirs)) => {
                 alike(front, theirs) && length == others
             }
-            _ => self.text() == other.text(),
+            _ => same_text(self, other),
         }
     }
 }
@@ -315,10 +344,26 @@ impl Hash for Name {
 
     ghost respects_eq = { fed_alike };
 
+    #[inline(always)]
     fn hash<H: Hasher>(&self, state: &mut H) {
         match &self.held {
             Held::Short(_, _, front) => state.write(front.as_slice()),
-            Held::Long(_, text) => state.write(text.as_bytes()),
+            Held::Long(_, text) => write_whole(text, state),
         }
     }
+}
+
+// What is done for long names stands apart, so that the rest is small enough to be part of what looks a name up.
+#[inline(never)]
+fn same_text(one: &Name, other: &Name) -> bool
+    ensures { result ≡ name_eq one.now other.now }
+{
+    one.text() == other.text()
+}
+
+#[inline(never)]
+fn write_whole<H: Hasher>(text: &ArcStr, state: &mut H)
+    ensures { state.new ≡ H.write state.old (arc_str_bytes text.now) }
+{
+    state.write(text.as_bytes());
 }

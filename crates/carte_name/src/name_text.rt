@@ -1,5 +1,6 @@
 ghost use Rattle.std.specs.Prelude.{◌≡◌, ◌≤◌, length, slice_index, nat_le, ◌&&◌};
-ghost use Rattle.std.specs.List.{list_all};
+ghost use Rattle.std.specs.List.{count_by, list_all};
+ghost use Rattle.carte_name.specs.Fronts.{front_of};
 ghost use Rattle.carte_name.specs.Names.{is_name_byte, is_digit, is_letter, is_upper, is_row, is_rule_name, is_cell_text, is_cell_name, is_name};
 ghost use Rattle.carte_name.specs.Prefixes.{IsLongestPrefix, IsRun, letters_of};
 
@@ -13,6 +14,15 @@ pub(crate) fn is_rule(text: &[u8]) -> bool
         && text.len() <= NAME_LIMIT
         && text[0].is_ascii_lowercase()
         && all_of_rules(text)
+}
+
+/// The same of a text of at most 16 bytes, tested in its front: all at once, as no branch depends on a byte.
+pub(crate) fn is_rule_front(front: &[u8; 16], text: &[u8]) -> bool
+    requires padded { front.now ≡ front_of text.now }
+    requires few { length text.now ≤ 16 }
+    ensures { result ≡ is_rule_name text.now }
+{
+    first(text).is_ascii_lowercase() & (bytes_of_rules(front) as usize == text.len())
 }
 
 /// Whether a text is a name of a cell, in either case.
@@ -92,6 +102,17 @@ fn of_rules(byte: u8) -> bool
     ensures { result ≡ is_name_byte byte }
 {
     (b'.' <= byte && byte <= b'9') || (b'a' <= byte && byte <= b'z') || byte == b'_'
+}
+
+/// How many bytes of a front can stand in a name of a rule file: the zeros behind its text can't.
+fn bytes_of_rules(front: &[u8; 16]) -> u8
+    ensures { result ≡ count_by is_name_byte front.now }
+{
+    let mut count = 0;
+    for byte in front {
+        count += of_rules(*byte) as u8;
+    }
+    count
 }
 
 fn all_of_rules(text: &[u8]) -> bool

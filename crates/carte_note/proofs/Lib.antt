@@ -1,3 +1,4 @@
+pub mod Growing
 pub mod Ends
 pub mod Valued
 pub mod Seeing

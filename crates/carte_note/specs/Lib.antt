@@ -3,3 +3,4 @@ pub mod Lists
 pub mod Methods
 pub mod Writes
 pub mod Notes
+pub mod Grown

@@ -1,7 +1,10 @@
 ghost use Rattle.std.specs.Prelude.{◌≡◌, false, OnOk, IfOk};
+ghost use Rattle.carte_value.specs.Lists.{Begins};
 ghost use Rattle.carte_value.specs.Spelling.{digest_of};
 ghost use Rattle.carte_book.specs.Book.{book_view};
+ghost use Rattle.carte_record.specs.Growth.{GrowsBatch};
 ghost use Rattle.carte_record.specs.Kept.{kept_view};
+ghost use Rattle.carte_note.specs.Grown.{Grown};
 ghost use Rattle.carte_note.specs.Methods.{how_of};
 ghost use Rattle.carte_note.specs.Notes.{Notes, AreUnmarked};
 ghost use Rattle.carte_note.specs.Writes.{brings_nothing, deep_noted, digest_made, needs_noted, task_made, traced, with_value, with_run, with_entry, with_finished};
@@ -30,10 +33,11 @@ pub fn note_finished(
 ) -> Result<(), NoMemory>
     ensures notes { OnOk result (Notes (how_of method) (kept_view kept.now) (book_view book.now) finished.now batch.old batch.new) }
     ensures unmarked { OnOk result (AreUnmarked batch.old.entries → AreUnmarked batch.new.entries) }
-    ensures start { OnOk result (batch.new.start ≡ batch.old.start) }
-    ensures gone { OnOk result (batch.new.gone ≡ batch.old.gone) }
-    ensures stale { OnOk result (batch.new.stale ≡ batch.old.stale) }
-    ensures chain { OnOk result (batch.new.chain ≡ batch.old.chain) }
+    ensures front { GrowsBatch batch.old batch.new }
+    ensures start { batch.new.start ≡ batch.old.start }
+    ensures gone { batch.new.gone ≡ batch.old.gone }
+    ensures stale { batch.new.stale ≡ batch.old.stale }
+    ensures chain { batch.new.chain ≡ batch.old.chain }
     ensures items { OnOk result (batch.new ≡ with_finished (how_of method) (book_view book.now) kept.now finished.now batch.old) }
 {
     note_items(alloc, method, kept, book, finished, batch)
@@ -47,7 +51,8 @@ fn note_items(
     finished: &Finished,
     batch: &mut Batch,
 ) -> Result<(), NoMemory>
-    ensures { OnOk result (batch.new ≡ with_finished (how_of method) (book_view book.now) kept.now finished.now batch.old) }
+    ensures grown { Grown batch.old batch.new }
+    ensures noted { OnOk result (batch.new ≡ with_finished (how_of method) (book_view book.now) kept.now finished.now batch.old) }
 {
     if brings_nothing(method, finished) {
         return Ok(());
@@ -68,7 +73,8 @@ fn note_run(
 ) -> Result<(), NoMemory>
     requires made { digests.result ≡ digest_made finished.now }
     requires task { digests.task ≡ task_made (book_view book.now) finished.now }
-    ensures { OnOk result (batch.new ≡ with_run (how_of method) (book_view book.now) kept.now finished.now batch.old) }
+    ensures grown { Grown batch.old batch.new }
+    ensures noted { OnOk result (batch.new ≡ with_run (how_of method) (book_view book.now) kept.now finished.now batch.old) }
 {
     if !has_run(&finished.made) {
         return Ok(());
@@ -95,7 +101,8 @@ fn note_value(
     values: &mut Store,
 ) -> Result<(), NoMemory>
     requires { digest ≡ digest_of value.now }
-    ensures { OnOk result (values.new ≡ with_value kept.now value.now values.old) }
+    ensures front { Begins values.old values.new }
+    ensures noted { OnOk result (values.new ≡ with_value kept.now value.now values.old) }
 {
     if kept.find(&digest).is_some() || values.find(&digest).is_some() {
         return Ok(());
@@ -111,7 +118,8 @@ fn note_trace(
     batch: &mut Batch,
 ) -> Result<(), NoMemory>
     requires { digests.result ≡ digest_made finished.now }
-    ensures { OnOk result (batch.new ≡ traced way digests.task finished.now batch.old) }
+    ensures grown { Grown batch.old batch.new }
+    ensures noted { OnOk result (batch.new ≡ traced way digests.task finished.now batch.old) }
 {
     match way {
         Way::Verifying => batch.verifying.push(needs_trace(alloc, finished, digests)?),
@@ -161,7 +169,8 @@ fn note_entry(
     requires made { digests.result ≡ digest_made finished.now }
     requires task { digests.task ≡ task_made (book_view book.now) finished.now }
     requires some { brings_nothing (how_of method) finished.now ≡ false }
-    ensures { OnOk result (batch.new ≡ with_entry (how_of method) (book_view book.now) kept.now finished.now batch.old) }
+    ensures grown { Grown batch.old batch.new }
+    ensures noted { OnOk result (batch.new ≡ with_entry (how_of method) (book_view book.now) kept.now finished.now batch.old) }
 {
     if stays_as(method, kept, finished, digests) {
         return Ok(());

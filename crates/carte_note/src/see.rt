@@ -1,4 +1,5 @@
 ghost use Rattle.std.specs.Prelude.{◌≡◌, OnOk, is_some};
+ghost use Rattle.carte_value.specs.Lists.{Begins};
 ghost use Rattle.carte_book.specs.Book.{book_view};
 ghost use Rattle.carte_table.specs.Lookups.{first_link};
 ghost use Rattle.carte_sound.specs.Begun.{is_digest};
@@ -18,7 +19,8 @@ pub(crate) fn see_all(
     links: &Links,
     seen: &mut Seen,
 ) -> Result<(), NoMemory>
-    ensures { OnOk result (seen.new ≡ all_seen (book_view book.now) kept.now links.now seen.old) }
+    ensures front { Begins seen.old seen.new }
+    ensures seen { OnOk result (seen.new ≡ all_seen (book_view book.now) kept.now links.now seen.old) }
 {
     for link in links.as_slice() {
         see(alloc, kept, book, link, seen)?;
@@ -33,7 +35,8 @@ fn see(
     link: &Link,
     seen: &mut Seen,
 ) -> Result<(), NoMemory>
-    ensures { OnOk result (seen.new ≡ with_seen (book_view book.now) kept.now link.now seen.old) }
+    ensures front { Begins seen.old seen.new }
+    ensures seen { OnOk result (seen.new ≡ with_seen (book_view book.now) kept.now link.now seen.old) }
 {
     if is_input(book, &link.name) && !(seen.find(&link.name).is_some() || is_kept(kept, link)) {
         return seen.push(link.same(alloc)?);

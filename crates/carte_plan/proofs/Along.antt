@@ -10,7 +10,7 @@ use Rattle.carte_record.specs.declared.way.Way.{Way}
 use Rattle.carte_record.specs.declared.way.Way.TheVariants.{Verifying, Constructive, Deep}
 use Rattle.carte_record.specs.Folds.{batch_traces}
 use Rattle.carte_table.specs.Lookups.{first_link}
-use Rattle.carte_table.specs.Steps.{Begins}
+use Rattle.carte_value.specs.Lists.{Begins}
 use Rattle.carte_sound.specs.Begun.{is_digest}
 use Rattle.carte_sound.specs.Cut.{IsCut}
 use Rattle.carte_sound.specs.Held.{How}

@@ -17,8 +17,10 @@ fn status(at: usize) -> Status {
     }
 }
 
-fn numbered(alloc: Global, status: &Status) -> Result<String, Fail> {
-    let line = error_line(alloc, status)?;
+fn numbered(alloc: Global, at: usize) -> Result<String, Fail> {
+    // In a box, so that one call drops it.
+    let status = Box::new(alloc, status(at))?;
+    let line = error_line(alloc, &status)?;
     Ok(format!(in alloc; "{} {}", status.code(), line)?)
 }
 
@@ -34,7 +36,7 @@ const LINES: [&str; 6] = [
 #[test]
 fn statuses_have_numbers_and_lines(rt: HostRuntime) -> Result<(), Fail> {
     for (at, want) in LINES.iter().enumerate() {
-        let line = numbered(rt.alloc(), &status(at))?;
+        let line = numbered(rt.alloc(), at)?;
         assert_eq!(rt; line.as_str(), *want);
     }
     assert_eq!(rt; memory_line(), "carte: out of memory\n");

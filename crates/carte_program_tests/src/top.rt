@@ -18,14 +18,25 @@ pub(crate) const SUMS: &str =
 
 /// Two builds of one book over one state, and a word where the second made a writing call.
 fn twice<T: Threads + Sync>(rt: &T, alloc: Global, words: &str) -> Result<String, Fail> {
-    let mut state = MemDisk::of(alloc, &[], &[])?;
+    let mut state = Box::new(alloc, MemDisk::of(alloc, &[], &[])?)?;
     let mut text = shown(rt, alloc, words, SUMS, &mut state)?;
+    again(rt, alloc, words, &mut state, &mut text)?;
+    Ok(text)
+}
+
+fn again<T: Threads + Sync>(
+    rt: &T,
+    alloc: Global,
+    words: &str,
+    state: &mut MemDisk,
+    text: &mut String,
+) -> Result<(), Fail> {
     let passed = state.passed();
-    text.push_str(shown(rt, alloc, words, SUMS, &mut state)?.as_str())?;
+    text.push_str(shown(rt, alloc, words, SUMS, state)?.as_str())?;
     if state.passed() != passed {
         text.push_str("written")?;
     }
-    Ok(text)
+    Ok(())
 }
 
 const ALL: &str =
@@ -36,7 +47,7 @@ const FIRST: &str =
 
 // A rule beneath a held one is passed over where held keys aren't looked into: by marks and by deep traces, where rules
 // wait.
-const BUILDS: [(&str, &str); 9] = [
+const BUILDS: &[(&str, &str)] = &[
     (
         "build b s total --scheduler topological --rebuilder dirty",
         ALL,
@@ -64,13 +75,13 @@ const BUILDS: [(&str, &str); 9] = [
 fn a_second_build_runs_nothing(rt: HostRuntime) -> Result<(), Fail> {
     for (words, want) in BUILDS {
         let text = twice(&rt, rt.alloc(), words)?;
-        assert_eq!(rt; text.as_str(), want, "{words}");
+        assert_eq!(rt; text.as_str(), *want, "{words}");
     }
     Ok(())
 }
 
 // Words, a book, a state and what is shown, by hand. Ten bytes are no new file, and must begin with a header.
-const RUNS: [(&str, &str, &[u8], &str); 15] = [
+const RUNS: &[(&str, &str, &[u8], &str)] = &[
     (
         "build b",
         SUMS,
@@ -152,7 +163,7 @@ const RUNS: [(&str, &str, &[u8], &str); 15] = [
 fn runs_show_what_they_did(rt: HostRuntime) -> Result<(), Fail> {
     for (words, book, state, want) in RUNS {
         let text = shown_over(&rt, rt.alloc(), words, book, state)?;
-        assert_eq!(rt; text.as_str(), want, "{words} of {book}");
+        assert_eq!(rt; text.as_str(), *want, "{words} of {book}");
     }
     Ok(())
 }
@@ -162,7 +173,7 @@ const SCRIPT: &str =
 
 /// A session, and behind it an explanation by the next run.
 fn session<T: Threads + Sync>(rt: &T, alloc: Global) -> Result<String, Fail> {
-    let mut state = MemDisk::of(alloc, &[], &[])?;
+    let mut state = Box::new(alloc, MemDisk::of(alloc, &[], &[])?)?;
     let mut text = said(rt, alloc, "session b s --list", SUMS, SCRIPT, &mut state)?;
     text.push_str(shown(rt, alloc, "explain b s total sum", SUMS, &mut state)?.as_str())?;
     Ok(text)

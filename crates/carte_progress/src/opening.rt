@@ -1,8 +1,8 @@
-ghost use Rattle.std.specs.Prelude.{◌≡◌, ◌∷◌, ℕ, List, None, true, is_none, IfOk, OnOk};
+ghost use Rattle.std.specs.Prelude.{◌≡◌, ◌∷◌, ℕ, List, None, true, is_none, IfOk, OnOk, OnErr};
 ghost use Rattle.carte_book.specs.Book.{book_view};
 ghost use Rattle.carte_record.specs.Kept.{kept_view};
 ghost use Rattle.carte_bench.specs.Held.{spots_of, book_of};
-ghost use Rattle.carte_bench.specs.Spots.{name_of};
+ghost use Rattle.carte_bench.specs.Spots.{IsSame, name_of};
 ghost use Rattle.carte_progress.specs.Opening.{IsFreshRule, IsStopIn, Opens};
 
 use carte_bench::{Bench, Place};
@@ -15,7 +15,7 @@ use std::alloc::Global;
 use std::collections::VecDeque;
 
 /// Demands a rule that the bench doesn't know and puts it before the path. A path that waits for any other name is dropped:
-/// that one has nothing, or no turn helps it.
+/// that one has nothing, or no turn helps it. Where there is no memory, nothing has changed.
 pub fn open<R: Rebuilder>(
     alloc: Global,
     rebuilder: &R,
@@ -26,6 +26,8 @@ pub fn open<R: Rebuilder>(
     name: Name,
 ) -> Result<(), NoMemory>
     ensures book { book_of bench.new ≡ book_of bench.old }
+    ensures kept { OnErr result (IsSame (spots_of bench.old) (spots_of bench.new)) }
+    ensures path { OnErr result (path.new.items ≡ path.old.items) }
     ensures opens { OnOk result (Opens R.Job.name R.Job.started (λ k j. R.begun rebuilder.now (kept_view kept.now) (book_view book.now) (λ q. None) k j) (book_view book.now) (spots_of bench.old) (spots_of bench.new) path.old.items path.new.items name) }
 {
     let fresh = is_fresh(alloc, book, bench, &name)?;
@@ -44,6 +46,8 @@ pub fn open_stop<R: Rebuilder>(
 ) -> Result<(), NoMemory>
     requires { IsStopIn (book_view book.now) stuck }
     ensures book { book_of bench.new ≡ book_of bench.old }
+    ensures kept { OnErr result (IsSame (spots_of bench.old) (spots_of bench.new)) }
+    ensures path { OnErr result (path.new.items ≡ path.old.items) }
     ensures opens { OnOk result (Opens R.Job.name R.Job.started (λ k j. R.begun rebuilder.now (kept_view kept.now) (book_view book.now) (λ q. None) k j) (book_view book.now) (spots_of bench.old) (spots_of bench.new) path.old.items path.new.items (name_of stuck)) }
 {
     match stuck {
@@ -68,6 +72,8 @@ fn open_if<R: Rebuilder>(
 ) -> Result<(), NoMemory>
     requires { IsFreshRule (book_view book.now) (spots_of bench.old) name fresh }
     ensures book { book_of bench.new ≡ book_of bench.old }
+    ensures kept { OnErr result (IsSame (spots_of bench.old) (spots_of bench.new)) }
+    ensures path { OnErr result (path.new.items ≡ path.old.items) }
     ensures opens { OnOk result (Opens R.Job.name R.Job.started (λ k j. R.begun rebuilder.now (kept_view kept.now) (book_view book.now) (λ q. None) k j) (book_view book.now) (spots_of bench.old) (spots_of bench.new) path.old.items path.new.items name) }
 {
     if !fresh {
@@ -75,8 +81,11 @@ fn open_if<R: Rebuilder>(
         return Ok(());
     }
     let job = rebuilder.start(alloc, kept, book, &name)?;
+    // Room first: what was demanded couldn't be taken back.
+    path.reserve(1)?;
     bench.demand(job)?;
-    push(path, name)
+    path.push_front_reserved(name);
+    Ok(())
 }
 
 /// Whether a name is a rule that the bench doesn't know.
@@ -104,9 +113,10 @@ fn is_unknown<J: Job + Drop>(
     Ok(matches!(bench.place(alloc, name)?, Place::Unknown))
 }
 
-/// Puts a name before a path.
+/// Puts a name before a path. Where there is no memory, nothing has changed.
 pub fn push(path: &mut VecDeque<Name>, name: Name) -> Result<(), NoMemory>
-    ensures { OnOk result (path.new.items ≡ name ∷ path.old.items) }
+    ensures put { OnOk result (path.new.items ≡ name ∷ path.old.items) }
+    ensures refused { OnErr result (path.new.items ≡ path.old.items) }
 {
     match path.push_front(name) {
         Ok(()) => Ok(()),

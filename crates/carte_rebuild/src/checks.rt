@@ -1,4 +1,4 @@
-ghost use Rattle.std.specs.Prelude.{◌≡◌, ◌++◌, ◌∷◌, [], OnOk};
+ghost use Rattle.std.specs.Prelude.{◌≡◌, ◌++◌, ◌∷◌, [], OnOk, OnErr};
 ghost use Rattle.carte_effect.specs.Effects.{SameStops};
 ghost use Rattle.carte_rebuild.specs.Open.{open_checks};
 ghost use Rattle.carte_rebuild.specs.Tried.{Tried};
@@ -43,9 +43,10 @@ impl Checks {
         }
     }
 
-    /// One check more, behind the others. Where there is no memory one may be lost.
+    /// One check more, behind the others. Where there is no memory, it is dropped and nothing has changed.
     pub fn push(&mut self, alloc: Global, check: Check) -> Result<(), NoMemory>
-        ensures { OnOk result (self.new ≡ self.old ++ check ∷ []) }
+        ensures put { OnOk result (self.new ≡ self.old ++ check ∷ []) }
+        ensures refused { OnErr result (self.new ≡ self.old) }
     {
         add_last(alloc, &mut self.untried, check)
     }
@@ -65,11 +66,15 @@ impl Checks {
 }
 
 fn add_last(alloc: Global, untried: &mut Open, check: Check) -> Result<(), NoMemory>
-    ensures { OnOk result (open_checks untried.new ≡ open_checks untried.old ++ check ∷ []) }
+    ensures put { OnOk result (open_checks untried.new ≡ open_checks untried.old ++ check ∷ []) }
+    ensures refused { OnErr result (open_checks untried.new ≡ open_checks untried.old) }
 {
     match untried {
         Open::Empty => *untried = Open::Last(Vec::new(alloc), check),
-        Open::Last(before, last) => before.push(mem::replace(last, check))?,
+        Open::Last(before, last) => {
+            before.reserve(1)?;
+            before.push_reserved(mem::replace(last, check));
+        }
     }
     Ok(())
 }

@@ -4,6 +4,7 @@ ghost use Rattle.carte_value.specs.Once.{Answers};
 ghost use Rattle.carte_effect.specs.Jobs.{Step};
 ghost use Rattle.carte_book.specs.Book.{Book as SomeBook, book_view, clean};
 ghost use Rattle.carte_book.specs.Needs.{IsRule, needs};
+ghost use Rattle.carte_record.specs.Growth.{GrowsBatch};
 ghost use Rattle.carte_record.specs.Kept.{SomeKept, kept_view};
 ghost use Rattle.carte_sound.specs.Base.{IsBase};
 ghost use Rattle.carte_sound.specs.Held.{How, looks_into_held, gathers};
@@ -56,10 +57,11 @@ pub trait Rebuilder {
     ) -> Result<(), NoMemory>
         ensures notes { OnOk result (Notes (how self.now) (kept_view kept.now) (book_view book.now) finished.now batch.old batch.new) }
         ensures unmarked { OnOk result (AreUnmarked batch.old.entries → AreUnmarked batch.new.entries) }
-        ensures start { OnOk result (batch.new.start ≡ batch.old.start) }
-        ensures gone { OnOk result (batch.new.gone ≡ batch.old.gone) }
-        ensures stale { OnOk result (batch.new.stale ≡ batch.old.stale) }
-        ensures chain { OnOk result (batch.new.chain ≡ batch.old.chain) }
+        ensures front { GrowsBatch batch.old batch.new }
+        ensures start { batch.new.start ≡ batch.old.start }
+        ensures gone { batch.new.gone ≡ batch.old.gone }
+        ensures stale { batch.new.stale ≡ batch.old.stale }
+        ensures chain { batch.new.chain ≡ batch.old.chain }
     {
         note_finished(alloc, self.method(), kept, book, finished, batch)
     }

@@ -1,5 +1,5 @@
 -- Batches that were read from bytes.
-use Rattle.std.proofs.Common.{◌≡◌, ℕ, List, [], ◌∷◌, ◌++◌, sym, ◌∙◌, ap, append-nil, subst, Option, Some, None, Ok}
+use Rattle.std.proofs.Common.{◌≡◌, ℕ, List, [], ◌∷◌, ◌++◌, sym, ◌∙◌, ap, append-nil, append_assoc, subst, Option, Some, None, Ok}
 use Rattle.carte_codec.specs.Each.{EachFits}
 use Rattle.carte_record.specs.declared.batch.Batch.{Batch}
 use Rattle.carte_record.specs.Bodies.{spelled_batch, FitsBatch, IsDecoded, IsWhole}
@@ -17,3 +17,7 @@ decoded b rest body None fits is more = λ c other. more (batch_one.one b c rest
 pub each_fits : {A : Type 0} (xs : List A) → EachFits (λ x. Unit {0}) xs
 each_fits [] = tt
 each_fits (x ∷ xs) = (tt, each_fits xs)
+
+-- what is put behind some bytes, and what is put behind it
+pub behind : (o a r : List ℕ) {p q : List ℕ} → p ≡ o ++ a → q ≡ p ++ r → q ≡ o ++ (a ++ r)
+behind o a r first rest = rest ∙ ap (λ l. l ++ r) first ∙ append_assoc o a r

@@ -4,6 +4,7 @@ use Rattle.std.proofs.Math.Seq.{take-append_seam}
 use Rattle.std.specs.Prelude.{find, option_map, unwrap_or}
 use Rattle.std.specs.Option.{option_or}
 use Rattle.carte_value.specs.declared.digest.Digest.{Digest}
+use Rattle.carte_value.specs.declared.link.Link.{Link}
 use Rattle.carte_name.specs.Names.{name_eq}
 use Rattle.carte_record.specs.declared.entry.Entry.{Entry}
 use Rattle.carte_record.specs.declared.way.Way.{Way}
@@ -14,7 +15,8 @@ use Rattle.carte_record.specs.declared.lengths.Lengths.{Lengths}
 use Rattle.carte_table.specs.Lookups.{first_link, link_in, first_value, digest_in, find_last, is_link_of}
 use Rattle.carte_record.specs.Lookups.{first_entry, entry_in, is_entry_of}
 use Rattle.carte_record.specs.Ways.{TraceBy, key_by, eq_by}
-use Rattle.carte_table.specs.Steps.{Begins, IsReady}
+use Rattle.carte_value.specs.Lists.{Begins}
+use Rattle.carte_table.specs.Steps.{IsReady}
 use Rattle.carte_record.specs.Kept.{SomeKept, kept_view, kept_traces, newest, newest_in, traces_in, staled}
 use Rattle.carte_record.specs.Folds.{is_among, batch_traces}
 use Rattle.carte_record.specs.Growth.{Grows, AreLengthsOf, HasTraces, IsReadyIn, TakesEntries, Settles, put_in}
@@ -39,18 +41,18 @@ no_traces K v c d Verifying k = ap (λ ts. traces_in Verifying k ts []) v
 no_traces K v c d Constructive k = ap (λ ts. traces_in Constructive k ts []) c
 no_traces K v c d Deep k = ap (λ ts. traces_in Deep k ts []) d
 
-entries_taken : (ks : List (List ℕ)) (es old mid new : List Entry) → IsReady is_entry_of es old mid → TakesEntries ks es mid new → (k : List ℕ) → first_entry new k ≡ option_map (staled (is_among ks k)) (option_or (entry_in es k) (first_entry old k))
-entries_taken ks es old mid new ready (taken, takes, is) k = ap (λ xs. first_entry xs k) is ∙ marked_found taken ks k ∙ ap (option_map (staled (is_among ks k))) (brought (λ e. e.key) es old mid taken ready takes k)
+entries_taken : (ks : List (List ℕ)) (es old left mid new : List Entry) → IsReady is_entry_of es old left mid → TakesEntries ks left mid new → (k : List ℕ) → first_entry new k ≡ option_map (staled (is_among ks k)) (option_or (entry_in es k) (first_entry old k))
+entries_taken ks es old left mid new ready (taken, takes, is) k = ap (λ xs. first_entry xs k) is ∙ marked_found taken ks k ∙ ap (option_map (staled (is_among ks k))) (brought (λ e. e.key) es old left mid taken ready takes k)
 
-pub carried_by : (B : Batch) (old mid new : Kept) → Grows old mid → HasTraces B.verifying B.constructive B.deep old mid → IsReadyIn B.values B.seen B.entries old mid → Settles B.seen B.entries B.stale B.chain mid new
+pub carried_by : (B : Batch) (ls : List Link) (es : List Entry) (old mid new : Kept) → Grows old mid → HasTraces B.verifying B.constructive B.deep old mid → IsReadyIn B.values B.seen B.entries ls es old mid → Settles ls es B.stale B.chain mid new
     → kept_view new ≡ put_in B (kept_view old)
-carried_by B old mid new grows more room settles = kept_same (kept_view new) (put_in B (kept_view old)) seen entries traces (settles.chain ∙ ap (unwrap_or B.chain) grows.chain) stored
+carried_by B ls es old mid new grows more room settles = kept_same (kept_view new) (put_in B (kept_view old)) seen entries traces (settles.chain ∙ ap (unwrap_or B.chain) grows.chain) stored
   where
     seen : (k : List ℕ) → first_link new.seen k ≡ option_or (link_in B.seen k) (first_link old.seen k)
-    seen k = ap digest_in (brought (λ l. l.name) B.seen old.seen mid.seen new.seen room.seen settles.seen k) ∙ map_or (λ l. l.digest) (find_last (is_link_of k) B.seen) (find (is_link_of k) old.seen)
+    seen k = ap digest_in (brought (λ l. l.name) B.seen old.seen ls mid.seen new.seen room.seen settles.seen k) ∙ map_or (λ l. l.digest) (find_last (is_link_of k) B.seen) (find (is_link_of k) old.seen)
 
     entries : (k : List ℕ) → first_entry new.entries k ≡ option_map (staled (is_among B.stale k)) (option_or (entry_in B.entries k) (first_entry old.entries k))
-    entries = entries_taken B.stale B.entries old.entries mid.entries new.entries room.entries settles.entries
+    entries = entries_taken B.stale B.entries old.entries es mid.entries new.entries room.entries settles.entries
 
     traces : (w : Way) (k : List ℕ) → traces_in w k (kept_traces w new) [] ≡ traces_in w k (batch_traces w B) (traces_in w k (kept_traces w old) [])
     traces Verifying k = ap (λ ts. traces_in Verifying k ts []) (settles.verifying ∙ more.verifying) ∙ traces_on Verifying k old.verifying B.verifying []

@@ -5,8 +5,8 @@ ghost use Rattle.carte_record.specs.Folds.{apply, started, without};
 ghost use Rattle.carte_record.specs.Growth.{Grows, HasTraces, IsReadyIn, Settles, AreLengthsOf, put_in};
 
 use crate::lengths::Lengths;
-use crate::{Batch, DeepTraces, Entries, Kept, Seen, Start, Store, Traces};
-use carte_value::{Names, NoMemory};
+use crate::{Batch, DeepTraces, Entries, Entry, Kept, Seen, Start, Store, Traces};
+use carte_value::{Link, Names, NoMemory};
 
 impl Kept {
     /// Takes in what a batch brings, in a copy.
@@ -60,9 +60,9 @@ impl Kept {
             ..
         } = batch;
         let lengths = self.lengths();
-        match self.grow(values, verifying, constructive, deep, &seen, &entries) {
-            Ok(()) => {
-                self.settle(seen, entries, &stale, chain);
+        match self.grow(values, verifying, constructive, deep, seen, entries) {
+            Ok((links, entries)) => {
+                self.settle(links, entries, &stale, chain);
                 Ok(())
             }
             Err(refused) => {
@@ -85,24 +85,26 @@ impl Kept {
         }
     }
 
-    // All that can fail: the lists get what they lack, behind what they have, or stay empty for those of the batch.
+    // All that can fail: the lists get what they lack, behind what they have. The links and entries that are left replace
+    // others.
     fn grow(
         &mut self,
         values: Store,
         verifying: Traces,
         constructive: Traces,
         deep: DeepTraces,
-        seen: &Seen,
-        entries: &Entries,
-    ) -> Result<(), NoMemory>
+        seen: Seen,
+        entries: Entries,
+    ) -> Result<(Vec<Link>, Vec<Entry>), NoMemory>
         ensures front { Grows self.old self.new }
         ensures traces { OnOk result (HasTraces verifying constructive deep self.old self.new) }
-        ensures rest { OnOk result (IsReadyIn values seen.now entries.now self.old self.new) }
+        ensures rest { IfOk result (λ left. IsReadyIn values seen entries left.0.items left.1.items self.old self.new) }
     {
         self.grow_traces(verifying, constructive, deep)?;
         self.values.take_in(values)?;
-        self.seen.make_ready(seen)?;
-        self.entries.make_ready(entries)
+        let links = self.seen.make_ready(seen)?;
+        let entries = self.entries.make_ready(entries)?;
+        Ok((links, entries))
     }
 
     fn grow_traces(
@@ -132,10 +134,10 @@ impl Kept {
     }
 
     // None of this can fail.
-    fn settle(&mut self, seen: Seen, entries: Entries, stale: &Names, chain: Option<Names>)
-        ensures { Settles seen entries stale.now chain self.old self.new }
+    fn settle(&mut self, links: Vec<Link>, entries: Vec<Entry>, stale: &Names, chain: Option<Names>)
+        ensures { Settles links.items entries.items stale.now chain self.old self.new }
     {
-        self.seen.take_in(seen);
+        self.seen.take_in(links);
         self.entries.take_in(entries, stale);
         if let Some(chain) = chain {
             self.chain = chain;

@@ -1,4 +1,4 @@
-ghost use Rattle.std.specs.Prelude.{◌≡◌, ◌<◌, ◌^◌, ◌∷◌, ◌++◌, [], length, slice_get, option_copied, ◌==◌, filter, is_ok, take, map, IfOk, IfSome, OnOk, if◌then◌else◌};
+ghost use Rattle.std.specs.Prelude.{◌≡◌, ◌<◌, ◌^◌, ◌∷◌, ◌++◌, [], length, slice_get, option_copied, ◌==◌, filter, is_ok, take, map, IfOk, IfSome, if◌then◌else◌};
 ghost use Rattle.std.specs.List.{IsDistinct};
 ghost use Rattle.carte_codec.specs.Lengths.{IsLengthOf};
 ghost use Rattle.carte_record.specs.Bodies.{spelled_entry};
@@ -6,7 +6,8 @@ ghost use Rattle.carte_name.specs.Names.{name_eq};
 ghost use Rattle.carte_record.specs.Lookups.{first_entry, is_entry_of};
 ghost use Rattle.carte_record.specs.Marked.{all_marked};
 ghost use Rattle.carte_table.specs.Changes.{is_of_none};
-ghost use Rattle.carte_table.specs.Steps.{Begins, IsReady};
+ghost use Rattle.carte_value.specs.Lists.{Begins};
+ghost use Rattle.carte_table.specs.Steps.{IsReady};
 ghost use Rattle.carte_record.specs.Growth.{TakesEntries};
 
 use crate::Entry;
@@ -111,19 +112,21 @@ impl Entries {
         self.list.mark_each(keys, stale);
     }
 
-    /// Makes ready to take a later list in, which then can't fail. Where there is no room, some entries more may stand there.
-    pub(crate) fn make_ready(&mut self, later: &Entries) -> Result<(), NoMemory>
-        ensures ok { OnOk result (IsReady is_entry_of later.now self.old self.new) }
+    /// Puts the entries of a later list behind these whose keys have none here, and gives back those that are left, which
+    /// it then takes in without fail; where it has nothing and no key comes twice, it becomes that list. Where there is no
+    /// room, some entries may stand there.
+    pub(crate) fn make_ready(&mut self, later: Entries) -> Result<Vec<Entry>, NoMemory>
+        ensures ok { IfOk result (λ left. IsReady is_entry_of later self.old left.items self.new) }
         ensures front { Begins self.old self.new }
     {
-        self.list.make_ready(&later.list)
+        self.list.make_ready(later.list)
     }
 
-    /// Takes in a later list that it is ready for, and marks entries stale: where it has nothing, it is then that list.
-    pub(crate) fn take_in(&mut self, later: Entries, stale: &Names)
-        ensures { TakesEntries stale.now later self.old self.new }
+    /// Takes in what is left of a later list, each entry in the place of its key's first one, and marks entries stale.
+    pub(crate) fn take_in(&mut self, left: Vec<Entry>, stale: &Names)
+        ensures { TakesEntries stale.now left.items self.old self.new }
     {
-        self.list.take_in(later.list);
+        self.list.take_in(left);
         self.mark_each(stale, true);
     }
 

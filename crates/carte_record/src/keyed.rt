@@ -6,25 +6,13 @@ ghost use Rattle.carte_record.specs.Alike.{trace_eq_is, trace_eq_self, deep_eq_i
 
 use crate::{DeepTrace, Entry, Trace};
 use carte_table::{Compared, Keyed, Marked};
-use carte_value::{Name, Names, NoMemory};
-use std::alloc::Global;
+use carte_value::Name;
 
 impl Keyed for Entry {
     ghost key_of = { λ e. e.key };
 
     fn key(&self) -> &Name {
         &self.key
-    }
-
-    fn place_holder(&self, alloc: Global) -> Result<Entry, NoMemory> {
-        Ok(Entry {
-            key: self.key.copy(alloc)?,
-            task: self.task,
-            result: self.result,
-            needs: Names::new(alloc),
-            stale: false,
-            shallow: false,
-        })
     }
 }
 

@@ -13,7 +13,7 @@ use Rattle.carte_record_one.specs.declared.batch.BatchOne.{BatchOne}
 use Rattle.carte_record_one.specs.declared.kept.KeptOne.{KeptOne}
 use Rattle.carte_table.specs.Changes.{all_changed}
 use Rattle.carte_table.specs.Lookups.{digest_in, find_last, first_link, first_value, is_link_of, link_in}
-use Rattle.carte_table.specs.Steps.{IsReady, TakesIn}
+use Rattle.carte_table.specs.Steps.{IsReady, Replaces}
 use Rattle.carte_record.specs.Folds.{is_among}
 use Rattle.carte_record_one.specs.Lookups.{entry_one_in, first_entry_one, is_entry_one_of}
 use Rattle.carte_record_one.specs.Kept.{SomeKeptOne, kept_one_traces, kept_one_view, newest_one, staled_one, traces_one_in}
@@ -47,13 +47,13 @@ marked_found es ks k = all_found (λ e. e.key) (marked_as true) (λ e. refl) (λ
     on true (Some e) = refl
     on false (Some e) = refl
 
-pub links_taken : (ls old mid new : List Link) → IsReady is_link_of ls old mid → TakesIn is_link_of ls mid new → (k : List ℕ) → first_link new k ≡ option_or (link_in ls k) (first_link old k)
-links_taken ls old mid new ready takes k = ap digest_in (brought (λ l. l.name) ls old mid new ready takes k) ∙ map_or (λ l. l.digest) (find_last (is_link_of k) ls) (find (is_link_of k) old)
+pub links_taken : (ls old left mid new : List Link) → IsReady is_link_of ls old left mid → Replaces is_link_of left mid new → (k : List ℕ) → first_link new k ≡ option_or (link_in ls k) (first_link old k)
+links_taken ls old left mid new ready takes k = ap digest_in (brought (λ l. l.name) ls old left mid new ready takes k) ∙ map_or (λ l. l.digest) (find_last (is_link_of k) ls) (find (is_link_of k) old)
 
-pub entries_taken : (ks : List (List ℕ)) (es old marked mid new : List EntryOne) → marked ≡ all_changed is_entry_one_of (marked_as true) old ks → IsReady is_entry_one_of es marked mid → TakesIn is_entry_one_of es mid new
+pub entries_taken : (ks : List (List ℕ)) (es old marked left mid new : List EntryOne) → marked ≡ all_changed is_entry_one_of (marked_as true) old ks → IsReady is_entry_one_of es marked left mid → Replaces is_entry_one_of left mid new
     → (k : List ℕ) → first_entry_one new k ≡ option_or (entry_one_in es k) (option_map (staled_one (is_among ks k)) (first_entry_one old k))
-entries_taken ks es old marked mid new is ready takes k =
-    brought (λ e. e.key) es marked mid new ready takes k
+entries_taken ks es old marked left mid new is ready takes k =
+    brought (λ e. e.key) es marked left mid new ready takes k
     ∙ ap (option_or (entry_one_in es k)) (ap (λ xs. first_entry_one xs k) is ∙ marked_found old ks k)
 
 pub carried_by : (B : BatchOne) (old mid new last : KeptOne) → TakesKeys B.values B.seen B.stale B.entries old mid → TakesTraces B.verifying B.constructive B.deep mid new → last ≡ record new { chain = unwrap_or B.chain new.chain }

@@ -53,16 +53,6 @@ impl Keyed for EntryOne {
     fn key(&self) -> &Name {
         &self.key
     }
-
-    fn place_holder(&self, alloc: Global) -> Result<EntryOne, NoMemory> {
-        Ok(EntryOne {
-            key: self.key.copy(alloc)?,
-            result: self.result,
-            needs: Names::new(alloc),
-            stale: false,
-            shallow: false,
-        })
-    }
 }
 
 impl Marked for EntryOne {

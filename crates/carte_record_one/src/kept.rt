@@ -1,4 +1,4 @@
-ghost use Rattle.std.specs.Prelude.{◌≡◌, OnOk, unwrap_or};
+ghost use Rattle.std.specs.Prelude.{◌≡◌, IfOk, OnOk, unwrap_or};
 ghost use Rattle.carte_record_one.specs.Kept.{kept_one_view, nothing_kept_one};
 ghost use Rattle.carte_record_one.specs.Folds.{apply_one, carried_one};
 ghost use Rattle.carte_record_one.specs.Growth.{TakesKeys, TakesTraces};
@@ -45,17 +45,17 @@ impl KeptOne {
         }
     }
 
-    /// Takes in what a batch brings. Where there is no memory for it, a part of it may be taken in.
-    pub fn absorb(&mut self, batch: BatchOne) -> Result<(), NoMemory>
-        ensures { OnOk result (kept_one_view self.new ≡ apply_one batch (kept_one_view self.old)) }
+    /// With what a batch brings.
+    pub fn with(self, batch: BatchOne) -> Result<KeptOne, NoMemory>
+        ensures { IfOk result (λ new. kept_one_view new ≡ apply_one batch (kept_one_view self)) }
     {
         let rules = match batch.start {
-            StartOne::GoOn => return self.carry(batch),
+            StartOne::GoOn => return carried(self, batch),
             StartOne::Anew(rules) => Some(rules),
             StartOne::Cleared => None,
         };
-        *self = KeptOne::under(self.seen.allocator(), rules, self.seen.hasher());
-        self.carry(batch)
+        let begun = KeptOne::under(self.seen.allocator(), rules, self.seen.hasher());
+        carried(begun, batch)
     }
 
     fn carry(&mut self, batch: BatchOne) -> Result<(), NoMemory>
@@ -88,10 +88,10 @@ impl KeptOne {
         ensures { OnOk result (TakesKeys values seen stale.now entries self.old self.new) }
     {
         self.values.take_in(values)?;
-        self.seen.make_ready(&seen)?;
-        self.seen.take_in(seen);
+        let links = self.seen.make_ready(seen)?;
+        self.seen.take_in(links);
         self.entries.mark_each(stale, true);
-        self.entries.make_ready(&entries)?;
+        let entries = self.entries.make_ready(entries)?;
         self.entries.take_in(entries);
         Ok(())
     }
@@ -116,4 +116,12 @@ impl KeptOne {
             self.chain = chain;
         }
     }
+}
+
+fn carried(kept: KeptOne, batch: BatchOne) -> Result<KeptOne, NoMemory>
+    ensures { IfOk result (λ new. kept_one_view new ≡ carried_one batch (kept_one_view kept)) }
+{
+    let mut kept = kept;
+    kept.carry(batch)?;
+    Ok(kept)
 }

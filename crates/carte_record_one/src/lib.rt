@@ -5,7 +5,7 @@
 //! `StartOne`, `BatchOne`, `KeptOne`), so that nothing of version 1 is ever taken for something of today. What both
 //! versions spell alike (values, names, links, lists) is spelled by the same code.
 //!
-//! A body is read (`BatchOne::decode`) and taken in (`KeptOne::absorb`), and nothing else: no batch of version 1 is made
+//! A body is read (`BatchOne::decode`) and taken in (`KeptOne::with`), and nothing else: no batch of version 1 is made
 //! or written any more. So where memory runs out nothing is undone, as whoever reads a state has nothing then. Entries
 //! stand in the list of entries that today's stand in, with a table, since later ones replace earlier ones; traces are
 //! never looked up by their key, and stand in plain lists. Turned down: one type for both versions with a task that may

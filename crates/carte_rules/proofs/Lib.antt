@@ -8,6 +8,7 @@ pub mod Causes
 pub mod Some
 pub mod Swaps
 pub mod Puts
+pub mod Lanes
 pub mod Lines
 pub mod Document
 pub mod EntryTurns

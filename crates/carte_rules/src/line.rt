@@ -1,6 +1,7 @@
 // Lines of a plain rule file. What isn't plain is none, and says nothing of the text.
-ghost use Rattle.std.specs.Prelude.{◌≡◌, ◌<◌, ◌≤◌, [], Some, length, true, false, IfSome};
-ghost use Rattle.std.specs.List.{list_all, prefix_len};
+ghost use Rattle.std.specs.Prelude.{◌≡◌, ◌==◌, ◌<◌, ◌≤◌, [], Some, length, take, true, false, if◌then◌else◌, IfSome};
+ghost use Rattle.std.specs.Int.{w64, trailing_zeros};
+ghost use Rattle.std.specs.List.{prefix_len};
 ghost use Rattle.toml_parser.specs.Lexical.{split_while, is_bare, is_ws, skip_ws};
 ghost use Rattle.toml_parser.specs.Strings as spec;
 ghost use Rattle.toml.specs.Parse as spec_lines;
@@ -9,6 +10,7 @@ ghost use Rattle.carte_rules.specs.Entries.{data_of};
 
 use crate::entry::{Entry, Held};
 use std::alloc::Global;
+use std::simd::prelude::*;
 use toml_parser::bytes::{is_bare, is_non_eol, is_ws};
 use toml_parser::text::{byte_at, first, skip};
 use toml_parser::{Scalar, dotted_key, starts_string, unquoted};
@@ -51,17 +53,6 @@ fn is_plain(delim: u8, byte: u8) -> bool
     byte != delim && !(byte == b'\\' && delim == b'"') && is_non_eol(byte)
 }
 
-// Without a branch at each byte, so that many are tested at once.
-fn are_plain(delim: u8, bytes: &[u8]) -> bool
-    ensures { result ≡ list_all (spec.is_plain delim false) bytes.now }
-{
-    let mut are = true;
-    for byte in bytes {
-        are &= is_plain(delim, *byte);
-    }
-    are
-}
-
 fn last_plain_len(bytes: &[u8], delim: u8) -> usize
     ensures len { result ≡ prefix_len (spec.is_plain delim false) bytes.now }
     ensures within { result ≤ length bytes.now }
@@ -72,14 +63,49 @@ fn last_plain_len(bytes: &[u8], delim: u8) -> usize
         .count()
 }
 
-#[tactic(auto, using(crate::proofs::Runs::run_further))]
+// What begins an escape between these delimiters, or the delimiter again where nothing does.
+fn escape_of(delim: u8) -> u8
+    ensures { result ≡ (if delim == 34 then 92 else delim) }
+{
+    if delim == b'"' { b'\\' } else { delim }
+}
+
+// How many of the first 16 bytes come before one that ends the run. All are tested at once: a line is mostly one text.
+fn plain_among(bytes: &[u8], delim: u8) -> usize
+    requires { 16 ≤ length bytes.now }
+    ensures len { result ≡ prefix_len (spec.is_plain delim false) (take 16 bytes.now) }
+    ensures within { result ≤ 16 }
+{
+    let escape = escape_of(delim);
+    let lanes = u8x16::from_slice(bytes);
+    let stops = lanes.simd_eq(u8x16::splat(delim)) | lanes.simd_eq(u8x16::splat(escape));
+    let controls = lanes.simd_lt(u8x16::splat(0x20)) & lanes.simd_ne(u8x16::splat(b'\t'));
+    let ends = stops | (controls | lanes.simd_eq(u8x16::splat(0x7F)));
+    first_set(ends.to_bitmask())
+}
+
+// Which of 16 lanes is set first, or 16 where none is.
+fn first_set(mask: u64) -> usize
+    ensures { result ≡ (if mask == 0 then 16 else trailing_zeros w64 mask) }
+{
+    if mask == 0 {
+        16
+    } else {
+        mask.trailing_zeros() as usize
+    }
+}
+
 fn plain_len(bytes: &[u8], delim: u8) -> usize
     ensures len { result ≡ prefix_len (spec.is_plain delim false) bytes.now }
     ensures within { result ≤ length bytes.now }
 {
     let mut start = 0;
-    'runs: while bytes.len() - start >= 16 && are_plain(delim, &bytes[start..start + 16]) {
-        start += 16;
+    'runs: while bytes.len() - start >= 16 {
+        let run = plain_among(&bytes[start..], delim);
+        start += run;
+        if run < 16 {
+            return start;
+        }
     }
     start + last_plain_len(&bytes[start..], delim)
 }

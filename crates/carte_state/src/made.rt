@@ -168,9 +168,8 @@ fn made_at(offset: u64, next: Result<Option<Made>, NoMemory>) -> Result<Made, Lo
 fn old_with(kept: KeptOne, batch: BatchOne) -> Result<Option<Made>, NoMemory>
     ensures { IsNext (Ones (kept_one_view kept)) (AsOne batch) result }
 {
-    let mut kept = kept;
-    match kept.absorb(batch) {
-        Ok(()) => Ok(Some(Made::Old(kept))),
+    match kept.with(batch) {
+        Ok(kept) => Ok(Some(Made::Old(kept))),
         Err(refused) => Err(refused),
     }
 }

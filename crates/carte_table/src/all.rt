@@ -6,7 +6,7 @@ ghost use Rattle.carte_table.specs.Latest.{latest_length, stands_at};
 ghost use Rattle.carte_table.specs.Lookups.{has_key};
 ghost use Rattle.carte_table.specs.Places.{places, ArePlaces, AddsToPlaces, DropsPlace};
 ghost use Rattle.carte_table.specs.Changes.{front, is_of_none};
-ghost use Rattle.carte_table.specs.Steps.{Begins};
+ghost use Rattle.carte_value.specs.Lists.{Begins};
 ghost use Rattle.carte_table.specs.KeyPlaces.{places_in};
 
 use crate::keyed::Compared;

@@ -6,7 +6,8 @@ ghost use Rattle.carte_codec.specs.Lengths.{IsLengthOf};
 ghost use Rattle.carte_table.specs.Lookups.{has_key};
 ghost use Rattle.carte_table.specs.Places.{first_place, IsFirstPlaces};
 ghost use Rattle.carte_table.specs.Changes.{all_changed, change_first, front, is_of_none};
-ghost use Rattle.carte_table.specs.Steps.{Begins, Replaces, HasRoomFor, HasRoom, CanBecome, IsReady, TakesIn};
+ghost use Rattle.carte_value.specs.Lists.{Begins};
+ghost use Rattle.carte_table.specs.Steps.{Replaces, Brings, CanBecome, IsReady};
 
 use crate::NameTable;
 use crate::keyed::{Keyed, Marked};
@@ -161,34 +162,43 @@ impl<T: Keyed + Drop> Firsts<T> {
         })
     }
 
-    /// Makes ready to take a later list in, which then can't fail. Where there is no room, some items more may stand there.
-    pub fn make_ready(&mut self, later: &Firsts<T>) -> Result<(), NoMemory>
-        ensures ok { OnOk result (IsReady (has_key T.key_of) later.now self.old self.new) }
+    /// Puts the items of a later list behind these whose keys have none here, and gives back those that are left, which it
+    /// then takes in without fail; where it has nothing and no key comes twice, it becomes that list. Where there is no
+    /// room, some items may stand there.
+    pub fn make_ready(&mut self, later: Firsts<T>) -> Result<Vec<T>, NoMemory>
+        ensures ok { IfOk result (λ left. IsReady (has_key T.key_of) later self.old left.items self.new) }
         ensures front { Begins self.old self.new }
     {
-        if self.can_become(later) {
-            return Ok(());
-        }
-        self.make_room(later)
-    }
-
-    /// Takes in a later list that it is ready for: where it has nothing, it is then that list.
-    pub fn take_in(&mut self, later: Firsts<T>)
-        ensures { TakesIn (has_key T.key_of) later self.old self.new }
-    {
-        if self.is_empty() {
+        let mut left = Vec::new(self.alloc);
+        if self.can_become(&later) {
             *self = later;
             self.measure();
-            return;
+            return Ok(left);
         }
-        self.replace_all(later);
+        self.widen(later.len());
+        for item in later.items {
+            self.bring(item, &mut left)?;
+        }
+        Ok(left)
     }
 
-    /// Puts each item of a later list in the place of the first one of its key, where there is one.
-    fn replace_all(&mut self, later: Firsts<T>)
-        ensures { Replaces (has_key T.key_of) later self.old self.new }
+    /// Puts an item behind the others where its key has none here, and else behind those that are left.
+    fn bring(&mut self, item: T, left: &mut Vec<T>) -> Result<(), NoMemory>
+        ensures ok { OnOk result (Brings (has_key T.key_of) T.key_of item self.old left.old.items self.new left.new.items) }
+        ensures no_memory { OnErr result (self.new ≡ self.old) }
     {
-        for item in later.items {
+        if self.find(item.key()).is_some() {
+            left.push(item)?;
+            return Ok(());
+        }
+        self.push(item)
+    }
+
+    /// Takes in what is left of a later list: each item is put in the place of the first one of its key, where there is one.
+    pub fn take_in(&mut self, left: Vec<T>)
+        ensures { Replaces (has_key T.key_of) left.items self.old self.new }
+    {
+        for item in left {
             self.replace(item);
         }
     }
@@ -201,28 +211,6 @@ impl<T: Keyed + Drop> Firsts<T> {
         let known = length_with(self.items.as_slice(), self.known, at, &item);
         set(&mut self.items, at, item);
         self.known = known;
-    }
-
-    /// Puts an item behind the others for each key of a later list that has none. Where there is no room, some may stand there.
-    fn make_room(&mut self, later: &Firsts<T>) -> Result<(), NoMemory>
-        ensures ok { OnOk result (HasRoom (has_key T.key_of) later.now self.old self.new) }
-        ensures front { Begins self.old self.new }
-    {
-        self.widen(later.len());
-        for item in later.items.iter() {
-            self.make_room_for(item)?;
-        }
-        Ok(())
-    }
-
-    fn make_room_for(&mut self, item: &T) -> Result<(), NoMemory>
-        ensures ok { OnOk result (HasRoomFor (has_key T.key_of) T.key_of self.old self.new (T.key_of item.now)) }
-        ensures no_memory { OnErr result (self.new ≡ self.old) }
-    {
-        if self.find(item.key()).is_some() {
-            return Ok(());
-        }
-        self.push(item.place_holder(self.alloc)?)
     }
 
     /// Drops the items behind the first `len`.

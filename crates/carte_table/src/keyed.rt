@@ -1,8 +1,7 @@
-ghost use Rattle.std.specs.Prelude.{◌≡◌, ℕ, Bool, List, IfOk, true};
+ghost use Rattle.std.specs.Prelude.{◌≡◌, ℕ, Bool, List, true};
 
 use carte_codec::Measured;
-use carte_value::{Name, NoMemory, Same};
-use std::alloc::Global;
+use carte_value::{Name, Same};
 
 /// An item that is looked up by a name, its key.
 pub trait Keyed: Measured + Same {
@@ -10,13 +9,6 @@ pub trait Keyed: Measured + Same {
 
     fn key(&self) -> &Name
         ensures { result.now ≡ key_of self.now };
-
-    /// An item with the same key that holds a place until this one is put there. It may have less in it than this one.
-    fn place_holder(&self, alloc: Global) -> Result<Self, NoMemory>
-        ensures { IfOk result (λ item. key_of item ≡ key_of self.now) }
-    {
-        self.same(alloc)
-    }
 }
 
 /// An item with a mark, which is neither its key nor spelled.

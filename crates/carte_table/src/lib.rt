@@ -9,13 +9,13 @@
 //!
 //! `Seen` has the names with the digests that they were seen with, `Store` the values by their digests, `NameTable`
 //! names alone; a `Plain` list is one as its bytes have it, before it gets a table. `Seen` and `Store` each take in a
-//! later list of their kind by two steps. First it grows behind what it has, which can fail and is undone by cutting
-//! it; then items are replaced in place, which can't. A list with nothing in it becomes the later one, unless a key
-//! comes twice in that. Turned down: to ask for room first, since the room of a list can't be named where it is seen as
-//! a list.
+//! later list of their kind. `Seen` does by two steps: first the items whose keys it lacks are put behind what it has,
+//! which can fail and is undone by cutting it; then what is left replaces items in place, which can't. A list with nothing
+//! in it becomes the later one, unless a key comes twice in that. Turned down: to ask for room first, since the room of a
+//! list can't be named where it is seen as a list; and place holders for what is lacking, each of which is replaced at once.
 //!
 //! Keys are copied into the tables, and digests go in as their bytes, which a hasher takes at once. Lists have about the
-//! room that they need: a long one grows by an eighth of itself. The tables' hasher begins with a seed, which comes from
+//! room that they need: a long one grows by a quarter of itself. The tables' hasher begins with a seed, which comes from
 //! the caller.
 #![tactic(auto)]
 

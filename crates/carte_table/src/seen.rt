@@ -1,11 +1,12 @@
-ghost use Rattle.std.specs.Prelude.{◌≡◌, ◌<◌, ◌^◌, ◌∷◌, ◌++◌, [], length, slice_get, option_copied, ◌==◌, filter, is_ok, map, take, IfOk, IfSome, OnOk, if◌then◌else◌};
+ghost use Rattle.std.specs.Prelude.{◌≡◌, ◌<◌, ◌^◌, ◌∷◌, ◌++◌, [], length, slice_get, option_copied, ◌==◌, filter, is_ok, map, take, IfOk, IfSome, if◌then◌else◌};
 ghost use Rattle.std.specs.List.{IsDistinct};
 ghost use Rattle.carte_name.specs.Names.{name_eq};
 ghost use Rattle.carte_codec.specs.Lengths.{IsLengthOf};
 ghost use Rattle.carte_codec.specs.Parts.{spelled_link};
 ghost use Rattle.carte_table.specs.Changes.{is_of_none};
 ghost use Rattle.carte_table.specs.Lookups.{first_link, is_link_of};
-ghost use Rattle.carte_table.specs.Steps.{Begins, IsReady, TakesIn};
+ghost use Rattle.carte_value.specs.Lists.{Begins};
+ghost use Rattle.carte_table.specs.Steps.{IsReady, Replaces};
 
 use crate::{Firsts, Keyed, NameTable};
 use carte_value::{Digest, Link, Name, NoMemory, Seeded};
@@ -112,19 +113,21 @@ impl Seen {
         self.links.length()
     }
 
-    /// Makes ready to take a later list in, which then can't fail. Where there is no room, some links more may stand there.
-    pub fn make_ready(&mut self, later: &Seen) -> Result<(), NoMemory>
-        ensures ok { OnOk result (IsReady is_link_of later.now self.old self.new) }
+    /// Puts the links of a later list behind these whose names have none here, and gives back those that are left, which it
+    /// then takes in without fail; where it has nothing and no name comes twice, it becomes that list. Where there is no
+    /// room, some links may stand there.
+    pub fn make_ready(&mut self, later: Seen) -> Result<Vec<Link>, NoMemory>
+        ensures ok { IfOk result (λ left. IsReady is_link_of later self.old left.items self.new) }
         ensures front { Begins self.old self.new }
     {
-        self.links.make_ready(&later.links)
+        self.links.make_ready(later.links)
     }
 
-    /// Takes in a later list that it is ready for: where it has nothing, it is then that list.
-    pub fn take_in(&mut self, later: Seen)
-        ensures { TakesIn is_link_of later self.old self.new }
+    /// Takes in what is left of a later list: each link is put in the place of the first one of its name, where there is one.
+    pub fn take_in(&mut self, left: Vec<Link>)
+        ensures { Replaces is_link_of left.items self.old self.new }
     {
-        self.links.take_in(later.links);
+        self.links.take_in(left);
     }
 
     /// Drops the links behind the first `len`.

@@ -8,7 +8,7 @@ ghost use Rattle.carte_table.specs.Places.{IsFirstPlaces};
 ghost use Rattle.carte_table.specs.Changes.{front};
 ghost use Rattle.carte_value.specs.declared.digest.Digest.{Digest as SomeDigest};
 ghost use Rattle.std.specs.Option.{option_or};
-ghost use Rattle.carte_table.specs.Steps.{Begins};
+ghost use Rattle.carte_value.specs.Lists.{Begins};
 
 use crate::digest_key::DigestKey;
 use crate::table::{Table, add, first, forget, make_place, push, widen};

@@ -32,7 +32,7 @@ pub fn widen<T>(items: &mut Vec<T>, more: usize)
     }
 }
 
-/// Makes a place for one more item. A long list that is full grows by an eighth of itself and isn't doubled: what was
+/// Makes a place for one more item. A long list that is full grows by a quarter of itself and isn't doubled: what was
 /// loaded takes just what it needs, and one item more would make it twice that.
 pub fn make_place<T>(items: &mut Vec<T>) -> Result<(), NoMemory>
     ensures items { items.new.items ≡ items.old.items }
@@ -40,7 +40,7 @@ pub fn make_place<T>(items: &mut Vec<T>) -> Result<(), NoMemory>
 {
     let len = items.len();
     if len >= LONG && len == items.capacity() {
-        let _room = items.reserve_exact(len / 8);
+        let _room = items.reserve_exact(len / 4);
     }
     items.reserve(1)?;
     Ok(())

@@ -7,7 +7,8 @@ use Rattle.carte_value.specs.Asks.{Asks, done, and_then}
 use Rattle.carte_tree.specs.Tree.{Tree, number, text, ref, neg, chain, call, Steps, no_step, step, Args, no_arg, arg, Arg, one, cells}
 use Rattle.carte_tree.specs.declared.expr.Func.{Func}
 use Rattle.carte_tree.specs.declared.expr.Func.TheVariants as f
-use Rattle.carte_tree.specs.Applied.{condition, negated, applied, called}
+use Rattle.carte_tree.specs.Applied.{condition, negated, applied}
+use Rattle.carte_tree.specs.Functions.{called}
 use Rattle.carte_value.specs.Areas.{cells_of}
 use Rattle.carte_tree.specs.Found.{name_in, names_in}
 use Rattle.carte_tree.specs.Texts.{joined}

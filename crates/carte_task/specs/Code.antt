@@ -4,7 +4,8 @@ use Rattle.carte_name.specs.declared.kind.Kind.{Kind}
 use Rattle.carte_value.specs.declared.value.Value.{Value}
 use Rattle.carte_value.specs.declared.value.Value.TheVariants.{Empty}
 use Rattle.carte_value.specs.Asks.{Asks, done, ask}
-use Rattle.carte_tree.specs.Applied.{condition, negated, applied, called}
+use Rattle.carte_tree.specs.Applied.{condition, negated, applied}
+use Rattle.carte_tree.specs.Functions.{called}
 use Rattle.carte_value.specs.Areas.{cells_of}
 use Rattle.carte_tree.specs.Found.{name_in, names_in}
 use Rattle.carte_tree.specs.Texts.{joined}

@@ -10,7 +10,8 @@ use Rattle.carte_tree.specs.declared.expr.Op.TheVariants as op
 use Rattle.carte_tree.specs.declared.expr.Func.TheVariants as f
 use Rattle.carte_tree.specs.declared.expr.Level.TheVariants as level
 use Rattle.carte_tree.specs.Tree.{Tree, number, ref, neg, chain, call, step, no_step, Args, arg, no_arg, one}
-use Rattle.carte_tree.specs.Applied.{applied, called, negated}
+use Rattle.carte_tree.specs.Applied.{applied, negated}
+use Rattle.carte_tree.specs.Functions.{called}
 use Rattle.carte_tree.specs.Meaning.{eval, fetched}
 use Rattle.carte_tree.specs.Found.{name_in, names_in}
 

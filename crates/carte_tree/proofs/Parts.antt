@@ -1,5 +1,6 @@
 -- A chain and its parts.
 use Rattle.std.proofs.Common.{ℕ, List, ◌∷◌, ◌≡◌, ◌++◌, ◌∙◌, ap, sym, append_assoc, rules, Result, Ok, Err, OnOk}
+use Rattle.carte_value.specs.Lists.{Begins}
 use Rattle.carte_tree.specs.Tree.{chain, rank, steps_of, args_of}
 use Rattle.carte_tree.specs.Code.{terms_of, args_trees, tree_of, chain_tree, rest_steps, args_tree}
 use Rattle.carte_tree.specs.declared.expr.Rest.{Rest}
@@ -7,6 +8,9 @@ use Rattle.carte_tree.specs.declared.expr.Args.{Args}
 use Rattle.carte_tree.specs.Printed.{tight, in_brackets, printed, steps_printed}
 use Rattle.carte_tree.specs.declared.expr.Chain.{Chain}
 use Rattle.carte_tree.specs.declared.expr.Arg.{the_lemmas}
+
+pub begins_on : {A : Type 0} (xs ys zs : List A) → Begins xs ys → Begins ys zs → Begins xs zs
+begins_on xs ys zs (us, is) (vs, are) = (us ++ vs, are ∙ (ap (λ w. w ++ vs) is ∙ append_assoc xs us vs))
 
 pub on_ok : {T E A B : Type 0} (r : Result T E) → OnOk r A → (A → B) → OnOk r B
 on_ok (Ok x) h f = f h

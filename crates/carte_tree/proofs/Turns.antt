@@ -5,7 +5,8 @@ use Rattle.carte_value.specs.declared.value.Value.{Value}
 use Rattle.carte_value.specs.Asks.{Asks, done, ask, and_then}
 use Rattle.carte_tree.specs.Tree.{Tree, number, text, ref, neg, chain, call, Steps, no_step, step, Args, no_arg, arg, Arg, one, cells}
 use Rattle.carte_tree.specs.declared.expr.Func.TheVariants as f
-use Rattle.carte_tree.specs.Applied.{condition, negated, applied, called}
+use Rattle.carte_tree.specs.Applied.{condition, negated, applied}
+use Rattle.carte_tree.specs.Functions.{called}
 use Rattle.carte_value.specs.Areas.{cells_of}
 use Rattle.carte_tree.specs.Meaning.{asks, asks_steps, asks_args, asks_arg, asks_all, branched}
 use Rattle.carte_tree.specs.InTurn.{AsksInTurn}

@@ -9,6 +9,7 @@ pub mod Order
 pub mod Texts
 pub mod Found
 pub mod Applied
+pub mod Functions
 pub mod Meaning
 pub mod Best
 pub mod InTurn

@@ -2,25 +2,7 @@
 use Rattle.std.specs.Prelude.{ℕ, zero, suc, Bool, true, false, List, [], ◌∷◌, ◌++◌, codes, nat_lt, ◌==◌, if◌then◌else◌}
 use Rattle.std.specs.Fmt.{signed_decimal}
 use Rattle.carte_tree.specs.Tree.{Op, eq, ne, lt, le, gt, ge, join, add, sub, mul, div, Func, Level, rank, Tree, number, text, ref, neg, chain, call, Steps, no_step, step, Args, no_arg, arg, Arg, one, cells, first_corner, last_corner}
-use Rattle.carte_tree.specs.declared.expr.Func.TheVariants as functions
-
-abbrev pub func_name : Func → List ℕ
-func_name functions.Sum = codes "SUM"
-func_name functions.Min = codes "MIN"
-func_name functions.Max = codes "MAX"
-func_name functions.Count = codes "COUNT"
-func_name functions.Concat = codes "CONCAT"
-func_name functions.And = codes "AND"
-func_name functions.Or = codes "OR"
-func_name functions.Len = codes "LEN"
-func_name functions.Upper = codes "UPPER"
-func_name functions.Lines = codes "LINES"
-func_name functions.Line = codes "LINE"
-func_name functions.Not = codes "NOT"
-func_name functions.If = codes "IF"
-func_name functions.Pick = codes "PICK"
-func_name functions.Indirect = codes "INDIRECT"
-func_name functions.Gather = codes "GATHER"
+use Rattle.carte_tree.specs.Functions.{func_name}
 
 abbrev pub op_bytes : Op → List ℕ
 op_bytes eq = codes "="

@@ -8,6 +8,7 @@ pub use Rattle.carte_tree.specs.declared.expr.Op.{Op}
 pub use Rattle.carte_tree.specs.declared.expr.Op.TheVariants.{Eq as eq, Ne as ne, Lt as lt, Le as le, Gt as gt, Ge as ge, Join as join, Add as add, Sub as sub, Mul as mul, Div as div}
 pub use Rattle.carte_tree.specs.declared.expr.Func.{Func}
 use Rattle.carte_tree.specs.declared.expr.Func.TheVariants as functions
+pub use Rattle.carte_tree.specs.Functions.{Arity, many, between, arity}
 
 abbrev pub level_of : Op → Level
 level_of eq = compare
@@ -62,29 +63,6 @@ steps_of (t ∷ ts) = step t.op t.operand (steps_of ts)
 abbrev pub args_of : List Arg → Args
 args_of [] = no_arg
 args_of (a ∷ xs) = arg a (args_of xs)
-
--- how many arguments a function takes
-pub data Arity : Type 0 where
-  many : Arity
-  between : ℕ → ℕ → Arity
-
-abbrev pub arity : Func → Arity
-arity functions.Sum = many
-arity functions.Min = many
-arity functions.Max = many
-arity functions.Count = many
-arity functions.Concat = many
-arity functions.And = many
-arity functions.Or = many
-arity functions.Len = between 1 1
-arity functions.Upper = between 1 1
-arity functions.Lines = between 1 1
-arity functions.Line = between 2 2
-arity functions.Not = between 1 1
-arity functions.If = between 2 3
-arity functions.Pick = between 3 3
-arity functions.Indirect = between 1 1
-arity functions.Gather = between 1 1
 
 abbrev pub is_many : Arity → Bool
 is_many many = true

@@ -3,11 +3,12 @@
 //! Form. Contracts see one pure tree, onto which `tree_of` folds an `Expr`, so that no statement speaks of boxes or vectors.
 //! A formula is a computation that asks for the values of names (`specs/Meaning.antt`): it is done, or it asks for a name and goes on with the
 //! answer. The rest of the engine speaks of such computations and of no text. Operators and functions are defined as functions of the
-//! list of their arguments' values (`specs/Applied.antt`), one line each, as a reader of Excel's documentation would say them. So
+//! list of their arguments' values (`specs/Applied.antt`, `specs/Functions.antt`), one line each, as a reader of Excel's documentation would say them. So
 //! "the first bad value is the result" stands once, as `strict`, and only IF, INDIRECT and GATHER, which decide what is asked for,
 //! have a form of their own.
 //!
 //! This crate reads no text and works out no value: `carte_formula` reads, and `carte_functions` has the operators and functions as code.
+//! But what is told of a function by itself stands together here, also which one has a name (`func.rt`), so that a new one is soon added.
 //! Books, tasks and schedulers need neither, only what formulas are and what they mean. Why a text is no formula stands here too, since
 //! a book's faults have it. Copying, printing and looking for references go down a formula's nesting by calls; what was read is
 //! at most 64 levels deep.

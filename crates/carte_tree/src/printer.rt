@@ -1,8 +1,10 @@
 ghost use Rattle.std.specs.Prelude.{◌≡◌, ◌++◌, codes, IfOk, OnOk, string_bytes};
 ghost use Rattle.carte_name.specs.Places.{IsPlace, cell_at};
 ghost use Rattle.carte_value.specs.Areas.{IsArea};
+ghost use Rattle.carte_value.specs.Lists.{Begins};
+ghost use Rattle.carte_tree.specs.Functions.{func_name};
 ghost use Rattle.carte_tree.specs.Tree.{neg, rank, first_corner, last_corner};
-ghost use Rattle.carte_tree.specs.Printed.{tight, func_name, op_bytes, in_brackets, printed, steps_printed, args_printed, arg_printed};
+ghost use Rattle.carte_tree.specs.Printed.{tight, op_bytes, in_brackets, printed, steps_printed, args_printed, arg_printed};
 ghost use Rattle.carte_tree.specs.Code.{tree_of, chain_tree, rest_steps, args_tree, arg_tree};
 ghost use Rattle.carte_tree.specs.Formula.{IsExpr, AreSteps, AreArgs, IsArg};
 
@@ -32,7 +34,8 @@ pub fn print(alloc: Global, expr: &Expr) -> Result<String, NoMemory>
 #[cycle(print)]
 pub fn print_expr(alloc: Global, out: &mut Vec<u8>, expr: &Expr) -> Result<(), NoMemory>
     requires { IsExpr (tree_of expr.now) }
-    ensures { OnOk result (out.new.items ≡ out.old.items ++ printed (tree_of expr.now)) }
+    ensures front { Begins out.old.items out.new.items }
+    ensures bytes { OnOk result (out.new.items ≡ out.old.items ++ printed (tree_of expr.now)) }
 {
     match expr {
         Expr::Number(number) => put_number(out, *number),
@@ -47,7 +50,8 @@ pub fn print_expr(alloc: Global, out: &mut Vec<u8>, expr: &Expr) -> Result<(), N
 #[cycle(print)]
 fn print_neg(alloc: Global, out: &mut Vec<u8>, operand: &Expr) -> Result<(), NoMemory>
     requires { IsExpr (tree_of operand.now) }
-    ensures { OnOk result (out.new.items ≡ out.old.items ++ printed (neg (tree_of operand.now))) }
+    ensures front { Begins out.old.items out.new.items }
+    ensures bytes { OnOk result (out.new.items ≡ out.old.items ++ printed (neg (tree_of operand.now))) }
 {
     put_byte(out, b'-')?;
     print_held(alloc, out, 0, operand)
@@ -56,7 +60,8 @@ fn print_neg(alloc: Global, out: &mut Vec<u8>, operand: &Expr) -> Result<(), NoM
 #[cycle(print)]
 fn print_chain(alloc: Global, out: &mut Vec<u8>, chain: &Chain) -> Result<(), NoMemory>
     requires { IsExpr (chain_tree chain.now) }
-    ensures { OnOk result (out.new.items ≡ out.old.items ++ printed (chain_tree chain.now)) }
+    ensures front { Begins out.old.items out.new.items }
+    ensures bytes { OnOk result (out.new.items ≡ out.old.items ++ printed (chain_tree chain.now)) }
 {
     print_held(alloc, out, chain.level.rank(), &chain.first)?;
     print_rest(alloc, out, chain.level, &chain.rest)
@@ -66,7 +71,8 @@ fn print_chain(alloc: Global, out: &mut Vec<u8>, chain: &Chain) -> Result<(), No
 #[cycle(print)]
 fn print_held(alloc: Global, out: &mut Vec<u8>, rank: u8, expr: &Expr) -> Result<(), NoMemory>
     requires { IsExpr (tree_of expr.now) }
-    ensures { OnOk result (out.new.items ≡ out.old.items ++ in_brackets (tight rank (tree_of expr.now)) (printed (tree_of expr.now))) }
+    ensures front { Begins out.old.items out.new.items }
+    ensures bytes { OnOk result (out.new.items ≡ out.old.items ++ in_brackets (tight rank (tree_of expr.now)) (printed (tree_of expr.now))) }
 {
     if is_tight(rank, expr) {
         return print_expr(alloc, out, expr);
@@ -79,7 +85,8 @@ fn print_held(alloc: Global, out: &mut Vec<u8>, rank: u8, expr: &Expr) -> Result
 #[cycle(print)]
 fn print_rest(alloc: Global, out: &mut Vec<u8>, level: Level, rest: &Rest) -> Result<(), NoMemory>
     requires { AreSteps level (rest_steps rest.now) }
-    ensures { OnOk result (out.new.items ≡ out.old.items ++ steps_printed level (rest_steps rest.now)) }
+    ensures front { Begins out.old.items out.new.items }
+    ensures bytes { OnOk result (out.new.items ≡ out.old.items ++ steps_printed level (rest_steps rest.now)) }
 {
     let (op, operand) = &rest.first;
     print_step(alloc, out, level, *op, operand)?;
@@ -98,7 +105,8 @@ fn print_step(
     operand: &Expr,
 ) -> Result<(), NoMemory>
     requires { IsExpr (tree_of operand.now) }
-    ensures { OnOk result (out.new.items ≡ out.old.items ++ (op_bytes op ++ in_brackets (tight (rank level) (tree_of operand.now)) (printed (tree_of operand.now)))) }
+    ensures front { Begins out.old.items out.new.items }
+    ensures bytes { OnOk result (out.new.items ≡ out.old.items ++ (op_bytes op ++ in_brackets (tight (rank level) (tree_of operand.now)) (printed (tree_of operand.now)))) }
 {
     put(out, op.text().as_bytes())?;
     print_held(alloc, out, level.rank(), operand)
@@ -107,7 +115,8 @@ fn print_step(
 #[cycle(print)]
 fn print_call(alloc: Global, out: &mut Vec<u8>, func: Func, args: &Args) -> Result<(), NoMemory>
     requires { AreArgs func (args_tree args.now) }
-    ensures { OnOk result (out.new.items ≡ out.old.items ++ (func_name func ++ (codes "(" ++ (args_printed (args_tree args.now) ++ codes ")")))) }
+    ensures front { Begins out.old.items out.new.items }
+    ensures bytes { OnOk result (out.new.items ≡ out.old.items ++ (func_name func ++ (codes "(" ++ (args_printed (args_tree args.now) ++ codes ")")))) }
 {
     put(out, func.name().as_bytes())?;
     put_byte(out, b'(')?;
@@ -118,7 +127,8 @@ fn print_call(alloc: Global, out: &mut Vec<u8>, func: Func, args: &Args) -> Resu
 #[cycle(print)]
 fn print_args(alloc: Global, out: &mut Vec<u8>, func: Func, args: &Args) -> Result<(), NoMemory>
     requires { AreArgs func (args_tree args.now) }
-    ensures { OnOk result (out.new.items ≡ out.old.items ++ args_printed (args_tree args.now)) }
+    ensures front { Begins out.old.items out.new.items }
+    ensures bytes { OnOk result (out.new.items ≡ out.old.items ++ args_printed (args_tree args.now)) }
 {
     for (at, arg) in args.items.iter().enumerate() {
         if at > 0 {
@@ -132,7 +142,8 @@ fn print_args(alloc: Global, out: &mut Vec<u8>, func: Func, args: &Args) -> Resu
 #[cycle(print)]
 fn print_arg(alloc: Global, out: &mut Vec<u8>, func: Func, arg: &Arg) -> Result<(), NoMemory>
     requires { IsArg func (arg_tree arg.now) }
-    ensures { OnOk result (out.new.items ≡ out.old.items ++ arg_printed (arg_tree arg.now)) }
+    ensures front { Begins out.old.items out.new.items }
+    ensures bytes { OnOk result (out.new.items ≡ out.old.items ++ arg_printed (arg_tree arg.now)) }
 {
     match arg {
         // A name, which most arguments are, is put without a call.
@@ -144,7 +155,8 @@ fn print_arg(alloc: Global, out: &mut Vec<u8>, func: Func, arg: &Arg) -> Result<
 
 fn print_area(alloc: Global, out: &mut Vec<u8>, area: &Area) -> Result<(), NoMemory>
     requires { IsArea area.now }
-    ensures { OnOk result (out.new.items ≡ out.old.items ++ (first_corner area.now ++ (codes ":" ++ last_corner area.now))) }
+    ensures front { Begins out.old.items out.new.items }
+    ensures bytes { OnOk result (out.new.items ≡ out.old.items ++ (first_corner area.now ++ (codes ":" ++ last_corner area.now))) }
 {
     print_cell(alloc, out, area.left, area.top)?;
     put_byte(out, b':')?;
@@ -153,7 +165,8 @@ fn print_area(alloc: Global, out: &mut Vec<u8>, area: &Area) -> Result<(), NoMem
 
 fn print_cell(alloc: Global, out: &mut Vec<u8>, column: u32, row: u32) -> Result<(), NoMemory>
     requires { IsPlace column row }
-    ensures { OnOk result (out.new.items ≡ out.old.items ++ cell_at column row) }
+    ensures front { Begins out.old.items out.new.items }
+    ensures bytes { OnOk result (out.new.items ≡ out.old.items ++ cell_at column row) }
 {
     let name = Name::cell_at(alloc, column, row)?;
     put(out, name.bytes())

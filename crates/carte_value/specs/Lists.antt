@@ -7,6 +7,10 @@ abbrev pub Has : {A : Type 0} → List A → A → Type 0
 Has [] x = ⊥
 Has (y ∷ ys) x = (x ≡ y) ⊎ Has ys x
 
+-- the one list begins with the other
+abbrev pub Begins : {A : Type 0} → List A → List A → Type 0
+Begins {A = A} xs ys = (zs : List A) × (ys ≡ xs ++ zs)
+
 -- the list ends with this name
 abbrev pub IsLast : List (List ℕ) → List ℕ → Type 0
 IsLast ks k = (before : List (List ℕ)) × (ks ≡ before ++ k ∷ [])

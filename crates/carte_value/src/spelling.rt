@@ -1,4 +1,5 @@
 ghost use Rattle.std.specs.Prelude.{◌≡◌, ◌≤◌, ◌++◌, length, IfOk, OnOk, option_map};
+ghost use Rattle.carte_value.specs.Lists.{Begins};
 ghost use Rattle.carte_value.specs.Spelling.{spelling, digest_of, bad_code, IsDecoded, IsNumberAhead, IsTextAhead, IsBadAhead};
 
 use crate::{Bad, Digest, NoMemory, TEXT_LIMIT, Text, Value};
@@ -31,7 +32,8 @@ impl Value {
 
     /// Puts the spelling behind the bytes. Where there is no memory, a part of it may stand there.
     pub fn write(&self, out: &mut Vec<u8>) -> Result<(), NoMemory>
-        ensures { OnOk result (out.new.items ≡ out.old.items ++ spelling self.now) }
+        ensures bytes { OnOk result (out.new.items ≡ out.old.items ++ spelling self.now) }
+        ensures front { Begins out.old.items out.new.items }
     {
         match self {
             Value::Empty => out.push(0)?,
@@ -87,7 +89,8 @@ impl Value {
 }
 
 fn write_number(out: &mut Vec<u8>, number: i64) -> Result<(), NoMemory>
-    ensures { OnOk result (out.new.items ≡ out.old.items ++ spelling (Value.Number number)) }
+    ensures bytes { OnOk result (out.new.items ≡ out.old.items ++ spelling (Value.Number number)) }
+    ensures front { Begins out.old.items out.new.items }
 {
     out.push(1)?;
     out.extend_from_slice(number.to_be_bytes().as_slice())?;
@@ -103,7 +106,8 @@ fn digest_number(number: i64) -> Digest
 
 fn write_text(out: &mut Vec<u8>, text: &str) -> Result<(), NoMemory>
     requires { length text.now ≤ 65536 }
-    ensures { OnOk result (out.new.items ≡ out.old.items ++ spelling (Value.Text text.now)) }
+    ensures bytes { OnOk result (out.new.items ≡ out.old.items ++ spelling (Value.Text text.now)) }
+    ensures front { Begins out.old.items out.new.items }
 {
     out.push(2)?;
     out.extend_from_slice((text.len() as u32).to_be_bytes().as_slice())?;

@@ -2,7 +2,8 @@ ghost use Rattle.std.specs.Prelude.{◌≡◌, ◌<◌, true, false, IfOk, IsUtf
 ghost use Rattle.std.specs.List.{list_all};
 ghost use Rattle.std.specs.Str.{str_to_ascii_uppercase};
 ghost use Rattle.carte_name.specs.Names.{is_digit};
-ghost use Rattle.carte_lexer.specs.Lexer.{token_of, numeral, small, letters, closing, func_of, func_token, unpaired, less_op, greater_op};
+ghost use Rattle.carte_tree.specs.Functions.{func_of};
+ghost use Rattle.carte_lexer.specs.Lexer.{token_of, numeral, small, letters, closing, func_token, unpaired, less_op, greater_op};
 ghost use Rattle.carte_lexer.specs.Runs.{RunOk};
 
 use crate::cell::Cell;
@@ -76,34 +77,9 @@ fn function_token(alloc: Global, run: &str) -> Result<Option<Token>, NoMemory>
 fn func_token(run: &str) -> Option<Token>
     ensures { result ≡ func_token (func_of run.now) }
 {
-    match func_of(run) {
+    match Func::named(run) {
         Some(func) => Some(Token::Func(func)),
         None => None,
-    }
-}
-
-/// The function of this name.
-fn func_of(name: &str) -> Option<Func>
-    ensures { result ≡ func_of name.now }
-{
-    match name {
-        "SUM" => Some(Func::Sum),
-        "MIN" => Some(Func::Min),
-        "MAX" => Some(Func::Max),
-        "COUNT" => Some(Func::Count),
-        "CONCAT" => Some(Func::Concat),
-        "AND" => Some(Func::And),
-        "OR" => Some(Func::Or),
-        "LEN" => Some(Func::Len),
-        "UPPER" => Some(Func::Upper),
-        "LINES" => Some(Func::Lines),
-        "LINE" => Some(Func::Line),
-        "NOT" => Some(Func::Not),
-        "IF" => Some(Func::If),
-        "PICK" => Some(Func::Pick),
-        "INDIRECT" => Some(Func::Indirect),
-        "GATHER" => Some(Func::Gather),
-        _ => None,
     }
 }
 

@@ -1,11 +1,10 @@
 //! Devices that fail.
 
 use crate::top::SUMS;
-use crate::top::runs::code_of;
-use carte_io::{MemDisk, MemSink, MemSource};
+use crate::top::runs::over;
+use carte_io::{MemDisk, MemSource};
 use std::alloc::Global;
 use std::marker::Sync;
-use std::str;
 use std::test::Fail;
 use std::thread::Threads;
 
@@ -22,28 +21,24 @@ fn failing<T: Threads + Sync>(
     let mut book = MemSource::of(alloc, SUMS.as_bytes(), &[read])?;
     let mut script = MemSource::of(alloc, b"", &[1])?;
     let mut state = MemDisk::of(alloc, &[], &[disk])?;
-    let mut out = MemSink::new(alloc, 8, &[write])?;
-    let mut err = MemSink::new(alloc, 8, &[line])?;
-    let code = code_of(
+    over(
         rt,
         alloc,
         words,
         &mut book,
         &mut script,
         &mut state,
-        &mut out,
-        &mut err,
-    )?;
-    let out = str::from_utf8(out.bytes())?;
-    let err = str::from_utf8(err.bytes())?;
-    Ok(format!(in alloc; "{code}\n{out}{err}")?)
+        8,
+        write,
+        line,
+    )
 }
 
 const BUILD: &str = "build b s total";
 
 // Words; the calls that fail, where 0 is none, of the book, the state, the reply and the error line; and what is shown. The
 // script's first read fails. The reply of 39 bytes takes five calls of at most eight bytes, and the call that hands it on.
-const CASES: [(&str, u64, u64, u64, u64, &str); 13] = [
+const CASES: &[(&str, u64, u64, u64, u64, &str)] = &[
     (BUILD, 1, 0, 0, 0, "4\ncarte: a read failed\n"),
     (BUILD, 2, 0, 0, 3, "4\ncarte: a read fa"),
     (BUILD, 0, 1, 0, 0, "6\ncarte: the state's device failed\n"),
@@ -76,8 +71,8 @@ const CASES: [(&str, u64, u64, u64, u64, &str); 13] = [
 #[test]
 fn each_call_may_fail(rt: HostRuntime) -> Result<(), Fail> {
     for (words, read, disk, write, line, want) in CASES {
-        let text = failing(&rt, rt.alloc(), words, read, disk, write, line)?;
-        assert_eq!(rt; text.as_str(), want, "{words}");
+        let text = failing(&rt, rt.alloc(), words, *read, *disk, *write, *line)?;
+        assert_eq!(rt; text.as_str(), *want, "{words}");
     }
     Ok(())
 }

@@ -4,6 +4,7 @@ use crate::top::runs::shown;
 use carte_io::MemDisk;
 use std::alloc::Global;
 use std::marker::Sync;
+use std::process::Abort;
 use std::test::Fail;
 use std::thread::Threads;
 
@@ -28,20 +29,30 @@ fn in_a_row<T: Threads + Sync>(
     state: &[u8],
     runs: &[(&str, &str)],
 ) -> Result<String, Fail> {
-    let mut state = MemDisk::of(alloc, state, &[])?;
-    let mut text = String::new(alloc);
-    for (words, book) in runs {
-        text.push_str(shown(rt, alloc, words, book, &mut state)?.as_str())?;
-    }
+    let mut state = Box::new(alloc, MemDisk::of(alloc, state, &[])?)?;
+    let mut text = all_shown(rt, alloc, &mut state, runs)?;
     let length = state.bytes().len();
     text.push_str(format!(in alloc; "{length}")?.as_str())?;
+    Ok(text)
+}
+
+fn all_shown<T: Threads + Sync>(
+    rt: &T,
+    alloc: Global,
+    state: &mut MemDisk,
+    runs: &[(&str, &str)],
+) -> Result<String, Fail> {
+    let mut text = String::new(alloc);
+    for (words, book) in runs {
+        text.push_str(shown(rt, alloc, words, book, state)?.as_str())?;
+    }
     Ok(text)
 }
 
 /// An edit that leaves the value of its rule as it was runs that rule alone where values are compared.
 const FIRST: &str = "0\nb2 = 60\nran 2, given up 0, reused 0\n0\n";
 
-const REBUILDERS: [(&str, &str); 4] = [
+const REBUILDERS: &[(&str, &str)] = &[
     (
         "build b s b2 --rebuilder dirty",
         "b2 = 60\nran 2, given up 0, reused 0\n",
@@ -62,7 +73,7 @@ const OLD: &[u8] =
 
 // A state, the runs over it, and what they show. A batch of version 2 that a small build brings has 523 bytes, one that
 // clears 35, and a frame 5.
-const RUNS: [(&[u8], &[(&str, &str)], &str); 7] = [
+const RUNS: &[(&[u8], &[(&str, &str)], &str)] = &[
     // A rule beside what is built is nothing to its deep traces.
     (
         b"",
@@ -116,13 +127,19 @@ const RUNS: [(&[u8], &[(&str, &str)], &str); 7] = [
 #[test]
 fn rules_change_between_runs(rt: HostRuntime) -> Result<(), Fail> {
     for (words, want) in REBUILDERS {
-        let text = in_a_row(&rt, rt.alloc(), b"", &[(words, PLAIN), (words, TURNED)])?;
-        assert!(rt; text.starts_with(FIRST), "{words}: {text}");
-        assert!(rt; text.contains(want), "{words}: {text}");
+        let text = in_a_row(&rt, rt.alloc(), b"", &[(*words, PLAIN), (*words, TURNED)])?;
+        assert!(rt;
+            text.starts_with(FIRST) && text.contains(*want),
+            "{words}: {text}"
+        );
     }
+    each_row(&rt, rt.alloc())
+}
+
+fn each_row<R: Abort + Threads + Sync>(rt: &R, alloc: Global) -> Result<(), Fail> {
     for (state, runs, want) in RUNS {
-        let text = in_a_row(&rt, rt.alloc(), state, runs)?;
-        assert_eq!(rt; text.as_str(), want);
+        let text = in_a_row(rt, alloc, state, runs)?;
+        assert_eq!(rt; text.as_str(), *want);
     }
     Ok(())
 }

@@ -18,21 +18,21 @@ fn words_of(alloc: Global, text: &str) -> Result<Vec<Word>, Fail> {
     Ok(words)
 }
 
-pub(crate) fn code_of<B: Source, S: Source, D: Disk, O: Sink, E: Sink, T: Threads + Sync>(
+// It has one way out, since along each is carried what the call says of all devices.
+fn code_of<B: Source, S: Source, D: Disk, O: Sink, E: Sink, T: Threads + Sync>(
     rt: &T,
     alloc: Global,
-    words: &str,
+    words: &[Word],
     book: &mut B,
     script: &mut S,
     state: &mut D,
     out: &mut O,
     err: &mut E,
-) -> Result<u8, Fail> {
-    let words = words_of(alloc, words)?;
+) -> u8 {
     let status = carte(
         rt,
         alloc,
-        words.as_slice(),
+        words,
         book,
         script,
         state,
@@ -41,7 +41,7 @@ pub(crate) fn code_of<B: Source, S: Source, D: Disk, O: Sink, E: Sink, T: Thread
         Seeded::of(7),
         &NoGate,
     );
-    Ok(status.code())
+    status.code()
 }
 
 /// The exit status, a line feed, and what stands on both outputs. The first read of a script fails.
@@ -78,13 +78,32 @@ fn with_script<T: Threads + Sync>(
     state: &mut MemDisk,
 ) -> Result<String, Fail> {
     let mut book = MemSource::of(alloc, book.as_bytes(), &[])?;
-    let mut out = MemSink::new(alloc, 4096, &[])?;
-    let mut err = MemSink::new(alloc, 4096, &[])?;
-    let code = code_of(
-        rt, alloc, words, &mut book, script, state, &mut out, &mut err,
-    )?;
-    let out = str::from_utf8(out.bytes())?;
-    let err = str::from_utf8(err.bytes())?;
+    over(rt, alloc, words, &mut book, script, state, 4096, 0, 0)
+}
+
+/// The same over these devices. The outputs take so many bytes a call, and fail at such a call each, where 0 is none.
+pub(crate) fn over<T: Threads + Sync>(
+    rt: &T,
+    alloc: Global,
+    words: &str,
+    book: &mut MemSource,
+    script: &mut MemSource,
+    state: &mut MemDisk,
+    most: usize,
+    write: u64,
+    line: u64,
+) -> Result<String, Fail> {
+    let most = most.max(1);
+    let words = words_of(alloc, words)?;
+    let mut out = MemSink::new(alloc, most, &[write])?;
+    let mut err = MemSink::new(alloc, most, &[line])?;
+    let code = code_of(rt, alloc, &words, book, script, state, &mut out, &mut err);
+    printed(alloc, code, out.bytes(), err.bytes())
+}
+
+fn printed(alloc: Global, code: u8, out: &[u8], err: &[u8]) -> Result<String, Fail> {
+    let out = str::from_utf8(out)?;
+    let err = str::from_utf8(err)?;
     Ok(format!(in alloc; "{code}\n{out}{err}")?)
 }
 
@@ -96,6 +115,6 @@ pub(crate) fn shown_over<T: Threads + Sync>(
     book: &str,
     state: &[u8],
 ) -> Result<String, Fail> {
-    let mut state = MemDisk::of(alloc, state, &[])?;
+    let mut state = Box::new(alloc, MemDisk::of(alloc, state, &[])?)?;
     shown(rt, alloc, words, book, &mut state)
 }

@@ -1,34 +1,39 @@
 ghost use Rattle.std.specs.Prelude.{◌≡◌, ◌++◌, [], ◌∷◌, OnOk};
 ghost use Rattle.std.specs.Fmt.{signed_decimal};
-ghost use Rattle.carte_tree.specs.Printed.{func_name, op_bytes, doubled, text_bytes};
+ghost use Rattle.carte_value.specs.Lists.{Begins};
+ghost use Rattle.carte_tree.specs.Printed.{op_bytes, doubled, text_bytes};
 
-use crate::{Func, Op};
+use crate::Op;
 use carte_value::NoMemory;
 use itoa::Buffer;
 
 pub fn put(out: &mut Vec<u8>, bytes: &[u8]) -> Result<(), NoMemory>
-    ensures { OnOk result (out.new.items ≡ out.old.items ++ bytes.now) }
+    ensures front { Begins out.old.items out.new.items }
+    ensures bytes { OnOk result (out.new.items ≡ out.old.items ++ bytes.now) }
 {
     out.extend_from_slice(bytes)?;
     Ok(())
 }
 
 pub fn put_byte(out: &mut Vec<u8>, byte: u8) -> Result<(), NoMemory>
-    ensures { OnOk result (out.new.items ≡ out.old.items ++ byte ∷ []) }
+    ensures front { Begins out.old.items out.new.items }
+    ensures bytes { OnOk result (out.new.items ≡ out.old.items ++ byte ∷ []) }
 {
     out.push(byte)?;
     Ok(())
 }
 
 pub fn put_number(out: &mut Vec<u8>, number: i64) -> Result<(), NoMemory>
-    ensures { OnOk result (out.new.items ≡ out.old.items ++ signed_decimal number) }
+    ensures front { Begins out.old.items out.new.items }
+    ensures bytes { OnOk result (out.new.items ≡ out.old.items ++ signed_decimal number) }
 {
     put(out, Buffer::new().format(number).as_bytes())
 }
 
 /// A text in quotes, with each quote in it doubled.
 pub fn put_text(out: &mut Vec<u8>, text: &str) -> Result<(), NoMemory>
-    ensures { OnOk result (out.new.items ≡ out.old.items ++ text_bytes text.now) }
+    ensures front { Begins out.old.items out.new.items }
+    ensures bytes { OnOk result (out.new.items ≡ out.old.items ++ text_bytes text.now) }
 {
     put_byte(out, b'"')?;
     put_doubled(out, text.as_bytes())?;
@@ -36,7 +41,8 @@ pub fn put_text(out: &mut Vec<u8>, text: &str) -> Result<(), NoMemory>
 }
 
 fn put_doubled(out: &mut Vec<u8>, text: &[u8]) -> Result<(), NoMemory>
-    ensures { OnOk result (out.new.items ≡ out.old.items ++ doubled text.now) }
+    ensures front { Begins out.old.items out.new.items }
+    ensures bytes { OnOk result (out.new.items ≡ out.old.items ++ doubled text.now) }
 {
     for byte in text {
         if *byte == b'"' {
@@ -45,32 +51,6 @@ fn put_doubled(out: &mut Vec<u8>, text: &[u8]) -> Result<(), NoMemory>
         out.push(*byte)?;
     }
     Ok(())
-}
-
-impl Func {
-    /// The name in upper case.
-    pub fn name(self) -> &'static str
-        ensures { result.now ≡ func_name self }
-    {
-        match self {
-            Func::Sum => "SUM",
-            Func::Min => "MIN",
-            Func::Max => "MAX",
-            Func::Count => "COUNT",
-            Func::Concat => "CONCAT",
-            Func::And => "AND",
-            Func::Or => "OR",
-            Func::Len => "LEN",
-            Func::Upper => "UPPER",
-            Func::Lines => "LINES",
-            Func::Line => "LINE",
-            Func::Not => "NOT",
-            Func::If => "IF",
-            Func::Pick => "PICK",
-            Func::Indirect => "INDIRECT",
-            Func::Gather => "GATHER",
-        }
-    }
 }
 
 impl Op {

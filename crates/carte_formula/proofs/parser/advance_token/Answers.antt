@@ -9,7 +9,7 @@ use Rattle.carte_formula.proofs.parser.advance_token.Goals as goal
 pub returns-in-Ok : goal.returns-in-Ok
 returns-in-Ok c =
     operand_advances c.args.kind c.args.text.now c.args.at c.in_ok-token.end c.in-Ok.operand c.args.progress.now (record { parser = c.stand.new.parser; ranges = c.take.new.self }) c.follow.new.progress c.follow.result
-    (token_advances c.args.kind c.args.text.now c.args.at c.in_ok-token.end c.in_ok-token.token c.args.progress.now (holding c.stand.new.parser c.in-Ok.operand) c.take.new.self c.in_ok-token.ensures c.in_ok-take.ensures
+    (token_advances c.args.kind c.args.text.now c.args.at c.in_ok-token.end c.in_ok-token.token c.args.progress.now (holding c.stand.new.parser c.in-Ok.operand) c.take.new.self c.in_ok-token.ensures c.in_ok-take.ensures.taken
     (subst (λ t. StepsTo (Ok tt) (holding c.stand.new.parser c.in-Ok.operand) (next_state (reached c.args.progress.now.parser) t) c.args.at) (sym c.in-Word.is) c.in-Ok.ensures))
     c.follow.ensures
 

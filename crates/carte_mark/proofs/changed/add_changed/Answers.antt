@@ -12,4 +12,4 @@ on_ok (Err e) f p = p
 pub returns : goal.returns
 returns c =
     on_ok c.put.result (adds_name (kept_view c.args.kept.now) (book_view c.args.book.now) c.args.link.now c.args.names.now.keys c.put.new.names.keys
-    (sym c.has_changed.ensures ∙ c.if-not-has_changed.false)) c.put.ensures
+    (sym c.has_changed.ensures ∙ c.if-not-has_changed.false)) c.put.ensures.put

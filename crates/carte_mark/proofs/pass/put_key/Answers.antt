@@ -9,7 +9,7 @@ returns-then-needs_one c =
     let K = kept_view c.args.kept.now in
     let old = c.args.names.now.keys in
     let new = c.put.new.names.keys in
-    let is = c.in_ok-put.ensures {u = tt} in
+    let is = (c.in_ok-put.ensures {u = tt}).put in
     record { puts = puts_key K old new c.args.key.now (c.needs_one.ensures.0 c.if-needs_one.true) is; closed = closed_put K old new c.args.key.now is }
 
 pub returns : goal.returns

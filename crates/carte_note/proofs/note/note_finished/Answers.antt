@@ -20,7 +20,7 @@ returns-clause-notes c =
     let f = c.args.finished.now in
     on_ok c.note_items.result
     (λ (is : c.note_items.new.batch ≡ with_finished h b K f c.args.batch.now). subst (λ B. Notes h (kept_view K) b f c.args.batch.now B) (sym is) (noted h K b f c.args.batch.now))
-    c.note_items.ensures
+    c.note_items.ensures.noted
 
 pub returns-clause-unmarked : goal.returns-clause-unmarked
 returns-clause-unmarked c =
@@ -31,4 +31,22 @@ returns-clause-unmarked c =
     on_ok c.note_items.result
     (λ (is : c.note_items.new.batch ≡ with_finished h b K f c.args.batch.now).
     subst (λ (B : Batch). AreUnmarked c.args.batch.now.entries → AreUnmarked B.entries) (sym is) (unmarked h b K f c.args.batch.now.entries))
-    c.note_items.ensures
+    c.note_items.ensures.noted
+
+pub returns-clause-front : goal.returns-clause-front
+returns-clause-front c = c.note_items.ensures.grown.front
+
+pub returns-clause-start : goal.returns-clause-start
+returns-clause-start c = c.note_items.ensures.grown.start
+
+pub returns-clause-gone : goal.returns-clause-gone
+returns-clause-gone c = c.note_items.ensures.grown.gone
+
+pub returns-clause-stale : goal.returns-clause-stale
+returns-clause-stale c = c.note_items.ensures.grown.stale
+
+pub returns-clause-chain : goal.returns-clause-chain
+returns-clause-chain c = c.note_items.ensures.grown.chain
+
+pub returns-clause-items : goal.returns-clause-items
+returns-clause-items c = c.note_items.ensures.noted

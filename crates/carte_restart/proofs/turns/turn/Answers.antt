@@ -163,7 +163,7 @@ returns-in_ok-push-in-Err-clause-standing g c =
     let new = spots_of c.open_stop.new.bench in
     let path = c.open_stop.new.path.items in
     let at = name_of stuck in
-    let opens = subst (λ (p : List (List ℕ)). OnOk c.open_stop.result (Opens name started (λ i j. begun (λ q. None) i j) b mid new p path at)) (c.in_ok-push-in-Err.ensures {u = tt}) c.open_stop.ensures.opens in
+    let opens = subst (λ (p : List (List ℕ)). OnOk c.open_stop.result (Opens name started (λ i j. begun (λ q. None) i j) b mid new p path at)) ((c.in_ok-push-in-Err.ensures {u = tt}).put) c.open_stop.ensures.opens in
     let halted = anew_halts name started gives (λ i j. begun (λ q. None) i j) b old mid r s k stuck anew ks c.requires.standing in
     on_ok_by c.open_stop.result (λ o. stands_opens name b started (λ i j. begun (λ q. None) i j) mid new (k ∷ ks) at halted path o) opens
 
@@ -185,7 +185,7 @@ returns-in_ok-push-in-Err-clause-fewer g c =
     let new = spots_of c.open_stop.new.bench in
     let path = c.open_stop.new.path.items in
     let at = name_of stuck in
-    let opens = subst (λ (p : List (List ℕ)). OnOk c.open_stop.result (Opens name started (λ i j. begun (λ q. None) i j) b mid new p path at)) (c.in_ok-push-in-Err.ensures {u = tt}) c.open_stop.ensures.opens in
+    let opens = subst (λ (p : List (List ℕ)). OnOk c.open_stop.result (Opens name started (λ i j. begun (λ q. None) i j) b mid new p path at)) ((c.in_ok-push-in-Err.ensures {u = tt}).put) c.open_stop.ensures.opens in
     let known = known_put old mid k (Stopped anew.job at) (anew_put name started gives (λ i j. begun (λ q. None) i j) b old mid r s k stuck anew) in
     on_ok_by c.open_stop.result (λ o. opened_fewer name started (λ i j. begun (λ q. None) i j) b old mid new k ks path at known o) opens
 
@@ -207,7 +207,7 @@ returns-in_ok-push-in-Err-clause-known g c =
     let new = spots_of c.open_stop.new.bench in
     let path = c.open_stop.new.path.items in
     let at = name_of stuck in
-    let opens = subst (λ (p : List (List ℕ)). OnOk c.open_stop.result (Opens name started (λ i j. begun (λ q. None) i j) b mid new p path at)) (c.in_ok-push-in-Err.ensures {u = tt}) c.open_stop.ensures.opens in
+    let opens = subst (λ (p : List (List ℕ)). OnOk c.open_stop.result (Opens name started (λ i j. begun (λ q. None) i j) b mid new p path at)) ((c.in_ok-push-in-Err.ensures {u = tt}).put) c.open_stop.ensures.opens in
     let known = known_put old mid k (Stopped anew.job at) (anew_put name started gives (λ i j. begun (λ q. None) i j) b old mid r s k stuck anew) in
     on_ok_by c.open_stop.result (λ o q x is. (let one = known q x is in (known_opens name started (λ i j. begun (λ n. None) i j) b mid new (k ∷ ks) path at o).0 q one.0 one.1)) opens
 
@@ -229,7 +229,7 @@ returns-in_ok-push-in-Err-clause-goes g c =
     let new = spots_of c.open_stop.new.bench in
     let path = c.open_stop.new.path.items in
     let at = name_of stuck in
-    let opens = subst (λ (p : List (List ℕ)). OnOk c.open_stop.result (Opens name started (λ i j. begun (λ q. None) i j) b mid new p path at)) (c.in_ok-push-in-Err.ensures {u = tt}) c.open_stop.ensures.opens in
+    let opens = subst (λ (p : List (List ℕ)). OnOk c.open_stop.result (Opens name started (λ i j. begun (λ q. None) i j) b mid new p path at)) ((c.in_ok-push-in-Err.ensures {u = tt}).put) c.open_stop.ensures.opens in
     let K = kept_view c.args.kept.now in
     let h = g.R.Rebuilder.how c.args.rebuilder.now in
     let fits = g.R.Job.Job.fits in
@@ -304,7 +304,7 @@ returns-in_ok-push-in-Err-clause-turns g c =
     let anew = subst (λ (bk : Book). TurnedAnew name started gives (λ i j. begun (λ q. None) i j) bk old mid r s k (Err stuck)) c.requires.book (rw c.in-Err.is at (c.in_ok-came.ensures {u = tt}).turned) in
     let new = spots_of c.open_stop.new.bench in
     let path = c.open_stop.new.path.items in
-    let opens = subst (λ (p : List (List ℕ)). OnOk c.open_stop.result (Opens name started (λ i j. begun (λ q. None) i j) b mid new p path (name_of stuck))) (c.in_ok-push-in-Err.ensures {u = tt}) c.open_stop.ensures.opens in
+    let opens = subst (λ (p : List (List ℕ)). OnOk c.open_stop.result (Opens name started (λ i j. begun (λ q. None) i j) b mid new p path (name_of stuck))) ((c.in_ok-push-in-Err.ensures {u = tt}).put) c.open_stop.ensures.opens in
     on_ok_by c.open_stop.result
     (λ o. record {
       outcome = Err stuck;

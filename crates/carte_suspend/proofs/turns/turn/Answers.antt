@@ -136,7 +136,7 @@ returns-in_ok-push-in-Err-clause-standing g c =
     let at = name_of stuck in
     let begun = g.R.Rebuilder.begun c.args.rebuilder.now K b in
     let waits = (stop_waits name started gives b old mid r s k c.requires.standing.stands.rules stuck turned).0 in
-    let pushed = c.in_ok-push-in-Err.ensures {u = tt} in
+    let pushed = (c.in_ok-push-in-Err.ensures {u = tt}).put in
     let opens = subst (λ (p : List (List ℕ)). OnOk c.open_stop.result (Opens name started (λ i j. begun (λ q. None) i j) b mid new p path at)) pushed c.open_stop.ensures.opens in
     let halted = turn_halts name started gives b old mid r s k c.requires.standing.stands.rules ks stuck at c.requires.standing turned waits in
     on_ok_by c.open_stop.result (λ o. stands_opens name b started (λ i j. begun (λ q. None) i j) mid new (k ∷ ks) at halted path o) opens
@@ -163,7 +163,7 @@ returns-in_ok-push-in-Err-clause-fewer g c =
     let at = name_of stuck in
     let begun = g.R.Rebuilder.begun c.args.rebuilder.now K b in
     let waits = (stop_waits name started gives b old mid r s k c.requires.standing.stands.rules stuck turned).0 in
-    let pushed = c.in_ok-push-in-Err.ensures {u = tt} in
+    let pushed = (c.in_ok-push-in-Err.ensures {u = tt}).put in
     let opens = subst (λ (p : List (List ℕ)). OnOk c.open_stop.result (Opens name started (λ i j. begun (λ q. None) i j) b mid new p path at)) pushed c.open_stop.ensures.opens in
     let known = known_put old mid k (Stopped turned.after (name_of stuck)) put in
     on_ok_by c.open_stop.result (λ o. opened_fewer name started (λ i j. begun (λ q. None) i j) b old mid new k ks path at known o) opens
@@ -190,7 +190,7 @@ returns-in_ok-push-in-Err-clause-known g c =
     let at = name_of stuck in
     let begun = g.R.Rebuilder.begun c.args.rebuilder.now K b in
     let waits = (stop_waits name started gives b old mid r s k c.requires.standing.stands.rules stuck turned).0 in
-    let pushed = c.in_ok-push-in-Err.ensures {u = tt} in
+    let pushed = (c.in_ok-push-in-Err.ensures {u = tt}).put in
     let opens = subst (λ (p : List (List ℕ)). OnOk c.open_stop.result (Opens name started (λ i j. begun (λ q. None) i j) b mid new p path at)) pushed c.open_stop.ensures.opens in
     let known = known_put old mid k (Stopped turned.after (name_of stuck)) put in
     on_ok_by c.open_stop.result (λ o q x is. (let one = known q x is in (known_opens name started (λ i j. begun (λ n. None) i j) b mid new (k ∷ ks) path at o).0 q one.0 one.1)) opens
@@ -217,7 +217,7 @@ returns-in_ok-push-in-Err-clause-goes g c =
     let at = name_of stuck in
     let begun = g.R.Rebuilder.begun c.args.rebuilder.now K b in
     let waits = (stop_waits name started gives b old mid r s k c.requires.standing.stands.rules stuck turned).0 in
-    let pushed = c.in_ok-push-in-Err.ensures {u = tt} in
+    let pushed = (c.in_ok-push-in-Err.ensures {u = tt}).put in
     let opens = subst (λ (p : List (List ℕ)). OnOk c.open_stop.result (Opens name started (λ i j. begun (λ q. None) i j) b mid new p path at)) pushed c.open_stop.ensures.opens in
     let fits = g.R.Job.Job.fits in
     on_ok_by c.open_stop.result

@@ -1,10 +1,9 @@
-use Rattle.std.proofs.Common.{subst}
-use Rattle.std.specs.Prelude.{OnOk}
+use Rattle.std.proofs.Common.{subst, IfOk}
 use Rattle.carte_record.specs.Lookups.{is_entry_of}
 use Rattle.carte_table.specs.Steps.{IsReady}
 use Rattle.carte_record.proofs.entries.Entries.make_ready.Goals as goal
 
 pub returns-clause-ok : goal.returns-clause-ok
 returns-clause-ok c =
-    subst (λ es. OnOk c.make_ready.result (IsReady is_entry_of c.args.later.now es c.make_ready.new.self)) c.self.view_is
-    (subst (λ ls. OnOk c.make_ready.result (IsReady is_entry_of ls c.self.inside.list c.make_ready.new.self)) c.later.view_is c.make_ready.ensures.ok)
+    subst (λ es. IfOk c.make_ready.result (λ left. IsReady is_entry_of c.args.later es left.items c.make_ready.new.self)) c.self.view_is
+    (subst (λ ls. IfOk c.make_ready.result (λ left. IsReady is_entry_of ls c.self.inside.list left.items c.make_ready.new.self)) c.later.view_is c.make_ready.ensures.ok)

@@ -2,7 +2,7 @@ use Rattle.std.proofs.Common.{◌≡◌, length}
 use Rattle.std.specs.Option.{option_or}
 use Rattle.carte_value.specs.declared.digest.Digest.{Digest}
 use Rattle.carte_table.specs.Lookups.{first_value}
-use Rattle.carte_table.specs.Steps.{Begins}
+use Rattle.carte_value.specs.Lists.{Begins}
 use Rattle.carte_table.proofs.store.Store.take_in.Given as goal
 
 abbrev pub invariant-loop-value : goal.invariant-loop-value

@@ -1,7 +1,7 @@
 use Rattle.std.proofs.Common.{◌≡◌, ℕ, suc, ◌+◌, ◌<◌, ◌≤◌, length, take, min, refl, sym, ◌∙◌, subst, arith, slice_index_or, slice_set}
 use Rattle.carte_name.specs.Fronts.{padded, front_of}
 use Rattle.carte_name.proofs.Fronts.{padded_set, padded_take}
-use Rattle.carte_name.proofs.front.front_of.Goals as goal
+use Rattle.carte_name.proofs.front.by_bytes.Goals as goal
 
 pub loop-at-init : goal.loop-at-init
 loop-at-init c = refl
