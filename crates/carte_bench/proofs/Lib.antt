@@ -2,6 +2,7 @@ pub mod Puts
 mod Slots
 pub mod Cores
 pub mod Turning
+pub mod Keys
 pub mod Places
 pub mod Ways
 pub mod Whys

@@ -6,7 +6,8 @@ use Rattle.carte_name.specs.Names.{name_eq}
 use Rattle.carte_value.specs.Truths.{Among, NoneTwice}
 use Rattle.carte_value.proofs.Members.{no_longer}
 use Rattle.carte_book.specs.Book.{Item, input, rule, Book, content, clean}
-use Rattle.carte_book.specs.Needs.{needs}
+use Rattle.carte_book.specs.Edits.{IsInput}
+use Rattle.carte_book.specs.Needs.{IsRule, needs}
 use Rattle.carte_book.specs.Reason.{Begins, GoesRound, GoesAstray, IsReason}
 use Rattle.carte_book.specs.Stuck.{IsBlockedBy}
 use Rattle.carte_book.specs.declared.reason.Reason.{Reason}
@@ -140,7 +141,7 @@ module _ (f : List ℕ → Onward) (P : List ℕ → Type 0) (ks : List (List �
       reasoned (rest, inl round) = (Cycle (k ∷ rest), (refl, round))
       reasoned (rest, inr astray) = (Missing (k ∷ rest), (refl, astray))
 
-module _ {J : Type 0} (fits : FitsOf J) (b : Book) (s : Spots J) (core : IsCore fits b s) (ended : HasEnded b s) where
+module _ {J : Type 0} (b : Book) (s : Spots J) (rules : (k : List ℕ) (x : Slot J) → s k ≡ Some x → IsRule b k) (no_input : (k n : List ℕ) (p : J) → s k ≡ Some (Stopped p n) → ¬ (IsInput b n)) (ended : HasEnded b s) where
   abbrev OpenOrGone : List ℕ → Type 0
   OpenOrGone n = (onward b s n ≡ gone) ⊎ IsOpen s n
 
@@ -149,11 +150,11 @@ module _ {J : Type 0} (fits : FitsOf J) (b : Book) (s : Spots J) (core : IsCore 
     where
       at : (o : Option Item) → content b n ≡ o → OpenOrGone n
       at None is = inl (rw is refl)
-      at (Some (input v)) is = absurd ((core.slots k (Stopped p n) there).2 (v, is))
+      at (Some (input v)) is = absurd (no_input k n p there (v, is))
       at (Some (rule e)) is = inr (ended.demanded k n p there (e, is), undone)
 
   waits_so : (k n : List ℕ) (p : J) → s k ≡ Some (Stopped p n) → is_done (s n) ≡ false → onward b s k ≡ waits_for n
-  waits_so k n p there undone = let is = (core.rules k (Stopped p n) there).1 in rw (is, there, undone) refl
+  waits_so k n p there undone = let is = (rules k (Stopped p n) there).1 in rw (is, there, undone) refl
 
   open_next : (k : List ℕ) → IsOpen s k → (n : List ℕ) × (onward b s k ≡ waits_for n) × OpenOrGone n
   open_next k ((x, there), undone) = at x there
@@ -164,5 +165,8 @@ module _ {J : Type 0} (fits : FitsOf J) (b : Book) (s : Spots J) (core : IsCore 
       at Out is = absurd (ended.none_out k is)
       at (Done m) is = let never : true ≡ false = rw is at undone in cc
 
-  pub ended_has_reason : (es : List (List ℕ × Slot J)) → ((q : List ℕ) → s q ≡ lookup (name_eq q) es) → (k : List ℕ) → IsOpen s k → HasReason (onward b s) k
-  ended_has_reason es are k open_k = has_path (onward b s) (IsOpen s) (keys_of es) (λ q is_open. slot_among es q is_open.0.0 (sym (are q) ∙ is_open.0.1)) open_next k open_k
+  pub stuck_has_reason : (es : List (List ℕ × Slot J)) → ((q : List ℕ) → s q ≡ lookup (name_eq q) es) → (k : List ℕ) → IsOpen s k → HasReason (onward b s) k
+  stuck_has_reason es are k open_k = has_path (onward b s) (IsOpen s) (keys_of es) (λ q is_open. slot_among es q is_open.0.0 (sym (are q) ∙ is_open.0.1)) open_next k open_k
+
+pub ended_has_reason : {J : Type 0} (fits : FitsOf J) (b : Book) (s : Spots J) → IsCore fits b s → HasEnded b s → (es : List (List ℕ × Slot J)) → ((q : List ℕ) → s q ≡ lookup (name_eq q) es) → (k : List ℕ) → IsOpen s k → HasReason (onward b s) k
+ended_has_reason fits b s core ended = stuck_has_reason b s core.rules (λ k n p is. (core.slots k (Stopped p n) is).2) ended

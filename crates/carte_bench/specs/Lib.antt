@@ -1,6 +1,7 @@
 pub mod Spots
 pub mod Steps
 pub mod Held
+pub mod Keys
 pub mod Turns
 pub mod Waits
 pub mod Ended

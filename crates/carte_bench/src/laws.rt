@@ -11,6 +11,7 @@ ghost use Rattle.carte_bench.specs.declared.slot.Slot.TheVariants.{Done};
 ghost use Rattle.carte_effect.specs.Ledger.{Ledger};
 ghost use Rattle.carte_bench.specs.Spots.{Spots, AreNamed};
 ghost use Rattle.carte_bench.specs.Steps.{State, Steps, Comes, IsCore};
+ghost use Rattle.carte_bench.specs.Keys.{AreKeyed};
 ghost use Rattle.carte_bench.specs.Turns.{Turned};
 
 use crate::Bench;
@@ -27,10 +28,12 @@ pub fn done_once<J: Job + Drop>()
     ensures { (b : SomeBook) (s d : State J) (k : List ℕ) (m : SomeMade) → Steps J.name J.fits J.gives b s d → s.spots k ≡ Some (Done m) → d.spots k ≡ Some (Done m) }
 {}
 
-/// A turn keeps what holds after every order of steps, and that each job stands at its name.
+/// A turn keeps what holds after every order of steps, and that each job stands at its name. Whatever the jobs are driven
+/// over, what is done has the name at which it stands as its key.
 pub fn turn_keeps<J: Job + Drop>()
     ensures core { (b : SomeBook) (old new : Spots J) (r t : Ledger) (k : List ℕ) (m : Option SomeMade) → Turned J.name J.started J.gives b old new r t k m → IsCore J.fits b old → IsCore J.fits b new }
     ensures names { (b : SomeBook) (old new : Spots J) (r t : Ledger) (k : List ℕ) (m : Option SomeMade) → Turned J.name J.started J.gives b old new r t k m → AreNamed J.name old → AreNamed J.name new }
+    ensures keys { (b : SomeBook) (old new : Spots J) (r t : Ledger) (k : List ℕ) (m : Option SomeMade) → Turned J.name J.started J.gives b old new r t k m → AreKeyed J.keyed old → AreKeyed J.keyed new }
 {}
 
 /// Over jobs that fit, a path of waits from a target is why the target has no value.

@@ -1,7 +1,8 @@
-ghost use Rattle.std.specs.Prelude.{◌≡◌, true, Some, None, IfOk};
+ghost use Rattle.std.specs.Prelude.{◌≡◌, true, Some, None, IfOk, OnErr};
 ghost use Rattle.carte_bench.specs.Held.{spots_of, book_of};
 ghost use Rattle.carte_effect.specs.Jobs.{Gave, Counted};
-ghost use Rattle.carte_bench.specs.Spots.{is_ready, name_of, seen_in, AreNamed};
+ghost use Rattle.carte_bench.specs.Spots.{PutAt, is_ready, name_of, seen_in, AreNamed};
+ghost use Rattle.carte_bench.specs.declared.slot.Slot.TheVariants as slot;
 ghost use Rattle.carte_bench.specs.Turns.{stops_in, Turned, TurnedTo};
 
 use crate::look::Shown;
@@ -12,7 +13,7 @@ use std::alloc::Global;
 
 impl<J: Job + Drop> Bench<'_, J> {
     /// One turn of a key that is ready: its job is taken, driven over what the bench shows, and put back. The answer is
-    /// what it made, or nothing where it stopped. Where there is no memory the job may be lost.
+    /// what it made, or nothing where it stopped. Where there is no memory the job is lost, and nothing else.
     pub fn turn(
         &mut self,
         alloc: Global,
@@ -22,6 +23,7 @@ impl<J: Job + Drop> Bench<'_, J> {
         requires ready { is_ready (spots_of self.old) (spots_of self.old name.now) ≡ true }
         requires named { AreNamed J.name (spots_of self.old) }
         ensures turned { IfOk result (Turned J.name J.started J.gives (book_of self.old) (spots_of self.old) (spots_of self.new) runs.old runs.new name.now) }
+        ensures refused { OnErr result (PutAt (spots_of self.old) (spots_of self.new) name.now slot.Out) }
         ensures book { book_of self.new ≡ book_of self.old }
     {
         match self.turn_to(alloc, name, runs)? {
@@ -41,6 +43,7 @@ impl<J: Job + Drop> Bench<'_, J> {
         requires ready { is_ready (spots_of self.old) (spots_of self.old name.now) ≡ true }
         requires named { AreNamed J.name (spots_of self.old) }
         ensures turned { IfOk result (TurnedTo J.name J.started J.gives (book_of self.old) (spots_of self.old) (spots_of self.new) runs.old runs.new name.now) }
+        ensures refused { OnErr result (PutAt (spots_of self.old) (spots_of self.new) name.now slot.Out) }
         ensures book { book_of self.new ≡ book_of self.old }
     {
         let at = self.find(name);

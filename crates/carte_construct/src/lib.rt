@@ -47,6 +47,7 @@ impl Rebuilder for Construct {
     ghost use Rattle.carte_sound.specs.Held.{tracing};
     ghost use Rattle.carte_rebuild.specs.Traced.{IsTracedJob};
     ghost use Rattle.carte_rebuild.proofs.TracedJobs.{traced_fits, traced_goes};
+    ghost use Rattle.carte_rebuild.proofs.TracedKeys.{traced_keyed};
     ghost use Rattle.carte_rebuild.proofs.TracedChecks.{of_constructive};
 
     type Job = Tries;
@@ -69,6 +70,8 @@ impl Rebuilder for Construct {
     fn method(&self) -> Method {
         Method::Tracing(Way::Constructive)
     }
+
+    ghost keyed = { λ r K b t k p job. traced_keyed Constructive K b t k p job };
 
     ghost fits = { λ r K b H t k p base job. traced_fits Constructive of_constructive K b H base t k p job };
 

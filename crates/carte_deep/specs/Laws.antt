@@ -28,6 +28,7 @@ use Rattle.carte_sound.proofs.Entries.{both_true}
 use Rattle.carte_sound.proofs.Deep.{deep_held}
 use Rattle.carte_sound.proofs.SoNow.{so_links, links_so}
 use Rattle.carte_note.specs.Right.{IsRightMade}
+use Rattle.carte_rebuild.specs.Keyed.{EndsAs, left_ends_as, task_ends_as}
 use Rattle.carte_rebuild.specs.Trying.{task_left, Gives, FitsLeft}
 use Rattle.carte_rebuild.specs.TryingFits.{known_more}
 use Rattle.carte_rebuild.specs.Goes.{IsPart, may_ask, GoesOver}
@@ -138,3 +139,13 @@ module _ (K : SomeKept) (b : Book) (H : List Book) (base : IsBase K b H) (t : Tr
       whole_goes (tracing Deep) K b k whole_of is_whole left_in (λ u j. IsDeepJob K b u k j) t part grown is_part
       (λ c n known went. record { formula = job.formula; is_rule = job.is_rule; found = job.found; finds = job.finds; within = is_part.part; further = c; known = known; went = went })
       p job.further job.known job.went a step q gives
+
+-- the end that is given again has the key, and so has that of the task
+again_keyed : (K : SomeKept) (b : Book) (k : List ℕ) (m : Asks Made) (found : Option Outcome) → Finds K b k found → EndsAs m k → EndsAs (again_or found m) k
+again_keyed K b k m None none keyed = keyed
+again_keyed K b k m (Some o) (t, kept, gives) keyed = ap (λ (x : Outcome). x.key) (given_is K.stored b k t o gives).is
+
+pub deep_keyed : (K : SomeKept) (b : Book) (t : Truth) (k : List ℕ) (p : DeepJob) → IsDeepJob K b t k p → EndsAs (left_in p) k
+deep_keyed K b t k p job =
+    let task = task_left k (asks b.kind job.formula) in
+    left_ends_as (again_or job.found task) (left_in p) job.further k (again_keyed K b k task job.found job.finds (task_ends_as k (asks b.kind job.formula))) job.went

@@ -50,6 +50,7 @@ impl DeepJob {
 impl Job for DeepJob {
     ghost use Rattle.carte_rebuild.specs.Trying.{Gives, FitsLeft};
     ghost use Rattle.carte_rebuild.specs.TryingFits.{tries_fits_on};
+    ghost use Rattle.carte_rebuild.specs.Keyed.{EndsAs, tries_keyed_on};
     ghost use Rattle.carte_deep.specs.Work.{name_in, has_begun, left_in};
 
     ghost name = { name_in };
@@ -59,6 +60,10 @@ impl Job for DeepJob {
     ghost gives = { λ p t a step q. Gives (left_in p) t a step (left_in q) };
 
     ghost fits = { λ p t k v needs asks. FitsLeft (left_in p) t k v needs asks };
+
+    ghost keyed = { λ p k. EndsAs (left_in p) k };
+
+    ghost keyed_on = { λ p t k a step q. tries_keyed_on left_in p q t k a step };
 
     ghost fits_on = { λ p t part k v needs asks a step q. tries_fits_on left_in p q t part k v needs asks a step };
 

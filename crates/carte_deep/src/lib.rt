@@ -50,7 +50,7 @@ impl Rebuilder for Deep {
     ghost use Rattle.carte_record.specs.declared.way.Way.TheVariants.{Deep as InDepth};
     ghost use Rattle.carte_sound.specs.Held.{tracing};
     ghost use Rattle.carte_deep.specs.Jobs.{IsDeepJob};
-    ghost use Rattle.carte_deep.specs.Laws.{deep_fits, deep_goes};
+    ghost use Rattle.carte_deep.specs.Laws.{deep_keyed, deep_fits, deep_goes};
 
     type Job = DeepJob;
 
@@ -72,6 +72,8 @@ impl Rebuilder for Deep {
     fn method(&self) -> Method {
         Method::Tracing(Way::Deep)
     }
+
+    ghost keyed = { λ r K b t k p job. deep_keyed K b t k p job };
 
     ghost fits = { λ r K b H t k p base job. deep_fits K b H base t k p job };
 

@@ -1,5 +1,7 @@
 -- What a job under dirty bits makes is right.
-use Rattle.std.proofs.Common.{◌≡◌, ℕ, Bool, true, false, cond, List, [], Option, Some, None, Ok, Err, refl, ap, sym, ◌∙◌, subst}
+use Rattle.std.proofs.Common.{◌≡◌, ℕ, Bool, true, false, cond, List, [], Option, Some, None, Ok, Err, refl, ap, sym, ◌∙◌, subst, inl, inr}
+use Rattle.carte_value.specs.declared.value.Value.{Value}
+use Rattle.carte_value.specs.Lists.{Has}
 use Rattle.carte_value.specs.Truths.{Truth, Extends}
 use Rattle.carte_value.specs.Asks.{Asks}
 use Rattle.carte_value.specs.Once.{Answers}
@@ -20,13 +22,15 @@ use Rattle.carte_sound.specs.True.{links_to}
 use Rattle.carte_sound.proofs.Held.{fresh_result}
 use Rattle.carte_note.specs.Right.{IsRightMade}
 use Rattle.carte_rebuild.specs.declared.tries.Tries.{Tries}
+use Rattle.carte_rebuild.specs.Keyed.{EndsAs, left_ends_as, task_ends_as, tries_end_as}
 use Rattle.carte_rebuild.specs.Trying.{task_left, tries, Gives, FitsLeft}
 use Rattle.carte_rebuild.specs.TryingFits.{known_more}
 use Rattle.carte_rebuild.specs.Left.{left_of}
 use Rattle.carte_rebuild.specs.Goes.{IsPart, may_ask, GoesOver}
 use Rattle.carte_rebuild.proofs.TaskAlone.{alone_ran, alone_needs, alone_there, alone_before}
 use Rattle.carte_rebuild.proofs.Wholes.{IsRightWhole, whole_fits, whole_goes}
-use Rattle.carte_dirty.specs.Fresh.{value_of, check_for, fresh_checks}
+use Rattle.carte_task.specs.Checking.{Checking}
+use Rattle.carte_dirty.specs.Fresh.{value_of, fresh_value, check_for, fresh_checks}
 use Rattle.carte_dirty.specs.Jobs.{IsDirtyJob}
 
 module _ (K : SomeKept) (b : Book) (H : List Book) (base : IsBase K b H) (k : List ℕ) (f : Tree) (is_rule : content b k ≡ Some (rule f)) where
@@ -91,3 +95,16 @@ module _ (K : SomeKept) (b : Book) (H : List Book) (base : IsBase K b H) (t : Tr
       whole_goes dirty K b k whole_of (dirty_whole K b H base k job.formula job.is_rule) left_of (λ u j. IsDirtyJob K b u k j) t part grown is_part
       (λ c n known went. record { formula = job.formula; is_rule = job.is_rule; within = is_part.part; further = c; known = known; went = went })
       p job.further job.known job.went a step q gives
+
+-- the check of a key has the key
+check_keyed : (k : List ℕ) (o : Option Value) (c : Checking) → Has (check_for k o) c → c.earlier.key ≡ k
+check_keyed k None c has = absurd has
+check_keyed k (Some v) c (inl same) = ap (λ (x : Checking). x.earlier.key) same
+check_keyed k (Some v) c (inr never) = absurd never
+
+pub dirty_keyed : (K : SomeKept) (b : Book) (t : Truth) (k : List ℕ) (p : Tries) → IsDirtyJob K b t k p → EndsAs (left_of p) k
+dirty_keyed K b t k p job =
+    let task = task_left k (asks b.kind job.formula) in
+    left_ends_as (tries (fresh_checks K k) task) (left_of p) job.further k
+    (tries_end_as k (fresh_checks K k) task (check_keyed k (fresh_value K k)) (task_ends_as k (asks b.kind job.formula)))
+    job.went

@@ -64,7 +64,7 @@ fn kept_checks(alloc: Global, kept: &Kept, key: &Name) -> Result<Checks, NoMemor
 impl Rebuilder for Dirty {
     ghost use Rattle.carte_sound.specs.Held.{dirty};
     ghost use Rattle.carte_dirty.specs.Jobs.{IsDirtyJob};
-    ghost use Rattle.carte_dirty.specs.Laws.{dirty_fits, dirty_goes};
+    ghost use Rattle.carte_dirty.specs.Laws.{dirty_keyed, dirty_fits, dirty_goes};
 
     type Job = Tries;
 
@@ -86,6 +86,8 @@ impl Rebuilder for Dirty {
     fn method(&self) -> Method {
         Method::Dirty
     }
+
+    ghost keyed = { λ r K b t k p job. dirty_keyed K b t k p job };
 
     ghost fits = { λ r K b H t k p base job. dirty_fits K b H base t k p job };
 

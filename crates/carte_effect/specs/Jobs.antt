@@ -78,3 +78,11 @@ StepFits fits t k v needs asks part no_memory q = fits q t k v needs asks
 pub record DriveFits {J : Type 0} (fits : J → Truth → List ℕ → Option Value → List (List ℕ) → List (List ℕ) → Type 0) (t : Truth) (k : List ℕ) (v : Option Value) (needs asks : List (List ℕ)) (part : Truth) (further : Answers) (step : Step) (q : J) : Type 0 where
   pub asked : (j : List ℕ) → Among (names_of further) j → Among asks j
   pub step_fits : StepFits fits t k v needs asks part step q
+
+-- 3. jobs of a key
+
+-- what it came to has the key, or what is left will have it
+abbrev pub StepKeyed : {J : Type 0} → (J → List ℕ → Type 0) → List ℕ → Step → J → Type 0
+StepKeyed keyed k (came made) q = (outcome_of made).key ≡ k
+StepKeyed keyed k (stopped j) q = keyed q k
+StepKeyed keyed k no_memory q = keyed q k

@@ -3,7 +3,7 @@ ghost use Rattle.carte_value.specs.declared.value.Value.{Value as SomeValue};
 ghost use Rattle.carte_value.specs.Truths.{Truth, Extends};
 ghost use Rattle.carte_effect.specs.Effects.{SameStops};
 ghost use Rattle.carte_value.specs.Once.{Answers};
-ghost use Rattle.carte_effect.specs.Jobs.{Step, Gave, Counted, DriveFits};
+ghost use Rattle.carte_effect.specs.Jobs.{Step, Gave, Counted, DriveFits, StepKeyed};
 
 use crate::{Effect, Halt, Made, Runs};
 use carte_value::Name;
@@ -23,6 +23,9 @@ pub trait Job {
     /// It is a job for this key over this truth, in which the key may have a value. It stops only at the first names, its needs, and asks only for the second.
     ghost fits: { Self → Truth → List ℕ → Option SomeValue → List (List ℕ) → List (List ℕ) → Type 0 };
 
+    /// Whatever it comes to has this key, over any truth.
+    ghost keyed: { Self → List ℕ → Type 0 };
+
     fn key(&self) -> &Name
         ensures { result.now ≡ name self.now };
 
@@ -41,4 +44,7 @@ pub trait Job {
 
     /// Over any part of its truth a job that fits asks only for what it may ask for. It ends with its key and value, and where its task ran with its needs as links; or it stops at a need that the part lacks, or has no memory, and fits on.
     ghost fits_on: { (p : Self) (t part : Truth) (k : List ℕ) (v : Option SomeValue) (needs asks : List (List ℕ)) (further : Answers) (step : Step) (q : Self) → fits p t k v needs asks → Extends part t → gives p part further step q → DriveFits fits t k v needs asks part further step q };
+
+    /// Over whatever truth a job of a key is driven, it comes to something with this key, or goes on as a job of it.
+    ghost keyed_on: { (p : Self) (t : Truth) (k : List ℕ) (further : Answers) (step : Step) (q : Self) → keyed p k → gives p t further step q → StepKeyed keyed k step q };
 }

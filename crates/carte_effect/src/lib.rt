@@ -9,8 +9,8 @@
 //! no job made, by the names at which they were met.
 //!
 //! The form chosen: an effect means a truth (what each name has), the stops that are its own for a name, and a log where it keeps one. A
-//! job has a meaning too, in ghost members: what a drive over a truth gives by which further answers, and when a job fits a key. The law of a job,
-//! `fits_on`, speaks of these alone, so a scheduler's proof knows neither machines nor checks.
+//! job has a meaning too, in ghost members: what a drive over a truth gives by which further answers, and when a job fits a key. The laws of a job,
+//! `fits_on` and `keyed_on`, speak of these alone, so a scheduler's proof knows neither machines nor checks.
 //!
 //! Turned down:
 //! - One meaning of jobs for all, as a tree of what they ask: each kind of job would have to be turned into it, and a machine is more than

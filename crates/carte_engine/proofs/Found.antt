@@ -3,11 +3,11 @@ use Rattle.std.proofs.Common.{◌≡◌, ℕ, List, [], ◌∷◌, ◌++◌, Res
 use Rattle.std.specs.Prelude.{IfOk}
 use Rattle.carte_book.specs.Book.{Book}
 use Rattle.carte_record.specs.declared.batch.Batch.{Batch}
-use Rattle.carte_record.specs.Kept.{SomeKept}
 use Rattle.carte_sound.specs.Held.{How}
 use Rattle.carte_state.specs.Runs.{BeginAll}
 use Rattle.carte_state.specs.Versions.{AnyKept, InOne, InTwo}
 use Rattle.carte_engine.specs.Answers.{IsAnswer, IsPlan, LeadsOver}
+use Rattle.carte_engine.specs.Reckoned.{TellsFinished}
 use Rattle.carte_engine.specs.Versions.{OverFound, Raises, Under, kept_for}
 use Rattle.carte_engine.specs.declared.answer.Answer.{Answer}
 use Rattle.carte_engine.specs.declared.answer.Plan.{Plan}
@@ -38,6 +38,11 @@ module _ (s : Scheduler) (h : How) (b : Book) (targets : List (List ℕ)) (p : P
       → Under A b (IfOk r (λ q. IsPlan s h A b targets q.batches.items q.answer))
   if_plan A (Ok q) raises plan H sound distinct = raised_plan A q raises plan H sound distinct
   if_plan A (Err e) raises plan H sound distinct = tt
+
+-- the answer stays
+pub if_tells : {E : Type 0} (A : AnyKept) (b : Book) (targets : List (List ℕ)) (p : Plan) (r : Result Plan E) → IfOk r (Raises A b p) → TellsFinished b targets p.answer → IfOk r (λ q. TellsFinished b targets q.answer)
+if_tells A b targets p (Ok q) raises tells = subst (TellsFinished b targets) (sym raises.answer) tells
+if_tells A b targets p (Err e) raises tells = tt
 
 pub if_begins : {E : Type 0} (A : AnyKept) (b : Book) (p : Plan) (r : Result Plan E) → IfOk r (Raises A b p) → IfOk r (λ q. BeginAll A q.batches.items)
 if_begins A b p (Ok q) raises = begins_all (λ K Bs. Bs ≡ p.batches.items) A b q.batches.items raises.batches

@@ -1,6 +1,7 @@
 pub mod Sorting
 pub mod Counting
 pub mod Running
+pub mod Valued
 pub mod Marking
 pub mod Succeeding
 pub mod Refusing

@@ -2,7 +2,7 @@
 use Rattle.std.proofs.Common.{◌≡◌, ℕ, Bool, true, false, cond, List, [], Option, Some, None, option_map, Result, Ok, Err, refl, ap, sym, ◌∙◌, subst}
 use Rattle.std.specs.Prelude.{IfOk}
 use Rattle.std.proofs.Math.Path.{fun_ext}
-use Rattle.carte_value.specs.Truths.{Among, IsListOf}
+use Rattle.carte_value.specs.Truths.{Among}
 use Rattle.carte_book.specs.Book.{Book}
 use Rattle.carte_record.specs.declared.entry.Entry.{Entry}
 use Rattle.carte_record.specs.declared.kept.Kept.{Kept}
@@ -11,7 +11,6 @@ use Rattle.carte_record.specs.Kept.{SomeKept, kept_view, staled}
 use Rattle.carte_record.specs.Lookups.{first_entry}
 use Rattle.carte_record.specs.Marked.{CanBeMarked, lists_marked}
 use Rattle.carte_sound.specs.Begun.{begin}
-use Rattle.carte_sound.specs.Marks.{IsMarked}
 use Rattle.carte_mark.specs.declared.base.Begun.{Begun}
 use Rattle.carte_mark.specs.Bases.{BeginsWith, IsBegun, beginning_of}
 use Rattle.carte_state.specs.States.{Stand, any_in, kept_in}

@@ -1,23 +1,22 @@
 -- What work that is done rightly has made.
-use Rattle.std.proofs.Common.{◌≡◌, ℕ, ◌≤◌, cond, List, [], ◌∷◌, Option, Some, None, map, length, refl, ap, sym, ◌∙◌, subst, inl, inr, arith}
+use Rattle.std.proofs.Common.{◌≡◌, ℕ, ◌≤◌, Bool, true, false, cond, List, [], ◌∷◌, Option, Some, None, length, refl, ap, sym, ◌∙◌, subst, inl, inr, arith}
 use Rattle.carte_name.specs.Names.{name_eq}
 use Rattle.carte_value.specs.Truths.{Among, IsListOf, NoneTwice}
-use Rattle.carte_value.proofs.Members.{name_apart, no_longer, same_or_not}
+use Rattle.carte_value.specs.declared.value.Value.{Value}
+use Rattle.carte_value.proofs.Members.{no_longer}
 use Rattle.carte_effect.specs.Ledger.{given_up as left_open}
 use Rattle.carte_effect.specs.declared.outcome.Made.{Made}
 use Rattle.carte_effect.specs.declared.outcome.Made.TheVariants.{Ran, Reused}
 use Rattle.carte_book.specs.Book.{Book, Item, input, rule, content, clean}
-use Rattle.carte_book.specs.Needs.{IsRule, target}
 use Rattle.carte_book.specs.Reason.{AllClean, IsClean}
 use Rattle.carte_book.proofs.Clean.{clean_input, clean_nothing}
 use Rattle.carte_record.specs.Kept.{SomeKept}
-use Rattle.carte_table.proofs.Names.{name_eq_self}
+use Rattle.carte_table.proofs.Names.{name_eq_is}
 use Rattle.carte_sound.specs.Begun.{Beginning, IsBeginning, begin}
 use Rattle.carte_sound.specs.Chains.{IsRightChain}
 use Rattle.carte_sound.specs.Held.{How, IsHeld}
 use Rattle.carte_sound.specs.Left.{keys_of}
-use Rattle.carte_sound.specs.Treated as treated
-use Rattle.carte_sound.specs.Treated.{IsDoneRestarting, IsRun, IsTreatedRestarting}
+use Rattle.carte_sound.specs.Treated.{IsTreatedRestarting}
 use Rattle.carte_note.specs.declared.finished.Finished.{Finished}
 use Rattle.carte_note.specs.Lists.{finished_of}
 use Rattle.carte_note.specs.Right.{AreRight, IsRightFinished, IsRightMade, finishes_of, has_run, key_of, ran_in}
@@ -33,28 +32,36 @@ use Rattle.carte_engine.proofs.Counting.{none_given_up}
 use Rattle.carte_engine.proofs.Sorting.{rising_once, same_length, sorted, sorted_list}
 
 module _ (h : How) (M : SomeKept) (b : Book) where
-  -- a finished key is found, and is right
-  found : (fs : List Finished) (k : List ℕ) → AreRight h M b fs → Among (keys_of (finishes_of fs)) k → (f : Finished) × (finished_of fs k ≡ Some f) × IsRightFinished h M b k f
-  found [] k right nowhere = absurd nowhere
-  found (f ∷ fs) k right among = elim (same_or_not k (key_of f)) [
-    | inl same ↦ (f, ap (λ t. cond t (Some f) (finished_of fs k)) (ap (name_eq k) (sym same) ∙ name_eq_self k), subst (λ j. IsRightFinished h M b j f) (sym same) right.0)
-    | inr other ↦ elim among [
-      | inl same ↦ absurd (other same)
-      | inr later ↦ (let x = found fs k right.1 later in (x.0, ap (λ t. cond t (Some f) (finished_of fs k)) (name_apart k (key_of f) other) ∙ x.1, x.2))
-    ]
-  ]
-
-  value_is : (fs : List Finished) (k : List ℕ) → AreRight h M b fs → (IsRule b k → Among (keys_of (finishes_of fs)) k) → IsClean b k → clean b k ≡ Some (value_found b fs k)
-  value_is fs k right each is_clean = on (content b k) refl
+  -- a finished key that is found is right
+  right_of : (fs : List Finished) (k : List ℕ) (f : Finished) → AreRight h M b fs → finished_of fs k ≡ Some f → IsRightFinished h M b k f
+  right_of [] k f right is = cc
+  right_of (g ∷ gs) k f right is = on (name_eq k (key_of g)) refl is (right_of gs k f right.1)
     where
-      on : (o : Option Item) → content b k ≡ o → clean b k ≡ Some (value_at o (finished_of fs k))
-      on None none = absurd (let e : Some is_clean.0 ≡ None = sym is_clean.1 ∙ clean_nothing b k none in cc)
-      on (Some (input v)) there = clean_input b k v there
-      on (Some (rule e)) there = let x = found fs k right (each (e, there)) in x.2.made.value ∙ ap (λ o. Some (value_made o)) (sym x.1)
+      on : (t : Bool) → name_eq k (key_of g) ≡ t → cond t (Some g) (finished_of gs k) ≡ Some f → (finished_of gs k ≡ Some f → IsRightFinished h M b k f) → IsRightFinished h M b k f
+      on true same is rest =
+          let e : g ≡ f = cc in
+          subst (IsRightFinished h M b k) e (subst (λ j. IsRightFinished h M b j g) (sym (name_eq_is k (key_of g) same)) right.0)
+      on false apart is rest = rest is
 
-  values_are : (fs : List Finished) (ks : List (List ℕ)) → ((k : List ℕ) → Among ks k → IsClean b k → clean b k ≡ Some (value_found b fs k)) → AllClean b ks → AreValues (clean b) ks (map (value_found b fs) ks)
-  values_are fs [] each all = tt
-  values_are fs (k ∷ ks) each all = (each k (inl refl) all.0, values_are fs ks (λ j later. each j (inr later)) all.1)
+  -- a value that is found is clean, where there is a clean one
+  found_clean : (fs : List Finished) (k : List ℕ) (v : Value) → AreRight h M b fs → IsClean b k → value_found b fs k ≡ Some v → clean b k ≡ Some v
+  found_clean fs k v right is_clean found = on (content b k) refl found
+    where
+      made : (o : Option Finished) → finished_of fs k ≡ o → value_made o ≡ Some v → clean b k ≡ Some v
+      made None none is = cc
+      made (Some f) there is = (right_of fs k f right there).made.value ∙ is
+
+      on : (o : Option Item) → content b k ≡ o → value_at o (finished_of fs k) ≡ Some v → clean b k ≡ Some v
+      on None none is = absurd (let e : Some is_clean.0 ≡ None = sym is_clean.1 ∙ clean_nothing b k none in cc)
+      on (Some (input u)) there is = clean_input b k u there ∙ is
+      on (Some (rule e)) there is = made (finished_of fs k) refl is
+
+  -- and all of them
+  all_clean : (fs : List Finished) (ks : List (List ℕ)) (vs : List Value) → AreRight h M b fs → AllClean b ks → AreValues (value_found b fs) ks vs → AreValues (clean b) ks vs
+  all_clean fs [] [] right clean_ones found = tt
+  all_clean fs [] (v ∷ vs) right clean_ones found = absurd found
+  all_clean fs (k ∷ ks) [] right clean_ones found = absurd found
+  all_clean fs (k ∷ ks) (v ∷ vs) right clean_ones found = (found_clean fs k v right clean_ones.0 found.0, all_clean fs ks vs right clean_ones.1 found.1)
 
   -- exactly those that aren't held ran
   pub ran_only : (fs : List Finished) (k : List ℕ) → AreRight h M b fs → Among (ran_in fs) k → Among (keys_of (finishes_of fs)) k × ¬ (IsHeld h M b k)
@@ -90,12 +97,7 @@ keys_length : (fs : List Finished) → length (keys_of (finishes_of fs)) ≡ len
 keys_length [] = refl
 keys_length (f ∷ fs) = omega (arith, keys_length fs)
 
--- a target that is a rule is done
-target_done : (s : Scheduler) (h : How) (M : SomeKept) (b : Book) (targets : List (List ℕ)) (k : List ℕ) → Among targets k → IsRule b k → IsClean b k → IsDoneBy s h M b targets k
-target_done Topological h M b targets k among is_rule is_clean = ((is_rule, target among), is_clean)
-target_done Restarting h M b targets k among is_rule is_clean = (treated.IsTreatedRestarting.target among is_rule, is_clean)
-target_done Suspending h M b targets k among is_rule is_clean = (treated.IsTreated.target among is_rule, is_clean)
-
+-- what is served has clean values
 served_clean : (s : Scheduler) (b : Book) (targets : List (List ℕ)) → IsServed s b targets → AllClean b targets
 served_clean Topological b targets served = served.1
 served_clean Restarting b targets served = served
@@ -140,12 +142,11 @@ succeeds s h K b targets x w built begins served work reckoned starts =
     let fs = w.finished in
     let keys = keys_of (finishes_of fs) in
     let done = sorted_list keys in
-    let each : (k : List ℕ) → Among targets k → IsClean b k → clean b k ≡ Some (value_found b fs k) = λ k among is_clean. value_is h M b fs k work.right (λ is_rule. work.order.each k (target_done s h M b targets k among is_rule is_clean)) is_clean in
     let fewer : length built.ran ≤ length keys = no_longer built.ran keys (rising_once built.ran reckoned.ran.rising) (λ k there. (ran_only h M b fs k work.right (reckoned.ran.only k there)).0) in
     let all : length keys ≡ length (sorted keys) = same_length keys (sorted keys) work.order.once (rising_once (sorted keys) done.rising) done.each done.only in
     record {
       served = served;
-      values = subst (AreValues (clean b) targets) (sym reckoned.values) (values_are h M b fs targets each (served_clean s b targets served));
+      values = all_clean h M b fs targets built.values work.right (served_clean s b targets served) reckoned.values;
       begun = x;
       begins = begins;
       ran = record {

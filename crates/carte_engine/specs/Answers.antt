@@ -1,5 +1,5 @@
 -- What a build answers, and the batches that it may commit.
-use Rattle.std.specs.Prelude.{ℕ, ◌≡◌, ◌+◌, ◌↔◌, List, [], ◌∷◌, ◌++◌, length, Some}
+use Rattle.std.specs.Prelude.{ℕ, ◌≡◌, ◌+◌, ◌↔◌, List, [], ◌∷◌, length, Some}
 use Rattle.carte_value.specs.declared.value.Value.{Value}
 use Rattle.carte_value.specs.Truths.{Among, IsListOf, NoneTwice, Truth}
 use Rattle.carte_effect.specs.Ledger.{Ledger, given_up as left_open, no_runs}

@@ -6,6 +6,7 @@ ghost use Rattle.carte_state.specs.Folding.{IsBadState};
 ghost use Rattle.carte_state.specs.Runs.{AreUnmarked, BeginAll};
 ghost use Rattle.carte_state.specs.States.{IsLoaded, any_in, kept_in};
 ghost use Rattle.carte_engine.specs.Answers.{IsPlan};
+ghost use Rattle.carte_engine.specs.Reckoned.{TellsFinished};
 ghost use Rattle.carte_engine.specs.Versions.{Under, kept_for, kept_or};
 
 use crate::basis::{begin_on, raised};
@@ -131,8 +132,9 @@ impl Engine {
     }
 
     /// Works out a build of the targets: what it answers, and the batches that it brings to the state. Nothing is changed,
-    /// and no call of a disk is made. What is known of it holds where what is kept is sound, for whatever history. Where
-    /// that is of version 1, the first batch makes version 2 of it, and the build is worked out over what that leaves.
+    /// and no call of a disk is made. What is known of it holds where what is kept is sound, for whatever history; and
+    /// whatever is kept, each value that is answered is that of an input, or of a key that was finished. Where what is kept
+    /// is of version 1, the first batch makes version 2 of it, and the build is worked out over what that leaves.
     ///
     /// Over a state of version 1 the digest of the book's rules is asked for, so whoever builds lets the book know it first
     /// (`Book::know_digest`).
@@ -155,6 +157,7 @@ impl Engine {
         ensures begins { IfOk result (λ p. BeginAll (any_in self.old) p.batches.items) }
         ensures plans { Under (any_in self.old) (book_view book.now)
             (IfOk result (λ p. IsPlan scheduler (R.how rebuilder.now) (any_in self.old) (book_view book.now) targets.now p.batches.items p.answer)) }
+        ensures tells { IfOk result (λ p. TellsFinished (book_view book.now) targets.now p.answer) }
     {
         let basis = begin_on(alloc, &mut self.state, book)?;
         let plan = plan_over(

@@ -14,7 +14,8 @@ ghost use Rattle.carte_engine.specs.declared.scheduler.Scheduler.{Scheduler as S
 ghost use Rattle.carte_engine.specs.Answers.{IsPlan};
 ghost use Rattle.carte_engine.specs.Versions.{IsUp, Raises, Under};
 ghost use Rattle.carte_plan.specs.Cuts.{AllUnmarked};
-ghost use Rattle.carte_engine.specs.Reckoned.{EndsBy, AreBatchesOf};
+ghost use Rattle.carte_rebuild.specs.Ends.{HasTargets};
+ghost use Rattle.carte_engine.specs.Reckoned.{EndsBy, AreBatchesOf, TellsFinished};
 
 use crate::reckon::reckon;
 use crate::{Answer, Plan, Scheduler};
@@ -48,6 +49,7 @@ pub(crate) fn plan_over<R: Rebuilder, G: Gate, T: Threads + Sync>(
     ensures unmarked { IfOk result (λ p. AreUnmarked p.batches.items) }
     ensures plans { let h = R.how rebuilder.now in let b = book_view book.now in (K : SomeKept) → BeginsWith K b begun.now (kept_view base.now)
         → Under (InTwo K) b (IfOk result (λ p. IsPlan scheduler h (InTwo K) b targets.now p.batches.items p.answer)) }
+    ensures tells { IfOk result (λ p. TellsFinished (book_view book.now) targets.now p.answer) }
 {
     let end = run(
         rt, alloc, rebuilder, base, book, scheduler, workers, targets, gate,
@@ -67,7 +69,8 @@ fn run<R: Rebuilder, G: Gate, T: Threads + Sync>(
     targets: &Names,
     gate: &G,
 ) -> Result<WorkEnd, NoMemory>
-    ensures { IfOk result (EndsBy scheduler (R.how rebuilder.now) (kept_view kept.now) (book_view book.now) targets.now) }
+    ensures ends { IfOk result (EndsBy scheduler (R.how rebuilder.now) (kept_view kept.now) (book_view book.now) targets.now) }
+    ensures targets { IfOk result (HasTargets (book_view book.now) targets.now) }
 {
     match scheduler {
         Scheduler::Topological => carte_topo::build(alloc, rebuilder, kept, book, targets),
@@ -89,9 +92,11 @@ fn planned<R: Rebuilder>(
     targets: &Names,
     end: WorkEnd,
 ) -> Result<Plan, NoMemory>
+    requires { HasTargets (book_view book.now) targets.now end }
     ensures unmarked { IfOk result (λ p. AreUnmarked p.batches.items) }
     ensures plans { let h = R.how rebuilder.now in let b = book_view book.now in (s : SomeScheduler) (K : SomeKept) → BeginsWith K b begun.now (kept_view base.now)
         → EndsBy s h (kept_view base.now) b targets.now end → Under (InTwo K) b (IfOk result (λ p. IsPlan s h (InTwo K) b targets.now p.batches.items p.answer)) }
+    ensures tells { IfOk result (λ p. TellsFinished (book_view book.now) targets.now p.answer) }
 {
     match end {
         WorkEnd::All(work) => {

@@ -2,6 +2,8 @@ ghost use Rattle.std.specs.Prelude.{◌≡◌, IfOk, Err};
 ghost use Rattle.carte_book.specs.Book.{book_view};
 ghost use Rattle.carte_book.specs.Reason.{IsReason};
 ghost use Rattle.carte_book.specs.declared.reason.Reason.{Reason as SomeReason};
+ghost use Rattle.carte_rebuild.specs.Ends.{HasTargets};
+ghost use Rattle.carte_rebuild.specs.declared.work.WorkEnd.TheVariants.{All};
 ghost use Rattle.carte_state.specs.States.{any_in};
 ghost use Rattle.carte_engine.specs.Previews.{IsForeseen, IsPreview};
 ghost use Rattle.carte_engine.specs.Versions.{Under, kept_for};
@@ -31,6 +33,9 @@ impl Engine {
             (IfOk result (IsPreview (R.how rebuilder.now) (kept_for (any_in self.old) (book_view book.now)) (book_view book.now) targets.now)) }
         ensures refused { Under (any_in self.old) (book_view book.now)
             ((reason : SomeReason) → result ≡ Err (PlanFault.Refused reason) → IsReason (book_view book.now) targets.now reason) }
+
+        // Whatever is kept.
+        ensures targets { IfOk result (λ work. HasTargets (book_view book.now) targets.now (All work)) }
     {
         match self.foresee(alloc, book, rebuilder, targets)? {
             WorkEnd::All(work) => Ok(work),
@@ -48,6 +53,7 @@ impl Engine {
         ensures kept { self.new ≡ self.old }
         ensures foreseen { Under (any_in self.old) (book_view book.now)
             (IfOk result (IsForeseen (R.how rebuilder.now) (kept_for (any_in self.old) (book_view book.now)) (book_view book.now) targets.now)) }
+        ensures targets { IfOk result (HasTargets (book_view book.now) targets.now) }
     {
         let basis = begin_on(alloc, &mut self.state, book)?;
         let end = carte_suspend::build(alloc, rebuilder, basis.base(&self.state), book, targets);

@@ -1,10 +1,13 @@
 // From the end of a build to what it has made.
-ghost use Rattle.std.specs.Prelude.{◌≡◌, ◌++◌, ◌∷◌, [], map, IfOk, OnOk, if◌then◌else◌};
+ghost use Rattle.std.specs.Prelude.{◌≡◌, ◌++◌, ◌∷◌, [], ℕ, List, Some, IfOk, OnOk, if◌then◌else◌};
 ghost use Rattle.carte_value.specs.Truths.{Among, IsListOf};
 ghost use Rattle.carte_book.specs.Book.{book_view};
 ghost use Rattle.carte_note.specs.Lists.{finished_of};
-ghost use Rattle.carte_note.specs.Right.{has_run, key_of, ran_in};
-ghost use Rattle.carte_engine.specs.Reckoned.{IsReckoned, value_found, value_made};
+ghost use Rattle.carte_note.specs.Right.{has_run, key_of, keys_in, ran_in};
+ghost use Rattle.carte_rebuild.specs.Ends.{HasTargets};
+ghost use Rattle.carte_rebuild.specs.declared.work.WorkEnd.TheVariants.{All};
+ghost use Rattle.carte_engine.specs.Answers.{AreValues};
+ghost use Rattle.carte_engine.specs.Reckoned.{IsReckoned, IsThere, value_found, value_made};
 
 use crate::Built;
 use carte_book::{Book, Looked};
@@ -21,6 +24,7 @@ pub(crate) fn reckon(
     targets: &Names,
     work: Work,
 ) -> Result<Built, NoMemory>
+    requires { HasTargets (book_view book.now) targets.now (All work) }
     ensures { IfOk result (IsReckoned (book_view book.now) targets.now work) }
 {
     let values = values(alloc, book, targets, &work.finished)?;
@@ -42,7 +46,8 @@ fn values(
     targets: &Names,
     finished: &FinishedList,
 ) -> Result<Values, NoMemory>
-    ensures { IfOk result (λ vs. vs ≡ map (value_found (book_view book.now) finished.now) targets.now) }
+    requires { (t : List ℕ) → Among targets.now t → IsThere (book_view book.now) finished.now t }
+    ensures { IfOk result (AreValues (value_found (book_view book.now) finished.now) targets.now) }
 {
     let mut values = Values::new(alloc);
     for name in targets.as_slice() {
@@ -51,29 +56,30 @@ fn values(
     Ok(values)
 }
 
-// The value of a target. A target without one has no place in a build that is answered; over kept information that no
-// build has left there is no telling, and then it is left empty.
+// The value of a target: an input has its own, and any other was finished. That what was finished is a rule of the book no
+// scheduler tells over kept information that no build has left, so a name that the book hasn't is looked for as a rule is.
 fn value(
     alloc: Global,
     book: &Book,
     finished: &FinishedList,
     name: &Name,
 ) -> Result<Value, NoMemory>
-    ensures { IfOk result (λ v. v ≡ value_found (book_view book.now) finished.now name.now) }
+    requires { IsThere (book_view book.now) finished.now name.now }
+    ensures { IfOk result (λ v. value_found (book_view book.now) finished.now name.now ≡ Some v) }
 {
     match book.lookup(name) {
         Looked::Input(value) => value.copy(alloc),
-        Looked::Rule(_) => made(alloc, finished, name),
-        Looked::None => Ok(Value::Empty),
+        Looked::Rule(_) | Looked::None => made(alloc, finished, name),
     }
 }
 
 fn made(alloc: Global, finished: &FinishedList, name: &Name) -> Result<Value, NoMemory>
-    ensures { IfOk result (λ v. v ≡ value_made (finished_of finished.now name.now)) }
+    requires { Among (keys_in finished.now) name.now }
+    ensures { IfOk result (λ v. value_made (finished_of finished.now name.now) ≡ Some v) }
 {
     match finished.find(name) {
         Some(one) => one.made.value().copy(alloc),
-        None => Ok(Value::Empty),
+        None => unreachable!(),
     }
 }
 

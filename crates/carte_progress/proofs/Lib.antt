@@ -9,4 +9,5 @@ pub mod Alongs
 pub mod Driving
 pub mod Whys
 pub mod Ending
+pub mod Done
 pub mod Answered

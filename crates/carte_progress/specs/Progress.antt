@@ -8,11 +8,13 @@ use Rattle.carte_sound.specs.Held.{How, IsFollowed}
 use Rattle.carte_sound.specs.Treated.{IsTreated}
 use Rattle.carte_note.specs.declared.finished.Finished.{Finished}
 use Rattle.carte_note.specs.Right.{AreRight, finishes_of, keys_in}
+use Rattle.carte_rebuild.specs.declared.work.Work.{Work}
 use Rattle.carte_rebuild.specs.Goes.{AreThere, AreThereBefore}
 use Rattle.carte_bench.specs.declared.slot.Slot.{Slot}
 use Rattle.carte_bench.specs.declared.slot.Slot.TheVariants.{Stopped}
 use Rattle.carte_bench.specs.Spots.{Spots, is_done, job_in, seen_in}
 use Rattle.carte_bench.specs.Steps.{FitsOf, IsCore}
+use Rattle.carte_bench.specs.Keys.{AreKeyed}
 
 -- the job was driven over parts of what is done
 abbrev pub IsBegun : {J : Type 0} → (Truth → List ℕ → J → Type 0) → Book → Spots J → List ℕ → J → Type 0
@@ -33,6 +35,15 @@ pub record AreListed {J : Type 0} (h : How) (K : SomeKept) (b : Book) (s : Spots
   pub once : NoneTwice (keys_in fs)
   pub listed : (k : List ℕ) → is_done (s k) ≡ true → Among (keys_in fs) k
   pub only : (k : List ℕ) → Among (keys_in fs) k → is_done (s k) ≡ true
+
+-- whatever is kept: each job is one of its key, and what is done is finished with its own
+pub record HasDone {J : Type 0} (keyed : J → List ℕ → Type 0) (s : Spots J) (fs : List Finished) : Type 0 where
+  pub keys : AreKeyed keyed s
+  pub listed : (k : List ℕ) → is_done (s k) ≡ true → Among (keys_in fs) k
+
+-- so it is after it where it was so before it
+abbrev pub StaysDone : {J : Type 0} → (J → List ℕ → Type 0) → Spots J → Spots J → Work → Work → Type 0
+StaysDone keyed old new w w' = HasDone keyed old w.finished → HasDone keyed new w'.finished
 
 -- what is known, and what is finished
 pub record IsAlong {J : Type 0} (fits : FitsOf J) (begun : Truth → List ℕ → J → Type 0) (h : How) (K : SomeKept) (b : Book) (targets : List (List ℕ)) (s : Spots J) (fs : List Finished) : Type 0 where

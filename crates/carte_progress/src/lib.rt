@@ -8,7 +8,8 @@
 //! ledger, since schedulers differ in what they say of starts.
 //!
 //! Beside that stands what those schedulers share that work on a path of names, of which each waits for the one before it:
-//! each open rule is on the path, or waits for a name that will never come; and a measure by which a build ends.
+//! each open rule is on the path, or waits for a name that will never come; and a measure by which a build ends. With what
+//! is done finished under its key, over whatever is kept, each target without a reason is finished.
 //!
 //! Turned down: one loop for all schedulers, with a policy. A path goes to the depth first and a wave to the breadth, and
 //! what they have in common begins once a job was driven.

@@ -9,6 +9,7 @@ pub mod TaskAlone
 pub mod Wholes
 pub mod TracedChecks
 pub mod TracedJobs
+pub mod TracedKeys
 pub mod TracesOf
 pub mod Starting
 pub mod Gathered

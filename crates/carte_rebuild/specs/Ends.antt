@@ -1,9 +1,10 @@
 -- What a build has come to at its end.
-use Rattle.std.specs.Prelude.{ℕ, ◌≡◌, ◌≤◌, ◌+◌, Bool, true, false, List, [], ◌∷◌, length, filter, Option, Some, None, if◌then◌else◌}
+use Rattle.std.specs.Prelude.{ℕ, ◌≡◌, ◌⊎◌, ◌≤◌, ◌+◌, Bool, true, false, List, [], ◌∷◌, length, filter, Option, Some, None, if◌then◌else◌}
 use Rattle.carte_value.specs.Truths.{Among, NoneTwice}
 use Rattle.carte_effect.specs.Ledger.{Ledger, no_runs}
 use Rattle.carte_name.specs.Names.{name_eq}
 use Rattle.carte_book.specs.Book.{Item, input, rule, Book, content}
+use Rattle.carte_book.specs.Edits.{IsInput}
 use Rattle.carte_book.specs.Needs.{needs, IsReachedRule}
 use Rattle.carte_book.specs.Dynamic.{NoDynamicPath, IsOrderReason}
 use Rattle.carte_book.specs.Reason.{AllClean, IsReason}
@@ -15,7 +16,7 @@ use Rattle.carte_sound.specs.Chains.{IsRightChain}
 use Rattle.carte_sound.specs.LeadsTo.{chain_behind}
 use Rattle.carte_sound.specs.Left.{keys_of}
 use Rattle.carte_sound.specs.Treated.{IsDoneInOrder, IsDoneRestarting, IsDoneSuspending, IsTreated, IsTreatedRestarting}
-use Rattle.carte_note.specs.Right.{AreRight, finishes_of, ran_in}
+use Rattle.carte_note.specs.Right.{AreRight, finishes_of, keys_in, ran_in}
 use Rattle.carte_rebuild.specs.declared.work.Work.{Work}
 use Rattle.carte_rebuild.specs.declared.work.WorkEnd.{WorkEnd}
 use Rattle.carte_rebuild.specs.declared.work.WorkEnd.TheVariants.{All, Refused}
@@ -41,6 +42,11 @@ pub record StartedOnce (treated : List ℕ → Type 0) (w : Work) : Type 0 where
   pub once : NoneTwice w.runs.starts
   pub only : (k : List ℕ) → Among w.runs.starts k → treated k
   pub each : (k : List ℕ) → Among w.runs.ends k → Among w.runs.starts k
+
+-- each target of a build that succeeds is an input or finished, whatever is kept
+abbrev pub HasTargets : Book → List (List ℕ) → WorkEnd → Type 0
+HasTargets b targets (All w) = (t : List ℕ) → Among targets t → IsInput b t ⊎ Among (keys_in w.finished) t
+HasTargets b targets (Refused w reason) = Unit {0}
 
 -- nothing was finished or started
 pub record IsNoWork (w : Work) : Type 0 where

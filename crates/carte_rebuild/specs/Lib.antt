@@ -7,6 +7,7 @@ pub mod Tried
 pub mod Left
 pub mod Traced
 pub mod TryingFits
+pub mod Keyed
 pub mod Drives
 pub mod Finishes
 pub mod Ends

@@ -8,7 +8,8 @@
 //! which kind it is (`method`), and its laws; the rest is given by its kind. `begun` is the meaning that `Job` lacks: that
 //! the job is one of `start` on this kept information, and over which truth it was driven. By two laws a scheduler knows
 //! each job from its start to its end. Premises on what is kept stand inside the laws, so no call requires them: over
-//! kept information that isn't sound a build still ends, and promises less.
+//! kept information that isn't sound a build still ends, and promises less. A third law has none: whatever a job comes to
+//! has the key for which it was begun.
 //!
 //! One job serves all rebuilders that compare the needs of a key (`Tries`): checks of earlier ends, then the task. Its
 //! meaning is one computation, what it still asks for, and a drive leads from what was left to what is left. Until the

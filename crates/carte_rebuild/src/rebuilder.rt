@@ -80,6 +80,9 @@ pub trait Rebuilder {
         self.method().gathers_beneath()
     }
 
+    /// Whatever such a job comes to has its key, also over kept information that isn't sound.
+    ghost keyed: { (r : Self) (K : SomeKept) (b : SomeBook) (t : Truth) (k : List ℕ) (j : Self.Job) → begun r K b t k j → Self.Job.keyed j k };
+
     /// Such a job is one for the key's clean value. It stops at needs of the key alone, and asks for needs alone, or under deep traces for inputs beneath the key besides.
     ghost fits: { (r : Self) (K : SomeKept) (b : SomeBook) (H : List SomeBook) (t : Truth) (k : List ℕ) (j : Self.Job) → IsBase K b H → begun r K b t k j → Self.Job.fits j (clean b) k (clean b k) (needs b k) (may_ask (how r) b k) };
 

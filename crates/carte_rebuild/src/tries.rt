@@ -106,6 +106,7 @@ impl Job for Tries {
     ghost use Rattle.carte_rebuild.specs.Left.{name_of, is_started, left_of};
     ghost use Rattle.carte_rebuild.specs.Trying.{Gives, FitsLeft};
     ghost use Rattle.carte_rebuild.specs.TryingFits.{tries_fits_on};
+    ghost use Rattle.carte_rebuild.specs.Keyed.{EndsAs, tries_keyed_on};
 
     ghost name = { λ p. name_of p };
 
@@ -114,6 +115,10 @@ impl Job for Tries {
     ghost gives = { λ p t a step q. Gives (left_of p) t a step (left_of q) };
 
     ghost fits = { λ p t k v needs asks. FitsLeft (left_of p) t k v needs asks };
+
+    ghost keyed = { λ p k. EndsAs (left_of p) k };
+
+    ghost keyed_on = { λ p t k a step q. tries_keyed_on left_of p q t k a step };
 
     ghost fits_on = { λ p t part k v needs asks a step q. tries_fits_on left_of p q t part k v needs asks a step };
 

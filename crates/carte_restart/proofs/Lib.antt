@@ -13,3 +13,4 @@ pub mod Restarted
 pub mod Built
 pub mod Totalling
 pub mod Scheduled
+pub mod Keyed

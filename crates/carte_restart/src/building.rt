@@ -3,7 +3,7 @@ ghost use Rattle.carte_value.specs.Truths.{Among};
 ghost use Rattle.carte_book.specs.Book.{book_view};
 ghost use Rattle.carte_book.specs.Needs.{IsRule};
 ghost use Rattle.carte_record.specs.Kept.{kept_view};
-ghost use Rattle.carte_rebuild.specs.Ends.{EndsRestarting};
+ghost use Rattle.carte_rebuild.specs.Ends.{EndsRestarting, HasTargets};
 ghost use Rattle.carte_rebuild.specs.Goes.{AreThere};
 ghost use Rattle.carte_bench.specs.Held.{spots_of, book_of};
 ghost use Rattle.carte_bench.specs.Spots.{seen_in};
@@ -16,7 +16,7 @@ ghost use Rattle.carte_restart.specs.Straight.{GoesStraight, IsPreparedOn};
 use crate::chains::with_chain;
 use crate::first::first_list;
 use crate::turns::turn;
-use carte_bench::Bench;
+use carte_bench::{Bench, turn_keeps};
 use carte_book::Book;
 use carte_progress::{first_reason, open};
 use carte_rebuild::{Rebuilder, Work, WorkEnd};
@@ -27,7 +27,7 @@ use std::collections::VecDeque;
 
 /// Builds the rules that the targets led to when they were finished last, in that order, and then the targets: a key that
 /// asks for a rule without a value is begun anew once that rule has one. `kept` is what the build begins with, after the
-/// marking.
+/// marking. Whatever that is, a build that succeeds has finished each target that isn't an input.
 pub fn build<R: Rebuilder>(
     alloc: Global,
     rebuilder: &R,
@@ -37,6 +37,7 @@ pub fn build<R: Rebuilder>(
 ) -> Result<WorkEnd, NoMemory>
     ensures ends { IfOk result (EndsRestarting (R.how rebuilder.now) (kept_view kept.now) (book_view book.now) targets.now) }
     ensures turns { IfOk result (EndsByList R.Job.name R.Job.started R.Job.gives (λ k j. R.begun rebuilder.now (kept_view kept.now) (book_view book.now) (λ q. None) k j) (R.how rebuilder.now) (book_view book.now) (kept_view kept.now) targets.now) }
+    ensures targets { IfOk result (HasTargets (book_view book.now) targets.now) }
 {
     let list = first_list(alloc, kept, book, targets)?;
     build_from(alloc, rebuilder, kept, book, &list, targets)
@@ -53,7 +54,9 @@ fn build_from<R: Rebuilder>(
 ) -> Result<WorkEnd, NoMemory>
     ensures ends { IfOk result (EndsFrom (R.how rebuilder.now) (kept_view kept.now) (book_view book.now) list.now targets.now) }
     ensures turns { IfOk result (EndsByTurns R.Job.name R.Job.started R.Job.gives (λ k j. R.begun rebuilder.now (kept_view kept.now) (book_view book.now) (λ q. None) k j) (R.how rebuilder.now) (book_view book.now) (list.now ++ targets.now)) }
+    ensures targets { IfOk result (HasTargets (book_view book.now) targets.now) }
 {
+    turn_keeps::<R::Job>();
     let mut bench = Bench::new(alloc, book);
     // Most keys that are kept are finished again. The pages of room that stays empty are never touched.
     let mut work = Work::with_room(alloc, kept.entries.len(), book.hasher())?;

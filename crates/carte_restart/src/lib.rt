@@ -15,6 +15,10 @@
 //! there are names that it has waited for, each once, and starts without an end are no more than these. They aren't kept
 //! anywhere: a key has a turn only where all of them are done, and a stop is at a name that isn't.
 //!
+//! The schedule is told turn by turn (`EndsByTurns`), so what each turn keeps is known at the end without a word in the
+//! loops: over whatever is kept, what is done is finished under its own key. So a build that succeeds has finished each
+//! target that isn't an input.
+//!
 //! Turned down: a list in which names are moved forward, which would be a second order beside the path; a new job at the
 //! next turn, in place of at the stop, since machines would be kept for nothing and a turn would have to know whether it is
 //! the first; and a set of names waited for, which would say in memory what the proof knows.

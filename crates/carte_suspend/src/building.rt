@@ -3,9 +3,10 @@ ghost use Rattle.carte_value.specs.Truths.{Among};
 ghost use Rattle.carte_book.specs.Book.{book_view};
 ghost use Rattle.carte_book.specs.Needs.{IsRule};
 ghost use Rattle.carte_record.specs.Kept.{kept_view};
-ghost use Rattle.carte_rebuild.specs.Ends.{EndsSuspending};
+ghost use Rattle.carte_rebuild.specs.Ends.{EndsSuspending, HasTargets};
 ghost use Rattle.carte_bench.specs.Held.{spots_of, book_of};
 ghost use Rattle.carte_suspend.specs.Going.{GoesOn};
+ghost use Rattle.carte_progress.specs.Progress.{StaysDone};
 ghost use Rattle.carte_progress.specs.Standing.{IsStanding, IsDemanded, StaysKnown};
 
 use crate::turns::turn;
@@ -19,7 +20,8 @@ use std::alloc::Global;
 use std::collections::VecDeque;
 
 /// Builds the targets, one after another: a key that asks for a rule without a value waits until that rule has one.
-/// `kept` is what the build begins with, after the marking.
+/// `kept` is what the build begins with, after the marking. Whatever that is, a build that succeeds has finished each
+/// target that isn't an input.
 pub fn build<R: Rebuilder>(
     alloc: Global,
     rebuilder: &R,
@@ -27,7 +29,8 @@ pub fn build<R: Rebuilder>(
     book: &Book,
     targets: &Names,
 ) -> Result<WorkEnd, NoMemory>
-    ensures { IfOk result (EndsSuspending (R.how rebuilder.now) (kept_view kept.now) (book_view book.now) targets.now) }
+    ensures ends { IfOk result (EndsSuspending (R.how rebuilder.now) (kept_view kept.now) (book_view book.now) targets.now) }
+    ensures targets { IfOk result (HasTargets (book_view book.now) targets.now) }
 {
     let mut bench = Bench::new(alloc, book);
     // Most keys that are kept are finished again. The pages of room that stays empty are never touched.
@@ -61,6 +64,7 @@ fn treat_all<R: Rebuilder>(
     ensures book { OnOk result (book_of bench.new ≡ book_view book.now) }
     ensures standing { OnOk result (IsStanding R.Job.name (book_view book.now) (spots_of bench.new) []) }
     ensures goes { OnOk result (GoesOn R.Job.started R.Job.fits (R.begun rebuilder.now (kept_view kept.now) (book_view book.now)) (R.how rebuilder.now) (kept_view kept.now) (book_view book.now) targets.now (spots_of bench.old) (spots_of bench.new) work.old work.new) }
+    ensures done { OnOk result (StaysDone R.Job.keyed (spots_of bench.old) (spots_of bench.new) work.old work.new) }
     ensures demanded { OnOk result ((t : List ℕ) → Among targets.now t → IsRule (book_view book.now) t → IsDemanded (spots_of bench.new) t) }
     ensures chain { OnOk result (work.new.chain ≡ work.old.chain) }
 {
@@ -87,6 +91,7 @@ fn treat<R: Rebuilder>(
     ensures standing { OnOk result (IsStanding R.Job.name (book_view book.now) (spots_of bench.new) []) }
     ensures goes { OnOk result ((ts : List (List ℕ)) → Among ts target.now → GoesOn R.Job.started R.Job.fits (R.begun rebuilder.now (kept_view kept.now) (book_view book.now)) (R.how rebuilder.now) (kept_view kept.now) (book_view book.now) ts (spots_of bench.old) (spots_of bench.new) work.old work.new) }
     ensures known { OnOk result (StaysKnown (spots_of bench.old) (spots_of bench.new)) }
+    ensures done { OnOk result (StaysDone R.Job.keyed (spots_of bench.old) (spots_of bench.new) work.old work.new) }
     ensures demanded { OnOk result (IsRule (book_view book.now) target.now → IsDemanded (spots_of bench.new) target.now) }
     ensures chain { OnOk result (work.new.chain ≡ work.old.chain) }
 {

@@ -3,6 +3,7 @@ ghost use Rattle.carte_book.specs.Book.{book_view};
 ghost use Rattle.carte_record.specs.Kept.{kept_view};
 ghost use Rattle.carte_bench.specs.Held.{spots_of, book_of};
 ghost use Rattle.carte_suspend.specs.Going.{GoesOn};
+ghost use Rattle.carte_progress.specs.Progress.{StaysDone};
 ghost use Rattle.carte_progress.specs.Standing.{IsStanding, StaysKnown, turns_left};
 
 use carte_bench::{Bench, turn_keeps};
@@ -33,6 +34,7 @@ pub(crate) fn turn<R: Rebuilder>(
     ensures standing { OnOk result (IsStanding R.Job.name (book_view book.now) (spots_of bench.new) path.new.items) }
     ensures fewer { OnOk result (turns_left (book_view book.now) (spots_of bench.new) path.new.items < turns_left (book_view book.now) (spots_of bench.old) (name ∷ path.old.items)) }
     ensures goes { OnOk result ((ts : List (List ℕ)) → GoesOn R.Job.started R.Job.fits (R.begun rebuilder.now (kept_view kept.now) (book_view book.now)) (R.how rebuilder.now) (kept_view kept.now) (book_view book.now) ts (spots_of bench.old) (spots_of bench.new) work.old work.new) }
+    ensures done { OnOk result (StaysDone R.Job.keyed (spots_of bench.old) (spots_of bench.new) work.old work.new) }
     ensures known { OnOk result (StaysKnown (spots_of bench.old) (spots_of bench.new)) }
     ensures chain { OnOk result (work.new.chain ≡ work.old.chain) }
 {

@@ -1,4 +1,4 @@
-ghost use Rattle.std.specs.Prelude.{true};
+ghost use Rattle.std.specs.Prelude.{◌≡◌, true};
 
 use crate::{Effect, Halt, Job, Machine, Made, Runs};
 use carte_value::Name;
@@ -7,7 +7,7 @@ use std::alloc::Global;
 /// A machine is the job that always runs.
 impl Job for Machine {
     ghost use Rattle.carte_task.specs.Machines.{state_of};
-    ghost use Rattle.carte_task.specs.MachineJobs.{MachineGives, FitsMachine};
+    ghost use Rattle.carte_task.specs.MachineJobs.{MachineGives, FitsMachine, machine_keyed_on};
     ghost use Rattle.carte_task.specs.Fitting.{fits_on as machine_fits_on};
 
     ghost name = { λ m. (state_of m).key };
@@ -17,6 +17,10 @@ impl Job for Machine {
     ghost gives = { λ m t a step n. MachineGives (state_of m) t a step (state_of n) };
 
     ghost fits = { λ m t k v needs asks. FitsMachine (state_of m) t k v needs asks };
+
+    ghost keyed = { λ m k. (state_of m).key ≡ k };
+
+    ghost keyed_on = { λ p t k a step q. machine_keyed_on state_of p q t k a step };
 
     ghost fits_on = { λ p t part k v needs asks a step q. machine_fits_on state_of p q t part k v needs asks a step };
 

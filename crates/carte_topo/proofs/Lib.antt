@@ -9,5 +9,6 @@ pub mod Reaching
 pub mod Ordered
 pub mod Dynamic
 pub mod Finishing
+pub mod Keys
 pub mod Treating
 pub mod Treated

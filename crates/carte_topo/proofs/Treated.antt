@@ -23,7 +23,7 @@ use Rattle.carte_topo.proofs.Finishing.{finished_clean, keys_same, ran_once}
 use Rattle.carte_topo.proofs.Ready.{end_among}
 use Rattle.carte_topo.proofs.Reaching.{has_goal, same_goal}
 
-take_none : (ks : List (List ℕ)) → take 0 ks ≡ []
+pub take_none : (ks : List (List ℕ)) → take 0 ks ≡ []
 take_none [] = refl
 take_none (k ∷ ks) = refl
 

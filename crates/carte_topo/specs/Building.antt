@@ -45,9 +45,9 @@ abbrev pub Advances : {J : Type 0} → FitsOf J → How → SomeKept → Book �
 Advances fits h K b old new w w' k result =
     IsGiven K b → (ks : List (List ℕ)) → IsNext b ks k → IsSoFar fits h K b old ks w → AdvancesBehind fits h K b old new w w' k ks result
 
--- all of an order, in number whatever the build began with; a job stops only where that may not be relied on
+-- all of an order, whatever the build began with; a job stops only where that may not be relied on
 abbrev pub Treats : How → SomeKept → Book → List (List ℕ) → Result Work Fault → Type 0
-Treats h K b ks (Ok w) = (w.chain ≡ None) × (length w.finished ≡ length ks) × (IsGiven K b → IsWork h K b (Among ks) w × NothingGivenUp w)
+Treats h K b ks (Ok w) = (w.chain ≡ None) × (length w.finished ≡ length ks) × (IsGiven K b → IsWork h K b (Among ks) w × NothingGivenUp w) × (keys_in w.finished ≡ ks)
 Treats h K b ks (Err Stopped) = ¬ (IsGiven K b)
 Treats h K b ks (Err NoMemory) = Unit {0}
 

@@ -1,10 +1,11 @@
-ghost use Rattle.std.specs.Prelude.{◌≡◌, ◌+◌, [], None, length, IfOk, OnOk};
+ghost use Rattle.std.specs.Prelude.{◌≡◌, ◌+◌, ◌++◌, ◌∷◌, [], None, length, IfOk, OnOk};
 ghost use Rattle.carte_value.specs.Truths.{NoneTwice};
 ghost use Rattle.carte_book.specs.Book.{book_view};
 ghost use Rattle.carte_book.specs.Needs.{IsRule};
 ghost use Rattle.carte_record.specs.Kept.{kept_view};
+ghost use Rattle.carte_note.specs.Right.{keys_in};
 ghost use Rattle.carte_bench.specs.Held.{spots_of, book_of};
-ghost use Rattle.carte_rebuild.specs.Ends.{EndsInOrder};
+ghost use Rattle.carte_rebuild.specs.Ends.{EndsInOrder, HasTargets};
 ghost use Rattle.carte_topo.specs.Orders.{InOrder};
 ghost use Rattle.carte_topo.specs.Building.{Treats, Advances, HaveNoJobs, OthersStay, FinishesAll};
 ghost use Rattle.carte_topo.specs.declared.building.Fault.TheVariants.{NoMemory as FaultNoMemory};
@@ -34,7 +35,7 @@ impl From<NoMemory> for Fault {
 
 /// Builds the targets, each rule behind those that it refers to. It is refused by `order` alone, before any run.
 /// `kept` is what the build begins with, after the marking. Whatever that is, an end without a refusal has finished as many
-/// keys as there are rules to work out.
+/// keys as there are rules to work out, and each target that isn't an input.
 pub fn build<R: Rebuilder>(
     alloc: Global,
     rebuilder: &R,
@@ -44,6 +45,7 @@ pub fn build<R: Rebuilder>(
 ) -> Result<WorkEnd, NoMemory>
     ensures ends { IfOk result (EndsInOrder (R.how rebuilder.now) (kept_view kept.now) (book_view book.now) targets.now) }
     ensures all { IfOk result (FinishesAll (book_view book.now) targets.now) }
+    ensures targets { IfOk result (HasTargets (book_view book.now) targets.now) }
 {
     match order(alloc, book, targets) {
         Ok(names) => match treat_all(alloc, rebuilder, kept, book, names.as_slice()) {
@@ -102,6 +104,7 @@ fn treat<R: Rebuilder>(
     ensures others { OnOk result (OthersStay (spots_of bench.old) (spots_of bench.new) name.now) }
     ensures chain { work.new.chain ≡ work.old.chain }
     ensures longer { OnOk result (length work.new.finished ≡ length work.old.finished + 1) }
+    ensures keys { OnOk result (keys_in work.new.finished ≡ keys_in work.old.finished ++ name.now ∷ []) }
     ensures advances { Advances R.Job.fits (R.how rebuilder.now) (kept_view kept.now) (book_view book.now) (spots_of bench.old) (spots_of bench.new) work.old work.new name.now result }
 {
     let job = rebuilder.start(alloc, kept, book, name)?;

@@ -60,6 +60,7 @@ impl Rebuilder for Verify {
     ghost use Rattle.carte_sound.specs.Held.{tracing};
     ghost use Rattle.carte_rebuild.specs.Traced.{IsTracedJob};
     ghost use Rattle.carte_rebuild.proofs.TracedJobs.{traced_fits, traced_goes};
+    ghost use Rattle.carte_rebuild.proofs.TracedKeys.{traced_keyed};
     ghost use Rattle.carte_rebuild.proofs.TracedChecks.{of_verifying};
 
     type Job = Tries;
@@ -82,6 +83,8 @@ impl Rebuilder for Verify {
     fn method(&self) -> Method {
         Method::Tracing(Way::Verifying)
     }
+
+    ghost keyed = { λ r K b t k p job. traced_keyed Verifying K b t k p job };
 
     ghost fits = { λ r K b H t k p base job. traced_fits Verifying of_verifying K b H base t k p job };
 

@@ -14,3 +14,4 @@ mod Waved
 mod Going
 mod Ended
 mod Builds
+mod Keyed

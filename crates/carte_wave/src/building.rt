@@ -3,7 +3,7 @@ ghost use Rattle.carte_value.specs.Truths.{Among};
 ghost use Rattle.carte_book.specs.Book.{book_view};
 ghost use Rattle.carte_book.specs.Needs.{IsRule};
 ghost use Rattle.carte_record.specs.Kept.{kept_view};
-ghost use Rattle.carte_rebuild.specs.Ends.{EndsSuspending};
+ghost use Rattle.carte_rebuild.specs.Ends.{EndsSuspending, HasTargets};
 ghost use Rattle.carte_bench.specs.Held.{spots_of, book_of};
 ghost use Rattle.carte_progress.specs.Opening.{Opens};
 ghost use Rattle.carte_progress.specs.Standing.{IsStanding, IsDemanded, StaysKnown};
@@ -13,7 +13,7 @@ ghost use Rattle.carte_wave.specs.Waves.{DemandsEach, Waves, EndsByWaves};
 
 use crate::Gate;
 use crate::front::Front;
-use crate::laws::fits_on;
+use crate::laws::job_laws;
 use crate::waves::wave;
 use carte_bench::Bench;
 use carte_book::Book;
@@ -29,6 +29,7 @@ use std::thread::Threads;
 
 /// Builds the targets in waves, each of at most so many threads: the keys that can go on are driven over what is done as the
 /// wave begins. What it comes to doesn't depend on how many there are. `kept` is what the build begins with, after the marking.
+/// Whatever that is, a build that succeeds has finished each target that isn't an input.
 pub fn build<R: Rebuilder, G: Gate, T: Threads + Sync>(
     rt: &T,
     alloc: Global,
@@ -41,8 +42,9 @@ pub fn build<R: Rebuilder, G: Gate, T: Threads + Sync>(
 ) -> Result<WorkEnd, NoMemory>
     ensures ends { IfOk result (EndsSuspending (R.how rebuilder.now) (kept_view kept.now) (book_view book.now) targets.now) }
     ensures waves { IfOk result (EndsByWaves R.Job.name R.Job.started R.Job.gives (λ k j. R.begun rebuilder.now (kept_view kept.now) (book_view book.now) (λ q. None) k j) (R.how rebuilder.now) (book_view book.now) targets.now) }
+    ensures targets { IfOk result (HasTargets (book_view book.now) targets.now) }
 {
-    fits_on::<R::Job>();
+    job_laws::<R::Job>();
     let mut bench = Bench::new(alloc, book);
     // Most keys that are kept are finished again. The pages of room that stays empty are never touched.
     let mut work = Work::with_room(alloc, kept.entries.len(), book.hasher())?;

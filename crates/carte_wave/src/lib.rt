@@ -14,7 +14,9 @@
 //!
 //! Beside the bench stands a line: the keys that can go on, and for each rule those that wait for it. It is proved to be
 //! complete, so no wave looks through the bench. While jobs are out, the proof sees the bench as it would be were they back:
-//! putting back is one step of the schedule after another, though the jobs were driven before the first.
+//! putting back is one step of the schedule after another, though the jobs were driven before the first. So what holds of each
+//! step holds of a build: over whatever is kept, what is done is finished under its own key, and a build that succeeds has
+//! finished each target that is a rule.
 //!
 //! Turned down: a pool of threads that take jobs from a queue, which would need a lock, and outcomes in the order in which
 //! they come; halving the list again and again, which says no more than parts and needs a closure with clauses at each step;

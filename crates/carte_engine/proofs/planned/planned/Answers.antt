@@ -1,9 +1,13 @@
 use Rattle.std.proofs.Common.{subst}
 use Rattle.carte_book.specs.Book.{book_view}
 use Rattle.carte_record.specs.Kept.{kept_view}
+use Rattle.carte_rebuild.specs.Ends.{HasTargets}
 use Rattle.carte_engine.specs.Reckoned.{EndsBy}
 use Rattle.carte_engine.proofs.Planning.{all_by, all_unmarked, refused_by}
 use Rattle.carte_engine.proofs.planned.planned.Goals as goal
+
+pub reckon-requires : goal.reckon-requires
+reckon-requires g c = subst (HasTargets (book_view c.args.book.now) c.args.targets.now) c.in-All.is c.requires
 
 pub returns-in_ok-built-in-All-clause-unmarked : goal.returns-in_ok-built-in-All-clause-unmarked
 returns-in_ok-built-in-All-clause-unmarked g c = all_unmarked _ c.in_ok-batches-in-All.ensures.unmarked
@@ -16,6 +20,10 @@ returns-in_ok-built-in-All-clause-plans g c s K begins ends H sound distinct =
     let end = subst (EndsBy s h M b c.args.targets.now) c.in-All.is ends in
     all_by h K b c.args.targets.now c.args.begun.now M begins H sound distinct
     s c.in-All.work c.in_ok-batches-in-All.batches.items c.in_ok-built-in-All.built end (c.in_ok-batches-in-All.ensures.brings K begins) (c.in_ok-built-in-All.ensures {u = tt})
+
+pub returns-in_ok-built-in-All-clause-tells : goal.returns-in_ok-built-in-All-clause-tells
+returns-in_ok-built-in-All-clause-tells g c =
+    (c.in-All.work, subst (HasTargets (book_view c.args.book.now) c.args.targets.now) c.in-All.is c.requires, c.in_ok-built-in-All.ensures {u = tt})
 
 pub returns-in_ok-batches-in-Refused-clause-unmarked : goal.returns-in_ok-batches-in-Refused-clause-unmarked
 returns-in_ok-batches-in-Refused-clause-unmarked g c = all_unmarked _ c.in_ok-batches-in-Refused.ensures.unmarked

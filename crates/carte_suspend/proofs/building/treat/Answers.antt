@@ -5,6 +5,7 @@ use Rattle.carte_sound.specs.Treated.{IsTreated}
 use Rattle.carte_bench.specs.Held.{spots_of}
 use Rattle.carte_progress.specs.Opening.{Opens}
 use Rattle.carte_progress.specs.Standing.{IsStanding}
+use Rattle.carte_progress.proofs.Done.{done_opens}
 use Rattle.carte_progress.proofs.Opened.{halted_target, stands_opens, known_opens}
 use Rattle.carte_suspend.proofs.Goings.{going_opens}
 use Rattle.carte_suspend.proofs.building.treat.Goals as goal
@@ -34,6 +35,7 @@ turns-init g c =
       standing = stands_opens name b started (λ i j. begun (λ q. None) i j) old new [] n (halted_target name b old n c.requires.standing) path opens;
       goes = λ ts here H base going. going_opens name started g.R.Job.Job.fits begun h K b ts (λ t i j begun_so. g.met.R.Rebuilder.fits c.args.rebuilder.now K b H t i j base begun_so) old new n c.args.work.now.finished c.args.work.now.runs going [] path (λ is. IsTreated.target here is) opens;
       known = known.0;
+      done = λ has. done_opens g.R.Job.Job.keyed name started (λ i j. begun (λ q. None) i j) b old new [] path n c.args.work.now.finished (λ i j begun_so. g.met.R.Rebuilder.keyed c.args.rebuilder.now K b (λ q. None) i j begun_so) opens has;
       demanded = known.1;
       chain = refl;
     }
@@ -47,6 +49,7 @@ turns-preserved g c =
       standing = ok.standing;
       goes = λ ts here H base going. ok.goes ts H base (before.goes ts here H base going);
       known = λ q x is. (let one = before.known q x is in ok.known q one.0 one.1);
+      done = λ has. ok.done (before.done has);
       demanded = λ is. (let one = before.demanded is in ok.known c.args.target.now one.0 one.1);
       chain = ok.chain ∙ before.chain;
     }

@@ -20,6 +20,7 @@ loop-at-preserved g c =
       book = ok.book;
       standing = ok.standing;
       goes = λ H base going. ok.goes ts (item_among ts at t below c.index-targets-at.is) H base (before.goes H base going);
+      done = λ has. ok.done (before.done has);
       demanded = λ q here is. elim (among_end (take at ts) t q (subst (λ xs. Among xs q) (one_more ts at t below c.index-targets-at.is) here)) [
         | inl there ↦ (let one = before.demanded q there is in ok.known q one.0 one.1)
         | inr same ↦ subst (λ i. IsRule (book_view c.args.book.now) i → IsDemanded (spots_of c.treat.new.bench) i) (sym same) ok.demanded is

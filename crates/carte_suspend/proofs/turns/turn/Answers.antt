@@ -1,4 +1,4 @@
-use Rattle.std.proofs.Common.{ℕ, List, ◌∷◌, None, Result, Ok, Err, sym, subst}
+use Rattle.std.proofs.Common.{ℕ, List, ◌∷◌, Some, None, Ok, Err, sym, subst}
 use Rattle.std.specs.Prelude.{OnOk}
 use Rattle.carte_effect.specs.Ledger.{Ledger}
 use Rattle.carte_bench.specs.declared.slot.Slot.TheVariants.{Stopped, Done}
@@ -14,6 +14,7 @@ use Rattle.carte_progress.proofs.Opened.{stands_opens, known_opens}
 use Rattle.carte_progress.proofs.Turned.{stands_ended, turn_put, stop_in, stop_waits, turn_halts}
 use Rattle.carte_progress.proofs.Measures.{ended_fewer, opened_fewer}
 use Rattle.carte_progress.proofs.Answered.{on_ok, on_ok_by}
+use Rattle.carte_progress.proofs.Done.{done_opens, done_stopped, done_ended}
 use Rattle.carte_progress.proofs.Driving.{stop_treated}
 use Rattle.carte_progress.proofs.Alongs.{Laws}
 use Rattle.carte_suspend.proofs.Goings.{going_opens, going_ended, going_stopped}
@@ -112,6 +113,26 @@ returns-in-Ok-clause-goes g c =
     on_ok_by c.finish_made.result
     (λ ends ts H base going. subst (λ (l : Ledger). IsGoing started fits begun h K b ts mid c.finish_made.new.work.finished l) (sym c.finish_made.ensures.runs)
     (going_ended name started fits gives begun h K b ts (record { keeps = λ s d l m i o turned core. c.turn_keeps.ensures.core b s d l m i o turned core; goes_on = λ t i p part further step q begun_so more is_part gave. g.met.R.Rebuilder.goes_on c.args.rebuilder.now K b H t i p part further step q base begun_so more is_part gave }) old mid k c.args.work.now.finished r s going m c.finish_made.new.work.finished turned ends))
+    c.finish_made.ensures.ends
+
+pub returns-in-Ok-clause-done : goal.returns-in-Ok-clause-done
+returns-in-Ok-clause-done g c =
+    let b = book_view c.args.book.now in
+    let h = g.R.Rebuilder.how c.args.rebuilder.now in
+    let name = g.R.Job.Job.name in
+    let started = g.R.Job.Job.started in
+    let gives = g.R.Job.Job.gives in
+    let keyed = g.R.Job.Job.keyed in
+    let old = spots_of c.args.bench.now in
+    let mid = spots_of c.turn_to.new.self in
+    let r = c.args.work.now.runs in
+    let s = c.turn_to.new.runs in
+    let k = c.args.name in
+    let m = c.in-Ok.made in
+    let turned = subst (λ (bk : Book). TurnedTo name started gives bk old mid r s k (Ok m)) c.requires.book (rw c.in-Ok.is at (c.in_ok-came.ensures {u = tt}).turned) in
+    let put = turn_put name started gives b old mid r s k (Ok m) turned in
+    on_ok_by c.finish_made.result
+    (λ ends has. done_ended keyed h b old mid k m c.args.work.now.finished c.finish_made.new.work.finished put (c.turn_keeps.ensures.keys b old mid r s k (Some m) turned has.keys) ends has)
     c.finish_made.ensures.ends
 
 pub returns-in_ok-push-in-Err-clause-standing : goal.returns-in_ok-push-in-Err-clause-standing
@@ -225,4 +246,34 @@ returns-in_ok-push-in-Err-clause-goes g c =
     let laws : Laws name started fits gives begun h K b = (record { keeps = λ s d l m i o turned core. c.turn_keeps.ensures.core b s d l m i o turned core; goes_on = λ t i p part further step q begun_so more is_part gave. g.met.R.Rebuilder.goes_on c.args.rebuilder.now K b H t i p part further step q base begun_so more is_part gave }) in
     let stopped = going_stopped name started fits gives begun h K b ts laws old mid k c.args.work.now.finished r s going stuck turned in
     going_opens name started fits begun h K b ts (λ t i j begun_so. g.met.R.Rebuilder.fits c.args.rebuilder.now K b H t i j base begun_so) mid new at c.args.work.now.finished s stopped (k ∷ ks) path (stop_treated fits begun h K b ts mid k at waits.0.0 stopped.along.known waits.0.1) o)
+    opens
+
+pub returns-in_ok-push-in-Err-clause-done : goal.returns-in_ok-push-in-Err-clause-done
+returns-in_ok-push-in-Err-clause-done g c =
+    let b = book_view c.args.book.now in
+    let K = kept_view c.args.kept.now in
+    let name = g.R.Job.Job.name in
+    let started = g.R.Job.Job.started in
+    let gives = g.R.Job.Job.gives in
+    let keyed = g.R.Job.Job.keyed in
+    let old = spots_of c.args.bench.now in
+    let mid = spots_of c.turn_to.new.self in
+    let r = c.args.work.now.runs in
+    let s = c.turn_to.new.runs in
+    let k = c.args.name in
+    let ks = c.args.path.now.items in
+    let stuck = c.in-Err.stuck in
+    let turned = subst (λ (bk : Book). TurnedTo name started gives bk old mid r s k (Err stuck)) c.requires.book (rw c.in-Err.is at (c.in_ok-came.ensures {u = tt}).turned) in
+    let put = turn_put name started gives b old mid r s k (Err stuck) turned in
+    let new = spots_of c.open_stop.new.bench in
+    let path = c.open_stop.new.path.items in
+    let at = name_of stuck in
+    let begun = g.R.Rebuilder.begun c.args.rebuilder.now K b in
+    let pushed = (c.in_ok-push-in-Err.ensures {u = tt}).put in
+    let opens = subst (λ (p : List (List ℕ)). OnOk c.open_stop.result (Opens name started (λ i j. begun (λ q. None) i j) b mid new p path at)) pushed c.open_stop.ensures.opens in
+    on_ok_by c.open_stop.result
+    (λ o has. done_opens keyed name started (λ i j. begun (λ q. None) i j) b mid new (k ∷ ks) path at c.args.work.now.finished
+    (λ i j begun_so. g.met.R.Rebuilder.keyed c.args.rebuilder.now K b (λ q. None) i j begun_so)
+    o
+    (done_stopped keyed old mid k turned.after at c.args.work.now.finished put (c.turn_keeps.ensures.keys b old mid r s k None (stuck, turned) has.keys) has))
     opens

@@ -1,8 +1,9 @@
-use Rattle.std.proofs.Common.{ℕ, List, length, ap, ◌∙◌, subst}
+use Rattle.std.proofs.Common.{ℕ, List, length, ap, sym, ◌∙◌, subst}
 use Rattle.carte_value.specs.Truths.{Among}
 use Rattle.carte_book.specs.Book.{book_view}
 use Rattle.carte_record.specs.Kept.{kept_view}
 use Rattle.carte_rebuild.specs.Ends.{IsWork}
+use Rattle.carte_topo.specs.Orders.{IsReady}
 use Rattle.carte_topo.proofs.Treated.{done_in_order}
 use Rattle.carte_topo.proofs.building.build.Goals as goal
 
@@ -25,3 +26,7 @@ returns-in-Ok-treat_all-clause-ends g c =
 pub returns-in-Ok-treat_all-clause-all : goal.returns-in-Ok-treat_all-clause-all
 returns-in-Ok-treat_all-clause-all g c =
     (c.in-Ok.names, c.in-Ok.ensures, (c.in-Ok-treat_all.ensures {u = tt}).1 ∙ ap length c.as_slice.ensures)
+
+pub returns-in-Ok-treat_all-clause-targets : goal.returns-in-Ok-treat_all-clause-targets
+returns-in-Ok-treat_all-clause-targets g c t here =
+    subst (λ (ks : List (List ℕ)). IsReady (book_view c.args.book.now) ks t) (sym ((c.in-Ok-treat_all.ensures {u = tt}).3 ∙ c.as_slice.ensures)) (c.in-Ok.ensures.known t here)

@@ -8,6 +8,7 @@ use Rattle.carte_bench.specs.Spots.{PutAt}
 use Rattle.carte_bench.specs.Turns.{TurnedTo}
 use Rattle.carte_rebuild.specs.Goes.{may_ask}
 use Rattle.carte_topo.proofs.Finishing.{one_longer}
+use Rattle.carte_topo.proofs.Keys.{key_more}
 use Rattle.carte_topo.proofs.Treating.{no_stop, one_more}
 use Rattle.carte_topo.proofs.building.treat.Goals as goal
 
@@ -48,3 +49,18 @@ returns-clause-advances g c given ks next so =
 
 pub returns-clause-longer : goal.returns-clause-longer
 returns-clause-longer g c = one_longer c.args.work.now.finished _ c.in_ok-finished.finished (c.in_ok-push.ensures {u = tt})
+
+pub returns-clause-keys : goal.returns-clause-keys
+returns-clause-keys g c =
+    let r = c.args.rebuilder.now in
+    let K = kept_view c.args.kept.now in
+    let b = book_view c.args.book.now in
+    let k = c.args.name.now in
+    let job = c.in_ok-job.job in
+    let start = c.in_ok-job.ensures {u = tt} in
+    let put = subst (λ (n : List ℕ). PutAt (spots_of c.args.bench.now) (spots_of c.demand.new.self) n (Ready job)) start.name (c.in_ok-at.ensures {u = tt}).demanded in
+    let turned = rw c.in-Some.is at (c.in_ok-made.ensures {u = tt}).turned in
+    let same : c.hinted-key.result ≡ k = c.hinted-key.ensures ∙ c.in_ok-copy.ensures {u = tt} in
+    let here = subst (λ (n : List ℕ). TurnedTo g.R.Job.Job.name g.R.Job.Job.started g.R.Job.Job.gives (book_of c.demand.new.self) (spots_of c.demand.new.self) (spots_of c.turn.new.self) c.args.work.now.runs c.turn.new.runs n (Ok c.in-Some.made)) same turned in
+    key_more g.R.Job.Job.keyed g.R.Job.Job.name g.R.Job.Job.started g.R.Job.Job.gives (g.met.R.Job.Job g.world.𝓛 g.world.𝓜 g.world.𝓡 ((λ s x. x), (λ x. x), (λ x. x), λ x. x)).keyed_on (book_of c.demand.new.self) (spots_of c.args.bench.now) (spots_of c.demand.new.self) (spots_of c.turn.new.self) c.args.work.now.runs c.turn.new.runs k job c.in-Some.made put
+    (g.met.R.Rebuilder.keyed r K b (λ (q : List ℕ). None) k job start.begun) here c.args.work.now.finished _ c.in_ok-finished.finished (c.in_ok-finished.ensures {u = tt}).made (c.in_ok-push.ensures {u = tt})

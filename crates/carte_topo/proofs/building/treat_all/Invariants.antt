@@ -2,6 +2,7 @@ use Rattle.std.proofs.Common.{◌≡◌, ℕ, List, length, take, None}
 use Rattle.carte_value.specs.Truths.{Among}
 use Rattle.carte_book.specs.Book.{book_view}
 use Rattle.carte_record.specs.Kept.{kept_view}
+use Rattle.carte_note.specs.Right.{keys_in}
 use Rattle.carte_bench.specs.Held.{spots_of, book_of}
 use Rattle.carte_rebuild.specs.Ends.{IsGiven}
 use Rattle.carte_topo.specs.Building.{HaveNoJobs, IsSoFar}
@@ -13,6 +14,7 @@ invariant-loop-at g l = record {
   no_jobs : HaveNoJobs (spots_of l.bench);
   unknown : (q : List ℕ) → ¬ (Among (take l.at l.names) q) → spots_of l.bench q ≡ None;
   chain : l.work.chain ≡ None;
+  keys : keys_in l.work.finished ≡ take l.at l.names;
   count : length l.work.finished ≡ l.at;
   so_far : IsGiven (kept_view l.kept) (book_view l.book) → IsSoFar g.R.Job.Job.fits (g.R.Rebuilder.how l.rebuilder) (kept_view l.kept) (book_view l.book) (spots_of l.bench) (take l.at l.names) l.work;
 }

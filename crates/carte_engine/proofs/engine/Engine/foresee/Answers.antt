@@ -12,4 +12,4 @@ returns-clause-foreseen g c H sound distinct =
     let h = g.R.Rebuilder.how c.args.rebuilder.now in
     let marked = c.begin_on.new.state in
     let on = subst (λ (s : Stand). StandsOn b s marked c.in_ok-basis.basis) c.self.view_is c.in_ok-basis.ensures.begins in
-    foresees_on h b c.args.targets.now c.args.self.now marked c.in_ok-basis.basis (kept_view c.base.result.now) on c.base.ensures H sound distinct c.build-end.result c.build-end.ensures
+    foresees_on h b c.args.targets.now c.args.self.now marked c.in_ok-basis.basis (kept_view c.base.result.now) on c.base.ensures H sound distinct c.build-end.result c.build-end.ensures.ends

@@ -2,11 +2,10 @@ use Rattle.std.proofs.Common.{◌≡◌, sym, subst}
 use Rattle.std.specs.Prelude.{IfOk}
 use Rattle.carte_book.specs.Book.{book_view}
 use Rattle.carte_mark.specs.Bases.{BeginsWith}
-use Rattle.carte_record.specs.Kept.{kept_view}
 use Rattle.carte_state.specs.States.{Stand, any_in}
 use Rattle.carte_engine.specs.Versions.{Raises, kept_for}
 use Rattle.carte_engine.specs.Working.{StandsOn}
-use Rattle.carte_engine.proofs.Found.{if_begins, if_plan}
+use Rattle.carte_engine.proofs.Found.{if_begins, if_plan, if_tells}
 use Rattle.carte_engine.proofs.engine.Engine.plan.Goals as goal
 
 pub returns-clause-begins : goal.returns-clause-begins
@@ -28,3 +27,7 @@ returns-clause-plans g c =
     if_plan c.args.scheduler h b c.args.targets.now c.in_ok-plan.field-0 (any_in c.args.self.now) c.raising.result
     (subst (λ (s : Stand). IfOk c.raising.result (Raises (any_in s) b c.in_ok-plan.field-0)) back c.raising.ensures.raises)
     (c.in_ok-plan.ensures.plans found begins)
+
+pub returns-clause-tells : goal.returns-clause-tells
+returns-clause-tells g c =
+    if_tells (any_in c.leave.new.state) (book_view c.args.book.now) c.args.targets.now c.in_ok-plan.field-0 c.raising.result c.raising.ensures.raises c.in_ok-plan.ensures.tells
