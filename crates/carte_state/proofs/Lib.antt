@@ -5,5 +5,6 @@ pub mod Applies
 pub mod Putting
 pub mod Runs
 mod Reading
+mod Beside
 pub mod History
 pub mod Rewritings

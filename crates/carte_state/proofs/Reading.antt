@@ -1,5 +1,5 @@
 -- Bodies that are read one by one, or in parts, and then put together.
-use Rattle.std.proofs.Common.{◌≡◌, ℕ, suc, true, false, List, [], ◌∷◌, ◌++◌, Option, Some, None, Result, Ok, Err, Vec, length, arith, refl, sym, ◌∙◌, ap, subst, append_assoc, append-nil, inl}
+use Rattle.std.proofs.Common.{◌≡◌, ◌<◌, ℕ, suc, true, false, List, [], ◌∷◌, ◌++◌, Option, Some, None, Result, Ok, Err, Vec, length, arith, refl, sym, ◌∙◌, ap, subst, append_assoc, append-nil, inl}
 use Rattle.carte_name.specs.declared.NoMemory.{NoMemory}
 use Rattle.carte_journal.specs.Frames.{BodyAt}
 use Rattle.carte_journal.specs.declared.faults.LoadFault.{LoadFault}
@@ -157,6 +157,10 @@ module _ {Z : Type 0} where
         let cut = pairs_cut (ReadsPart {Z = Z}) ps done rest part (subst (AreParts ps) is are) in
         subst (λ bs. ReadsTo seen p bs (let r : Result C LoadFault = Err cause in r)) (sym (ap bodies_in cut.all ∙ bodies_cut cut.front cut.item cut.back))
         (fails_then view seen p q (bodies_in cut.front) cut.item.bodies.items (bodies_in cut.back) cause (before cut.front cut.before) (here cut.item cut.here))
+
+-- there are bodies in parts that were cut of some
+pub some_bodies : {ps qs : List BodyAt} → ps ≡ qs → 0 < length qs → ¬ (ps ≡ [])
+some_bodies are some none = omega (arith, some, ap length (sym are ∙ none))
 
 -- ---- what it comes to, by its result
 

@@ -6,4 +6,5 @@ pub mod States
 pub mod Applying
 pub mod Rewriting
 pub mod Runs
+pub mod Columns
 pub mod Histories

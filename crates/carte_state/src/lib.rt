@@ -11,10 +11,10 @@
 //! don't name the rules beneath their key. Nothing else is lost then, so such a state is none of version 1, and a body of
 //! kind 4 may stand behind it as it is.
 //!
-//! `load_by` reads the bodies in neighbouring parts, each on a thread of its own, and puts them together in their order.
-//! Parts have as many bytes, since the first body of a file often has most of them. A pool of threads that take one body
-//! after another was turned down: it would need a lock. So was one table of what is kept for each part: the tables would
-//! have to be put together, name by name.
+//! `load_by` reads the bodies in neighbouring parts, each on a thread of its own. Parts have as many bytes, since the first
+//! body often has most. Then batches of kind 4 are cut into columns, lists that don't touch one another, and each column
+//! is put together in their order on a thread of its own; other kinds come one after another. Turned down: a pool of
+//! threads, which would need a lock, and what is kept for each part, which would have to be put together name by name.
 //!
 //! A step of `apply` is what its batch makes: at each moment an image of the file keeps what was kept before it or after
 //! it, and once its calls have passed, what was kept after it. A run of batches is such steps one after another, and a
@@ -30,6 +30,7 @@
 #![tactic(auto)]
 
 mod any;
+mod columns;
 mod fault;
 mod laws;
 mod load;

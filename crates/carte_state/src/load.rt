@@ -1,12 +1,14 @@
 // Reading what a file keeps.
-ghost use Rattle.std.specs.Prelude.{◌≡◌, ◌≢◌, ◌<◌, ◌^◌, ◌∷◌, [], ℕ, false, length, List, IfOk, Err};
+ghost use Rattle.std.specs.Prelude.{◌≡◌, ◌≢◌, ◌<◌, ◌^◌, ◌∷◌, [], ℕ, false, true, length, List, IfOk, Err};
 ghost use Rattle.carte_io.specs.Causes.{HasCauseOf};
+ghost use Rattle.carte_state.specs.Columns.{are_four};
 ghost use Rattle.carte_state.specs.Folding.{IsBadBody, IsBadState, IsFolded};
 ghost use Rattle.carte_state.specs.Parts.{ReadsEach, ReadsPart, ReadsTo, bodies_in, made_view};
 ghost use Rattle.carte_state.specs.declared.parts.Part.{Part as SomePart};
 ghost use Rattle.carte_state.specs.States.{IsLoaded};
 ghost use Rattle.carte_state.specs.Versions.{Fresh};
 
+use crate::columns::{are_cut, can_cut, kept_by_columns};
 use crate::made::Made;
 use crate::parts::{Found, bytes_of, cut, found_in, part_count, read_parts};
 use crate::{LoadFault, State};
@@ -44,8 +46,9 @@ impl State {
     }
 
     /// The same by at most so many threads, and one at least: the bodies are read in neighbouring parts, side by side, and
-    /// then put one into another in their order. Before the first body of a part the gate is entered. What it comes to
-    /// doesn't depend on how many there are. Until they are put together, all batches are held at once.
+    /// then put one into another in their order, long ones of kind 4 list by list, side by side. Before the first body of a
+    /// part the gate is entered. What it comes to doesn't depend on how many there are. Until they are put together, all
+    /// batches are held at once.
     pub fn load_by<D: Disk, G: Gate, T: Threads + Sync>(
         rt: &T,
         alloc: Global,
@@ -83,16 +86,51 @@ fn folded_by<G: Gate, T: Threads + Sync>(
     ensures disk { result ≢ Err LoadFault.DiskFault }
 {
     let bytes = bytes_of(bodies.as_slice());
-    let count = part_count(bodies.len(), bytes, workers, gate.wants_all());
+    let number = bodies.len();
+    let count = part_count(number, bytes, workers, gate.wants_all());
     if count == 1 {
-        if bodies.len() > 0 {
+        if number > 0 {
             gate.enter(0);
         }
         return folded(alloc, bodies, hasher);
     }
+    let is_cut = are_cut(number, bytes, gate.wants_all());
     let parts = cut(alloc, bodies.into_vec(), bytes, count)?;
     let read = read_parts(rt, alloc, parts, hasher, gate)?;
-    put_together(alloc, read, hasher)
+    put_read(rt, alloc, read, hasher, count, is_cut)
+}
+
+// What the bodies of all parts make of nothing, column by column where batches are cut and can be.
+fn put_read<T: Threads + Sync>(
+    rt: &T,
+    alloc: Global,
+    parts: Vec<Result<Vec<Found>, NoMemory>>,
+    hasher: Seeded,
+    workers: usize,
+    is_cut: bool,
+) -> Result<Made, LoadFault>
+    ensures { (ps : List SomePart) → (is_cut ≡ true → bodies_in ps ≢ []) → length parts.items ≡ length ps → ReadsEach ps parts.items → ReadsTo made_view Fresh (bodies_in ps) result }
+{
+    if can_cut(parts.as_slice(), is_cut) {
+        return put_side_by_side(rt, alloc, parts, hasher, workers);
+    }
+    put_together(alloc, parts, hasher)
+}
+
+// What the bodies of all parts make of nothing, where all are of kind 4.
+fn put_side_by_side<T: Threads + Sync>(
+    rt: &T,
+    alloc: Global,
+    parts: Vec<Result<Vec<Found>, NoMemory>>,
+    hasher: Seeded,
+    workers: usize,
+) -> Result<Made, LoadFault>
+    ensures { (ps : List SomePart) → are_four parts.items ≡ true → bodies_in ps ≢ [] → length parts.items ≡ length ps → ReadsEach ps parts.items → ReadsTo made_view Fresh (bodies_in ps) result }
+{
+    match kept_by_columns(rt, alloc, parts, hasher, workers) {
+        Ok(kept) => Ok(Made::Now(kept)),
+        Err(_) => Err(LoadFault::NoMemory),
+    }
 }
 
 // What the bodies of all parts make of nothing.
