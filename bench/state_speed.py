@@ -23,7 +23,7 @@ import tempfile
 import time
 
 TOP = pathlib.Path(__file__).resolve().parents[1]
-CRATES = ("carte_name", "carte_value", "carte_io", "carte_journal")
+CRATES = ("carte_name", "carte_value", "carte_io", "carte_bank", "carte_journal")
 ROUNDS = 9
 FRAMES = 10_000
 SIZE = 256 * 1024 * 1024
@@ -36,7 +36,7 @@ use carte_io::{Disk, FileDisk};
 use carte_journal::{Frame, Journal};
 use std::alloc::Global;
 use std::env;
-use std::fs::OpenOptions;
+use std::fs::{File, OpenOptions};
 
 fn main(rt: HostRuntime) {
     let Ok(mut words) = env::args(&rt) else { return };
@@ -50,7 +50,7 @@ fn main(rt: HostRuntime) {
     let _ = println!(&rt; "{done}");
 }
 
-fn run(alloc: Global, mode: &str, disk: &mut FileDisk) -> Option<usize> {
+fn run(alloc: Global, mode: &str, disk: &mut FileDisk<File>) -> Option<usize> {
     match mode {
         "commit" => commit(alloc, disk),
         "framed" => framed(alloc, disk),
@@ -69,20 +69,21 @@ fn filled(alloc: Global, count: usize) -> Option<Vec<u8>> {
 }
 
 fn frame(alloc: Global, body: &[u8]) -> Option<Frame> {
-    if body.len() > 6000000 {
+    // A body of 9 bytes may be a move, which is no frame.
+    if body.len() == 9 || body.len() > 6000000 {
         return None;
     }
     Frame::of(alloc, body).ok()
 }
 
-fn add(journal: &mut Journal, disk: &mut FileDisk, frame: &Frame) -> Option<()> {
+fn add(journal: &mut Journal, disk: &mut FileDisk<File>, frame: &Frame) -> Option<()> {
     if journal.is_broken() {
         return None;
     }
     journal.commit(disk, frame).ok()
 }
 
-fn commit(alloc: Global, disk: &mut FileDisk) -> Option<usize> {
+fn commit(alloc: Global, disk: &mut FileDisk<File>) -> Option<usize> {
     let body = filled(alloc, 6000000)?;
     let frame = frame(alloc, &body)?;
     let (mut journal, _bodies) = Journal::load(alloc, disk, 4000000000).ok()?;
@@ -92,7 +93,7 @@ fn commit(alloc: Global, disk: &mut FileDisk) -> Option<usize> {
     Some(body.len())
 }
 
-fn framed(alloc: Global, disk: &mut FileDisk) -> Option<usize> {
+fn framed(alloc: Global, disk: &mut FileDisk<File>) -> Option<usize> {
     let body = filled(alloc, 6000000)?;
     let (mut journal, _bodies) = Journal::load(alloc, disk, 4000000000).ok()?;
     for _ in 0..10u64 {
@@ -102,7 +103,7 @@ fn framed(alloc: Global, disk: &mut FileDisk) -> Option<usize> {
     Some(body.len())
 }
 
-fn bare(alloc: Global, disk: &mut FileDisk) -> Option<usize> {
+fn bare(alloc: Global, disk: &mut FileDisk<File>) -> Option<usize> {
     let body = filled(alloc, 6000000)?;
     for i in 0..10u64 {
         disk.write_at(i * 6000000, &body).ok()?;
@@ -111,7 +112,7 @@ fn bare(alloc: Global, disk: &mut FileDisk) -> Option<usize> {
     Some(body.len())
 }
 
-fn copied(alloc: Global, disk: &mut FileDisk) -> Option<usize> {
+fn copied(alloc: Global, disk: &mut FileDisk<File>) -> Option<usize> {
     let body = filled(alloc, 6000000)?;
     for i in 0..10u64 {
         let copy = body.to_vec(alloc).ok()?;
@@ -121,12 +122,12 @@ fn copied(alloc: Global, disk: &mut FileDisk) -> Option<usize> {
     Some(body.len())
 }
 
-fn load(alloc: Global, disk: &mut FileDisk) -> Option<usize> {
+fn load(alloc: Global, disk: &mut FileDisk<File>) -> Option<usize> {
     let (_journal, bodies) = Journal::load(alloc, disk, 4000000000).ok()?;
     Some(bodies.len())
 }
 
-fn read(alloc: Global, disk: &mut FileDisk) -> Option<usize> {
+fn read(alloc: Global, disk: &mut FileDisk<File>) -> Option<usize> {
     let len = disk.len().ok()?;
     let mut bytes = filled(alloc, len as usize)?;
     disk.read_at(0, &mut bytes).ok()?;
