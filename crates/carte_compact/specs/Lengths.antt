@@ -1,5 +1,5 @@
 -- How many bytes the live information takes in a file.
-use Rattle.std.specs.Prelude.{ℕ, ◌+◌, ◌<◌, ◌^◌, List, [], ◌∷◌, length}
+use Rattle.std.specs.Prelude.{ℕ, ◌≡◌, ◌+◌, ◌<◌, ◌^◌, List, [], ◌∷◌, length}
 use Rattle.carte_journal.specs.Frames.{BodyAt}
 use Rattle.carte_record.specs.declared.batch.Batch.{Batch}
 use Rattle.std.specs.List.{flat_map}
@@ -21,6 +21,12 @@ abbrev pub front_size : Kept → List (List ℕ) → List (List ℕ) → ℕ
 front_size K names keys =
     1 + length (spelled_list spelling K.values) + length (flat_map spelled_link (found_at (link_at K.seen) names))
     + length (flat_map spelled_entry (found_at (entry_at K.entries) keys)) + length (spelled_names (stale_at K.entries keys)) + 12
+
+-- in how many bytes those traces are spelled behind which no equal one comes, with their number
+pub record AreTraceLengths (K : Kept) (verifying constructive deep : ℕ) : Type 0 where
+  pub verifying_is : verifying ≡ length (spelled_list spelled_trace (last_ones Verifying K.verifying))
+  pub constructive_is : constructive ≡ length (spelled_list spelled_trace (last_ones Constructive K.constructive))
+  pub deep_is : deep ≡ length (spelled_list spelled_deep (last_ones Deep K.deep))
 
 abbrev pub back_size : Kept → ℕ
 back_size K =

@@ -7,7 +7,7 @@ ghost use Rattle.carte_compact.specs.Lengths.{region_length};
 ghost use Rattle.carte_compact.specs.Live.{IsLive};
 
 use crate::least::least_length;
-use crate::rewriting::short_length;
+use crate::rewriting::learned_length;
 use carte_codec::Measured;
 use carte_record::Batch;
 use carte_state::{Bank, State};
@@ -23,11 +23,18 @@ const BESIDE_BODY: u64 = 5;
 /// Whether a rewriting is to be made before this batch is committed: before the first commit of a build where it is
 /// possible and the bank is large or the batch doesn't fit, and before a later one where it is possible and the batch
 /// doesn't fit. What is kept in version 1 isn't rewritten. The live length is worked out only where the batch doesn't fit,
-/// or before a first commit to a bank of more than 65,536 bytes that has more than twice what is live at least. There is
-/// no memory either where a length doesn't fit 63 bits.
-pub fn is_due(alloc: Global, state: &State, batch: &Batch, is_first: bool) -> Result<bool, NoMemory>
-    ensures due { IfOk result (λ due. (Bs : List SomeBatch) → IsLive state.now.kept Bs → due ≡ is_due state.now (region_length Bs) batch.now is_first) }
-    ensures possible { IfOk result (λ due. due ≡ true → IsRewritable state.now.journal) }
+/// or before a first commit to a bank of more than 65,536 bytes that has more than twice what is live at least, as far as
+/// the state knows; what was worked out it knows from then on, and nothing else of it changes. There is no memory either
+/// where a length doesn't fit 63 bits.
+pub fn is_due(
+    alloc: Global,
+    state: &mut State,
+    batch: &Batch,
+    is_first: bool,
+) -> Result<bool, NoMemory>
+    ensures same { state.new ≡ state.old }
+    ensures due { IfOk result (λ due. (Bs : List SomeBatch) → IsLive state.old.kept Bs → due ≡ is_due state.old (region_length Bs) batch.now is_first) }
+    ensures possible { IfOk result (λ due. due ≡ true → IsRewritable state.old.journal) }
 {
     if state.is_old() {
         return Ok(false);
@@ -36,9 +43,15 @@ pub fn is_due(alloc: Global, state: &State, batch: &Batch, is_first: bool) -> Re
 }
 
 // The same where what is kept is of version 2.
-fn is_asked(alloc: Global, state: &State, batch: &Batch, is_first: bool) -> Result<bool, NoMemory>
-    ensures due { IfOk result (λ due. (Bs : List SomeBatch) → IsLive state.now.kept Bs → due ≡ is_asked state.now (region_length Bs) batch.now is_first) }
-    ensures possible { IfOk result (λ due. due ≡ true → IsRewritable state.now.journal) }
+fn is_asked(
+    alloc: Global,
+    state: &mut State,
+    batch: &Batch,
+    is_first: bool,
+) -> Result<bool, NoMemory>
+    ensures same { state.new ≡ state.old }
+    ensures due { IfOk result (λ due. (Bs : List SomeBatch) → IsLive state.old.kept Bs → due ≡ is_asked state.old (region_length Bs) batch.now is_first) }
+    ensures possible { IfOk result (λ due. due ≡ true → IsRewritable state.old.journal) }
 {
     let bank = state.bank();
     if batch.is_empty() || !can_turn(&bank) {
@@ -48,7 +61,7 @@ fn is_asked(alloc: Global, state: &State, batch: &Batch, is_first: bool) -> Resu
     if !may_be_wanted(&bank, least_length(state.kept()), is_over, is_first) {
         return Ok(false);
     }
-    let live = short_length(alloc, state.kept())?;
+    let live = learned_length(alloc, state)?;
     let is_wanted = is_wanted(&bank, live, is_over, is_first);
     Ok(is_wanted && state.needed_with(live) <= state.limit())
 }

@@ -5,7 +5,7 @@ ghost use Rattle.carte_codec.specs.Parts.{spelled_link, spelled_list, spelled_op
 ghost use Rattle.carte_record.specs.Bodies.{spelled_entry, spelled_names};
 ghost use Rattle.carte_record.specs.declared.batch.Batch.{Batch as SomeBatch};
 ghost use Rattle.carte_table.specs.Latest.{last_ones};
-ghost use Rattle.carte_compact.specs.Lengths.{back_size, front_size, region_length};
+ghost use Rattle.carte_compact.specs.Lengths.{AreTraceLengths, back_size, front_size, region_length};
 ghost use Rattle.carte_compact.specs.Live.{IsLive, chain_for, entry_at, found_at, link_at, put, stale_at};
 
 use crate::batches::is_bare;
@@ -19,10 +19,27 @@ use carte_table::All;
 use carte_value::{Name, Names, NoMemory, Seeded};
 use std::alloc::Global;
 
+/// In how many bytes the traces of each way are spelled behind which no equal one comes, with their number.
+#[derive(Clone, Copy)]
+pub(crate) struct TraceLengths {
+    pub(crate) verifying: u64,
+    pub(crate) constructive: u64,
+    pub(crate) deep: u64,
+}
+
 /// The number of bytes of the live information as it is written behind roots: each body in its frame, and the gate byte
 /// behind the last. It is worked out over all that is kept, without a copy of it. There is no memory either where the
 /// number doesn't fit 64 bits.
 pub fn live_length(alloc: Global, kept: &Kept) -> Result<u64, NoMemory>
+    ensures { IfOk result (λ n. (Bs : List SomeBatch) → IsLive kept.now Bs → n ≡ region_length Bs) }
+{
+    let traces = trace_lengths(alloc, kept)?;
+    length_with(alloc, kept, traces)
+}
+
+/// The same where the lengths of the traces are known.
+pub(crate) fn length_with(alloc: Global, kept: &Kept, traces: TraceLengths) -> Result<u64, NoMemory>
+    requires { AreTraceLengths kept.now traces.verifying traces.constructive traces.deep }
     ensures { IfOk result (λ n. (Bs : List SomeBatch) → IsLive kept.now Bs → n ≡ region_length Bs) }
 {
     if is_bare(kept) {
@@ -31,7 +48,7 @@ pub fn live_length(alloc: Global, kept: &Kept) -> Result<u64, NoMemory>
     let names = seen_names(alloc, &kept.seen)?;
     let keys = entry_keys(alloc, &kept.entries)?;
     let stale = stale_at(alloc, &kept.entries, keys.as_slice())?;
-    let back = back_length(alloc, kept)?;
+    let back = back_length(kept, traces).ok_or(NoMemory)?;
     let front = front_length(kept, names.as_slice(), keys.as_slice(), &stale).ok_or(NoMemory)?;
     region_length(front, back).ok_or(NoMemory)
 }
@@ -54,23 +71,30 @@ fn front_length(kept: &Kept, names: &[Name], keys: &[Name], stale: &Names) -> Op
         .checked_add(13)
 }
 
-fn back_length(alloc: Global, kept: &Kept) -> Result<u64, NoMemory>
-    ensures { IfOk result (λ n. n ≡ back_size kept.now) }
+fn back_length(kept: &Kept, traces: TraceLengths) -> Option<u64>
+    requires { AreTraceLengths kept.now traces.verifying traces.constructive traces.deep }
+    ensures { IfSome result (λ n. n ≡ back_size kept.now) }
+{
+    traces
+        .verifying
+        .checked_add(traces.constructive)?
+        .checked_add(traces.deep)?
+        .checked_add(chain_length(&kept.chain)?)
+}
+
+/// The lengths of the traces.
+pub(crate) fn trace_lengths(alloc: Global, kept: &Kept) -> Result<TraceLengths, NoMemory>
+    ensures { IfOk result (λ l. AreTraceLengths kept.now l.verifying l.constructive l.deep) }
 {
     let hasher = kept.hasher();
     let verifying = traces_length(alloc, &kept.verifying, hasher)?;
     let constructive = traces_length(alloc, &kept.constructive, hasher)?;
     let deep = traces_length(alloc, &kept.deep, hasher)?;
-    sum_of(verifying, constructive, deep, &kept.chain).ok_or(NoMemory)
-}
-
-fn sum_of(verifying: u64, constructive: u64, deep: u64, chain: &Names) -> Option<u64>
-    ensures { IfSome result (λ n. n ≡ verifying + constructive + deep + length (spelled_option spelled_names (chain_for chain.now))) }
-{
-    verifying
-        .checked_add(constructive)?
-        .checked_add(deep)?
-        .checked_add(chain_length(chain)?)
+    Ok(TraceLengths {
+        verifying,
+        constructive,
+        deep,
+    })
 }
 
 fn chain_length(chain: &Names) -> Option<u64>

@@ -16,7 +16,8 @@
 //! `specs/Rewriting.antt`, in the form of a state's `Applies`, so that a commit behind it is told by both, one after
 //! another (`steps_behind`). Whether a rewriting is due before a commit is the rule `is_due` in `specs/Due.antt`, over the
 //! live length. That is a pass over all that is kept, so it is made only where no lower bound decides: the lists know how
-//! many bytes they take, and of traces at least how many those take of which no equal one comes later (`least_length`).
+//! many bytes they take, and of traces at least how many those take of which no equal one comes later (`least_length`),
+//! which each pass that is made lets them know anew.
 //! Turned down: a rewriting at each build, which would write as much for one key as for all; and a live length that the
 //! state holds and each batch changes, since what a trace adds hangs on whether an equal one is kept, which is looked up
 //! only among few.

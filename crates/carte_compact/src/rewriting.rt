@@ -3,12 +3,12 @@ ghost use Rattle.std.specs.Prelude.{◌≡◌, ◌<◌, ◌^◌, false, ℕ, Lis
 ghost use Rattle.carte_journal.specs.Regions.{IsRewritable, Planned, needs_with, region_end};
 ghost use Rattle.carte_record.specs.declared.batch.Batch.{Batch as SomeBatch};
 ghost use Rattle.carte_state.specs.Around.{over_disk};
-ghost use Rattle.carte_compact.specs.Lengths.{region_length};
+ghost use Rattle.carte_compact.specs.Lengths.{AreTraceLengths, region_length};
 ghost use Rattle.carte_compact.specs.Live.{IsLive};
 ghost use Rattle.carte_compact.specs.Rewriting.{IsLiveRegion, Rewrites};
 
 use crate::bodies::live_bodies;
-use crate::lengths::live_length;
+use crate::lengths::{TraceLengths, length_with, live_length, trace_lengths};
 use carte_io::Disk;
 use carte_journal::{CommitFault, Region};
 use carte_record::Kept;
@@ -34,7 +34,37 @@ pub(crate) fn short_length(alloc: Global, kept: &Kept) -> Result<u64, NoMemory>
     ensures length { IfOk result (λ n. (Bs : List SomeBatch) → IsLive kept.now Bs → n ≡ region_length Bs) }
     ensures short { IfOk result (λ n. n < 2 ^ 63) }
 {
-    let length = live_length(alloc, kept)?;
+    short(live_length(alloc, kept)?)
+}
+
+/// The same; and the lists of traces know their part of it from then on, so that no later call needs a pass over them just to
+/// see that they are no shorter.
+pub(crate) fn learned_length(alloc: Global, state: &mut State) -> Result<u64, NoMemory>
+    ensures same { state.new ≡ state.old }
+    ensures length { IfOk result (λ n. (Bs : List SomeBatch) → IsLive state.old.kept Bs → n ≡ region_length Bs) }
+    ensures short { IfOk result (λ n. n < 2 ^ 63) }
+{
+    let traces = trace_lengths(alloc, state.kept())?;
+    learn(state, traces);
+    short(length_with(alloc, state.kept(), traces)?)
+}
+
+// Without the 4 bytes of their number.
+fn learn(state: &mut State, traces: TraceLengths)
+    requires { AreTraceLengths state.old.kept traces.verifying traces.constructive traces.deep }
+    ensures { state.new ≡ state.old }
+{
+    state.learn_lengths(
+        traces.verifying.saturating_sub(4),
+        traces.constructive.saturating_sub(4),
+        traces.deep.saturating_sub(4),
+    );
+}
+
+fn short(length: u64) -> Result<u64, NoMemory>
+    ensures same { IfOk result (λ n. n ≡ length) }
+    ensures short { IfOk result (λ n. n < 2 ^ 63) }
+{
     if length > MOST {
         return Err(NoMemory);
     }

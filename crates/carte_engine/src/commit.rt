@@ -89,7 +89,7 @@ impl Engine {
         if self.state.is_old() {
             return Ok(());
         }
-        if !is_due(alloc, &self.state, batch, first)? {
+        if !is_due(alloc, &mut self.state, batch, first)? {
             return Ok(());
         }
         rewrite(alloc, &mut self.state, disk)

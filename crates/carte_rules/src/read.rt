@@ -32,7 +32,7 @@ const MOST_BYTES: usize = 16_777_216;
 /// or that is no table; for each input in byte order `BadName`, then `BadValue` of what is neither an integer nor a
 /// text of at most 65,536 bytes; for each rule in byte order `BadName`, `Twice` where it is an input, `BadValue` of
 /// what is no text, `Formula`; `Limit` of keys. Memory is wanted only where there aren't too many bytes; and a document
-/// with more structure than any book has, 262,144 of the signs `[{,.=` outside of texts and comments, is refused by
+/// with more structure than any book has, 1,048,576 of the signs `[{,.=` outside of texts and comments, is refused by
 /// `NoMemory` before its tree is made.
 /// The book's map is made with `hasher`.
 pub fn read_rules(alloc: Global, bytes: &[u8], hasher: Seeded) -> Result<Book, BookFault>

@@ -1,5 +1,5 @@
 -- Columns of batches: what is kept after all batches is, list by list, what is kept after those of the columns.
-use Rattle.std.proofs.Common.{◌≡◌, ℕ, true, false, Bool, List, [], ◌∷◌, ◌++◌, Option, Some, None, Result, Ok, Err, Vec, refl, sym, ◌∙◌, ap, subst, append_assoc, append-nil}
+use Rattle.std.proofs.Common.{◌≡◌, ℕ, true, List, [], ◌∷◌, ◌++◌, Option, Some, None, Result, Ok, Err, Vec, refl, sym, ◌∙◌, ap, subst, append_assoc, append-nil}
 use Rattle.std.proofs.lemmas.Bool.{and_parts}
 use Rattle.std.specs.Prelude.{if◌then◌else◌, option_map, unwrap_or}
 use Rattle.std.specs.Option.{option_or}
@@ -106,14 +106,17 @@ module _ (Bs : List Batch) (c : Columns) (are : AreColumns Bs c) (E V O : Kept)
   traces_are Constructive = made_of (λ M. M.traces Constructive) HasOthersOf constructive_go c.others.items are.others (kept_view O) os
   traces_are Deep = made_of (λ M. M.traces Deep) HasOthersOf deep_go c.others.items are.others (kept_view O) os
 
-  pub beside_is : kept_view (record O { entries = E.entries; verifying = V.verifying }) ≡ applied nothing_kept Bs
-  beside_is i = record {
+  lists_are : kept_view (record O { entries = E.entries; verifying = V.verifying }) ≡ applied nothing_kept Bs
+  lists_are i = record {
     seen = made_of (λ M. M.seen) HasOthersOf seen_go c.others.items are.others (kept_view O) os i;
     entries = made_of (λ M. M.entries) HasEntriesOf entries_go c.entries.items are.entries (kept_view E) es i;
     traces = λ w. traces_are w i;
     chain = made_of (λ M. M.chain) HasOthersOf chain_go c.others.items are.others (kept_view O) os i;
     stored = made_of (λ M. M.stored) HasOthersOf stored_go c.others.items are.others (kept_view O) os i;
   }
+
+  pub beside_is : (K : Kept) → K ≡ record O { entries = E.entries; verifying = V.verifying } → kept_view K ≡ applied nothing_kept Bs
+  beside_is K is = ap kept_view is ∙ lists_are
 
 -- ---- columns that grow
 

@@ -211,7 +211,9 @@ impl Columns {
         hasher: Seeded,
         workers: usize,
     ) -> Result<(Kept, Kept, Kept), NoMemory>
-        ensures { IfOk result (λ kept. (kept_view kept.0 ≡ applied nothing_kept self.entries.items) × (kept_view kept.1 ≡ applied nothing_kept self.verifying.items) × (kept_view kept.2 ≡ applied nothing_kept self.others.items)) }
+        ensures entries { IfOk result (λ kept. kept_view kept.0 ≡ applied nothing_kept self.entries.items) }
+        ensures verifying { IfOk result (λ kept. kept_view kept.1 ≡ applied nothing_kept self.verifying.items) }
+        ensures others { IfOk result (λ kept. kept_view kept.2 ≡ applied nothing_kept self.others.items) }
     {
         let Columns {
             entries,

@@ -1,9 +1,10 @@
 ghost use Rattle.std.specs.Prelude.{◌≡◌, ◌≢◌, ◌+◌, ◌<◌, ◌≤◌, ◌^◌, ℕ, false, true, is_some, length, None, option_copied, IfOk, IsOkUnless, OnOk, OnErr, Ok, Err};
 ghost use Rattle.carte_codec.specs.Each.{EachFits};
 ghost use Rattle.carte_state.specs.Around.{over_disk};
-ghost use Rattle.carte_record.specs.Bodies.{IsBody, IsUnmarked, spelled_batch};
+ghost use Rattle.carte_record.specs.Bodies.{IsBody, IsUnmarked, spelled_batch, spelled_deep, spelled_trace};
 ghost use Rattle.carte_record.specs.Folds.{apply, with_marks};
 ghost use Rattle.carte_record.specs.Kept.{kept_view, nothing_kept};
+ghost use Rattle.carte_record.specs.Lookups.{deep_eq, trace_eq};
 ghost use Rattle.carte_record.specs.Marked.{CanBeMarked, lists_marked};
 ghost use Rattle.carte_state.specs.Applying.{Applies};
 ghost use Rattle.carte_state.specs.Folding.{Keeps};
@@ -11,6 +12,7 @@ ghost use Rattle.carte_state.specs.Rewriting.{IsRegionFor, step_over, with_journ
 ghost use Rattle.carte_state.specs.Parts.{made_view};
 ghost use Rattle.carte_state.specs.Versions.{Begins, kept_of};
 ghost use Rattle.carte_state.specs.States.{IsKeptOn, Stand as SomeStand, any_in, kept_in, needs_for};
+ghost use Rattle.carte_table.specs.Latest.{latest_length};
 ghost use Rattle.carte_io.specs.Causes.{HasCauseOf};
 ghost use Rattle.carte_io.specs.Stations.{StepsThrough};
 ghost use Rattle.carte_journal.specs.Journals.{broke};
@@ -111,6 +113,19 @@ impl State {
             → self.new ≡ before }
     {
         self.kept.unmark(keys);
+    }
+
+    /// Has the lists of traces know in how many bytes those are spelled at least of which no equal one comes later. What is
+    /// kept stays as it is.
+    pub fn learn_lengths(&mut self, verifying: u64, constructive: u64, deep: u64)
+        requires verifying { verifying ≤ latest_length trace_eq spelled_trace self.old.kept.verifying }
+        requires constructive { constructive ≤ latest_length trace_eq spelled_trace self.old.kept.constructive }
+        requires deep { deep ≤ latest_length deep_eq spelled_deep self.old.kept.deep }
+        ensures { self.new ≡ self.old }
+    {
+        self.kept.verifying.learn_length(verifying);
+        self.kept.constructive.learn_length(constructive);
+        self.kept.deep.learn_length(deep);
     }
 
     /// The value of a digest that is kept, where there is one: of several the first. It takes no memory.

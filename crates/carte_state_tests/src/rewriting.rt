@@ -96,7 +96,7 @@ fn marks(alloc: Global) -> Result<Box<Batch>, Fail> {
     Ok(marks)
 }
 
-fn is_due_now(alloc: Global, state: &State) -> Result<bool, Fail> {
+fn is_due_now(alloc: Global, state: &mut State) -> Result<bool, Fail> {
     let batch = marks(alloc)?;
     Ok(is_due(alloc, state, &batch, true)?)
 }
@@ -106,11 +106,11 @@ fn is_due_now(alloc: Global, state: &State) -> Result<bool, Fail> {
 fn wanted(alloc: Global, disk: &mut MemDisk, limit: u64) -> Result<(u64, u64, bool), Fail>
     requires { limit < 2 ^ 32 }
 {
-    let state = loaded(alloc, disk, limit)?;
-    wanted_of(alloc, &state)
+    let mut state = loaded(alloc, disk, limit)?;
+    wanted_of(alloc, &mut state)
 }
 
-fn wanted_of(alloc: Global, state: &State) -> Result<(u64, u64, bool), Fail> {
+fn wanted_of(alloc: Global, state: &mut State) -> Result<(u64, u64, bool), Fail> {
     let is_due = is_due_now(alloc, state)?;
     let needs = rewriting_needs(alloc, state)?;
     Ok((needs, state.needed_with(529), is_due))

@@ -139,6 +139,17 @@ impl<T: Compared + Drop> All<T> {
         self.least
     }
 
+    /// Has the list know that those items are spelled in so many bytes at least, so that `least_length` tells no fewer, and
+    /// counts from there what comes later.
+    pub fn learn_length(&mut self, length: u64)
+        requires { length ≤ latest_length T.alike T.spelled self.old }
+        ensures { self.new ≡ self.old }
+    {
+        if length > self.least {
+            self.least = length;
+        }
+    }
+
     /// Puts the items of a later list behind these. Where there is no room for all of them, some may stand there.
     pub fn append(&mut self, later: All<T>) -> Result<(), NoMemory>
         ensures ok { OnOk result (self.new ≡ self.old ++ later) }

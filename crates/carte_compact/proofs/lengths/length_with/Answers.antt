@@ -1,8 +1,8 @@
 use Rattle.std.proofs.Common.{◌≡◌, false, ap, sym, ◌∙◌, rules}
 use Rattle.carte_compact.specs.Live.{is_bare, stale_at}
-use Rattle.carte_compact.specs.Lengths.{front_size}
+use Rattle.carte_compact.specs.Lengths.{back_size, front_size}
 use Rattle.carte_compact.proofs.Sizes.{from_ok, if_there, in_all}
-use Rattle.carte_compact.proofs.lengths.live_length.Goals as goal
+use Rattle.carte_compact.proofs.lengths.length_with.Goals as goal
 
 pub front_length-requires : goal.front_length-requires
 front_length-requires c =
@@ -14,10 +14,12 @@ returns c =
     let some : is_bare K ≡ false = search rules in
     let names = c.in_ok-names.names.items in
     let keys = c.in_ok-keys.keys.items in
+    let backed : c.in_ok-back.back ≡ back_size K =
+    from_ok c.back_length.result _ (λ n. n ≡ back_size K) c.in_ok-back.back c.back_length.ensures (sym c.ok_or.ensures.value ∙ c.in_ok-back.was {u = tt}) in
     let sized : c.in_ok-front.front ≡ front_size K c.as_slice-2.result.now c.as_slice-3.result.now =
-    from_ok c.front_length.result _ (λ n. n ≡ front_size K c.as_slice-2.result.now c.as_slice-3.result.now) c.in_ok-front.front c.front_length.ensures (sym c.ok_or.ensures.value ∙ c.in_ok-front.was {u = tt}) in
+    from_ok c.front_length.result _ (λ n. n ≡ front_size K c.as_slice-2.result.now c.as_slice-3.result.now) c.in_ok-front.front c.front_length.ensures (sym c.ok_or-2.ensures.value ∙ c.in_ok-front.was {u = tt}) in
     let front = sized ∙ ap (λ ns. front_size K ns c.as_slice-3.result.now) c.as_slice-2.ensures.value ∙ ap (front_size K names) c.as_slice-3.ensures.value in
-    rw c.ok_or-2.ensures.value
+    rw c.ok_or-3.ensures.value
     (if_there c.region_length.result _ _ _
-    (λ n adds Bs live. in_all K names keys c.in_ok-front.front c.in_ok-back.back n some (c.in_ok-names.ensures {u = tt}) (c.in_ok-keys.ensures {u = tt}) front (c.in_ok-back.ensures {u = tt}) adds Bs live)
+    (λ n adds Bs live. in_all K names keys c.in_ok-front.front c.in_ok-back.back n some (c.in_ok-names.ensures {u = tt}) (c.in_ok-keys.ensures {u = tt}) front backed adds Bs live)
     c.region_length.ensures)
