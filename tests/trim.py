@@ -39,7 +39,7 @@ STATE_FAULT = (6, b"", b"carte_trim: the state's device failed\n")
 NOT_NEW = (17, b"", b"carte_trim: NEW isn't new\n")
 NEW_FAULT = (18, b"", b"carte_trim: NEW's device failed\n")
 EMPTY = batches.spell(("go on", *[[]] * 8, None))
-# Deep traces of 8,192 keys take 76 MB a build, so under that rebuilder the book is smaller.
+# Deep traces of 8,192 keys take 331 MB a build, so under that rebuilder the book is smaller.
 KEYS, COUNT = {"deep": 1_024}, 4
 
 
