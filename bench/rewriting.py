@@ -5,8 +5,9 @@ Over a generated book of 2,000 keys, whose last key reaches 1,027 rules, one inp
 key, in sessions of 25 builds. In one history an input goes between two values, under each kind of traces; in one all inputs are edited in turn under dirty bits, and
 in one under verifying traces, so that no value comes back; and in one a sheet of two rules is emptied and built 2,000 times. Of each stand
 the bytes of the file, those that are live, those of a fresh state, and what a load takes beside one of a fresh state, in instructions: of
-an explanation of an input, less those over no state. Where values come back and under dirty bits a file may have 2.5 times its live bytes
-and 200,000 more, and a load may take twice that of the fresh state; the sheet's may have 200,000 bytes.
+an explanation of an input, less those over no state. Where values come back and under dirty bits a file may have six times its live bytes
+and 500,000 more, since the list in front and two banks each grow to twice what is live and by what a build adds then (docs/DECISIONS.md),
+and a load may take twice that of the fresh state; the sheet's may have 200,000 bytes.
 
 Then a build of one edit over a state of which it rewrites the file, beside the same build over the rewritten file: what the rewriting
 takes beside loading what is live, which may be 1.5 times, with encoding it. It ends with 1 where a bound isn't kept.
@@ -87,7 +88,7 @@ def history(it, what, rebuilder, edits, is_bound):
 
 def line(it, what, book, name, data, fresh, is_bound):
     loads, long = [it.load(book, state, name) for state in ("state", "fresh")], live(data)
-    is_kept = len(data) <= 2.5 * long + 200_000 and loads[0] <= 2 * loads[1] if is_bound else True
+    is_kept = len(data) <= 6 * long + 500_000 and loads[0] <= 2 * loads[1] if is_bound else True
     print(f"| {what} | {len(data):,} | {long:,} | {len(fresh):,} | {loads[0] / loads[1]:.2f} | {states.read(data).generation} |" + it.bound(is_kept), flush=True)
     for state in ("state", "fresh"):
         (it.folder / state).unlink()
