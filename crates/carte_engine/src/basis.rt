@@ -1,5 +1,5 @@
 // What a build works over.
-ghost use Rattle.std.specs.Prelude.{◌≡◌, is_some, IfOk, OnErr};
+ghost use Rattle.std.specs.Prelude.{◌≡◌, is_some, IfOk, IfSome, OnErr};
 ghost use Rattle.carte_book.specs.Book.{Book as SomeBook, book_view};
 ghost use Rattle.carte_mark.specs.Bases.{IsBegun};
 ghost use Rattle.carte_record.specs.Kept.{kept_view};
@@ -43,14 +43,21 @@ impl Basis {
     }
 }
 
-/// Begins a build: marks what is kept where it stands, or makes a marked copy of it without what is dropped.
-pub(crate) fn begin_on(alloc: Global, state: &mut State, book: &Book) -> Result<Basis, NoMemory>
+/// Begins a build: marks what is kept where it stands, or makes a marked copy of it without what is dropped. What that is
+/// may be known.
+pub(crate) fn begin_on(
+    alloc: Global,
+    state: &mut State,
+    book: &Book,
+    known: Option<Begun>,
+) -> Result<Basis, NoMemory>
+    requires { IfSome known (IsBegun (kept_for (any_in state.old) (book_view book.now)) (book_view book.now)) }
     ensures begins { IfOk result (λ basis. StandsOn (book_view book.now) state.old state.new basis) }
     ensures failed { OnErr result (state.new ≡ state.old) }
 {
     match raised(alloc, state, book)? {
         Some(kept) => begin_apart(alloc, &kept, book),
-        None => begin_here(alloc, state, book),
+        None => begin_here(alloc, state, book, known),
     }
 }
 
@@ -66,17 +73,38 @@ pub(crate) fn raised(alloc: Global, state: &State, book: &Book) -> Result<Option
 }
 
 // Over what is kept: marked where it stands, unless names are dropped.
-fn begin_here(alloc: Global, state: &mut State, book: &Book) -> Result<Basis, NoMemory>
-    requires { kept_in state.old ≡ kept_for (any_in state.old) (book_view book.now) }
+fn begin_here(
+    alloc: Global,
+    state: &mut State,
+    book: &Book,
+    known: Option<Begun>,
+) -> Result<Basis, NoMemory>
+    requires found { kept_in state.old ≡ kept_for (any_in state.old) (book_view book.now) }
+    requires known { IfSome known (IsBegun (kept_for (any_in state.old) (book_view book.now)) (book_view book.now)) }
     ensures begins { IfOk result (λ basis. StandsOn (book_view book.now) state.old state.new basis) }
     ensures failed { OnErr result (state.new ≡ state.old) }
 {
-    let begun = begin(alloc, state.kept(), book)?;
+    let begun = begun_or(alloc, state.kept(), book, known)?;
     if !begun.gone.is_empty() {
         return apart(alloc, state.kept(), begun);
     }
     state.mark(&begun.marks);
     Ok(Basis { begun, apart: None })
+}
+
+fn begun_or(
+    alloc: Global,
+    kept: &Kept,
+    book: &Book,
+    known: Option<Begun>,
+) -> Result<Begun, NoMemory>
+    requires { IfSome known (IsBegun (kept_view kept.now) (book_view book.now)) }
+    ensures { IfOk result (IsBegun (kept_view kept.now) (book_view book.now)) }
+{
+    match known {
+        Some(begun) => Ok(begun),
+        None => begin(alloc, kept, book),
+    }
 }
 
 // Over something that isn't kept.

@@ -1,6 +1,7 @@
-ghost use Rattle.std.specs.Prelude.{◌≡◌, ◌<◌, ◌^◌, ℕ, false, is_some, IfOk, Err};
+ghost use Rattle.std.specs.Prelude.{◌≡◌, ◌<◌, ◌^◌, ℕ, false, is_some, IfOk, IfSome, Err};
 ghost use Rattle.carte_io.specs.Causes.{HasCauseOf};
 ghost use Rattle.carte_book.specs.Book.{book_view};
+ghost use Rattle.carte_mark.specs.Bases.{IsBegun};
 ghost use Rattle.carte_record.specs.Kept.{kept_view};
 ghost use Rattle.carte_state.specs.Folding.{IsBadState};
 ghost use Rattle.carte_state.specs.Runs.{AreUnmarked, BeginAll};
@@ -14,7 +15,7 @@ use crate::planned::{plan_over, raising};
 use crate::{Plan, Scheduler};
 use carte_book::Book;
 use carte_io::Disk;
-use carte_mark::know_tasks;
+use carte_mark::{Begun, know_tasks};
 use carte_rebuild::Rebuilder;
 use carte_record::Kept;
 use carte_state::{LoadFault, State};
@@ -159,7 +160,34 @@ impl Engine {
             (IfOk result (λ p. IsPlan scheduler (R.how rebuilder.now) (any_in self.old) (book_view book.now) targets.now p.batches.items p.answer)) }
         ensures tells { IfOk result (λ p. TellsFinished (book_view book.now) targets.now p.answer) }
     {
-        let basis = begin_on(alloc, &mut self.state, book)?;
+        self.plan_from(
+            rt, alloc, book, None, rebuilder, scheduler, workers, targets, gate,
+        )
+    }
+
+    /// The same where it may be known what the build begins with, as a watch tells it (`carte_mark::Watch`): then not all
+    /// that is kept is looked at.
+    pub fn plan_from<R: Rebuilder, G: Gate, T: Threads + Sync>(
+        &mut self,
+        rt: &T,
+        alloc: Global,
+        book: &Book,
+        known: Option<Begun>,
+        rebuilder: &R,
+        scheduler: Scheduler,
+        workers: usize,
+        targets: &Names,
+        gate: &G,
+    ) -> Result<Plan, NoMemory>
+        requires { IfSome known (IsBegun (kept_for (any_in self.old) (book_view book.now)) (book_view book.now)) }
+        ensures kept { self.new ≡ self.old }
+        ensures unmarked { IfOk result (λ p. AreUnmarked p.batches.items) }
+        ensures begins { IfOk result (λ p. BeginAll (any_in self.old) p.batches.items) }
+        ensures plans { Under (any_in self.old) (book_view book.now)
+            (IfOk result (λ p. IsPlan scheduler (R.how rebuilder.now) (any_in self.old) (book_view book.now) targets.now p.batches.items p.answer)) }
+        ensures tells { IfOk result (λ p. TellsFinished (book_view book.now) targets.now p.answer) }
+    {
+        let basis = begin_on(alloc, &mut self.state, book, known)?;
         let plan = plan_over(
             rt,
             alloc,

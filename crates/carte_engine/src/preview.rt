@@ -55,7 +55,7 @@ impl Engine {
             (IfOk result (IsForeseen (R.how rebuilder.now) (kept_for (any_in self.old) (book_view book.now)) (book_view book.now) targets.now)) }
         ensures targets { IfOk result (HasTargets (book_view book.now) targets.now) }
     {
-        let basis = begin_on(alloc, &mut self.state, book)?;
+        let basis = begin_on(alloc, &mut self.state, book, None)?;
         let end = carte_suspend::build(alloc, rebuilder, basis.base(&self.state), book, targets);
         basis.leave(&mut self.state);
         end

@@ -24,7 +24,7 @@ pub is_digest_not : (o : Option Digest) (d : Digest) → is_digest o d ≡ false
 is_digest_not o d is same = let e : false ≡ true = sym is ∙ (ap (λ x. is_digest x d) same ∙ digest_self d) in cc
 
 -- the test tells what has changed
-told : (K : SomeKept) (b : Book) (q : List ℕ) (o : Option Digest) → K.seen q ≡ o → has_changed o (present b q) ≡ true → IsSeenChanged K b q
+pub told : (K : SomeKept) (b : Book) (q : List ℕ) (o : Option Digest) → K.seen q ≡ o → has_changed o (present b q) ≡ true → IsSeenChanged K b q
 told K b q None is test = cc
 told K b q (Some d) is test = record { digest = d; seen = is; differs = is_digest_not (present b q) d (off (is_digest (present b q) d) test) }
   where
@@ -32,7 +32,7 @@ told K b q (Some d) is test = record { digest = d; seen = is; differs = is_diges
     off true h = cc
     off false h = refl
 
-untold : (K : SomeKept) (b : Book) (q : List ℕ) (o : Option Digest) → K.seen q ≡ o → has_changed o (present b q) ≡ false → ¬ (IsSeenChanged K b q)
+pub untold : (K : SomeKept) (b : Book) (q : List ℕ) (o : Option Digest) → K.seen q ≡ o → has_changed o (present b q) ≡ false → ¬ (IsSeenChanged K b q)
 untold K b q None is test c = let e : None ≡ Some c.digest = sym is ∙ c.seen in cc
 untold K b q (Some d) is test c = c.differs (is_digest_is (present b q) d (on (is_digest (present b q) d) test) ∙ (sym is ∙ c.seen))
   where

@@ -4,7 +4,10 @@ pub mod Spreading
 pub mod Changing
 pub mod Passing
 pub mod OtherTasks
+pub mod Walking
 pub mod Reaching
 pub mod Listing
 pub mod Dropping
 pub mod Beginning
+pub mod Learning
+pub mod Watching

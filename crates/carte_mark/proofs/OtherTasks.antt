@@ -27,11 +27,11 @@ still true h = refl
 still false h = cc
 
 -- the test tells what is other
-told : (K : SomeKept) (b : Book) (k : List ℕ) (o : Option Entry) → K.entries k ≡ o → is_other o (task_now b k) ≡ true → IsOther K b k
+pub told : (K : SomeKept) (b : Book) (k : List ℕ) (o : Option Entry) → K.entries k ≡ o → is_other o (task_now b k) ≡ true → IsOther K b k
 told K b k None is test = cc
 told K b k (Some e) is test = record { entry = e; kept = is; differs = is_digest_not (task_now b k) e.task (off (is_digest (task_now b k) e.task) test) }
 
-untold : (K : SomeKept) (b : Book) (k : List ℕ) (o : Option Entry) → K.entries k ≡ o → is_other o (task_now b k) ≡ false → ¬ (IsOther K b k)
+pub untold : (K : SomeKept) (b : Book) (k : List ℕ) (o : Option Entry) → K.entries k ≡ o → is_other o (task_now b k) ≡ false → ¬ (IsOther K b k)
 untold K b k None is test c = let e : None ≡ Some c.entry = sym is ∙ c.kept in cc
 untold K b k (Some e) is test c =
     let same : e ≡ c.entry = (let both : Some e ≡ Some c.entry = sym is ∙ c.kept in cc) in

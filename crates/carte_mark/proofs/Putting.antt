@@ -72,7 +72,7 @@ one_there rs k = on (list_any (name_eq k) rs) refl
     on true is = any_among rs k is
     on false is = among_right rs (k ∷ []) k (inl refl)
 
-get_left : (rs ks : List (List ℕ)) (i : ℕ) (q : List ℕ) → slice_get rs i ≡ Some q → slice_get (rs ++ ks) i ≡ Some q
+pub get_left : (rs ks : List (List ℕ)) (i : ℕ) (q : List ℕ) → slice_get rs i ≡ Some q → slice_get (rs ++ ks) i ≡ Some q
 get_left [] ks i q is = cc
 get_left (r ∷ rs) ks zero q is = is
 get_left (r ∷ rs) ks (suc i) q is = get_left rs ks i q is

@@ -10,63 +10,56 @@ use Rattle.carte_record.specs.declared.kept.Kept.{Kept}
 use Rattle.carte_record.specs.Kept.{kept_view}
 use Rattle.carte_table.proofs.Names.{name_eq_self}
 use Rattle.carte_sound.specs.Marks.{Leads, need, on}
-use Rattle.carte_mark.specs.Puts.{put_all}
 use Rattle.carte_mark.specs.Reached.{Spreads}
 use Rattle.carte_mark.specs.Passes.{AreReached}
-use Rattle.carte_mark.specs.Tables.{Users, AreUsers}
-use Rattle.carte_mark.proofs.Putting.{put_only, put_stays, put_there, put_get, get_among, among_get, get_there}
-use Rattle.carte_mark.proofs.Spreading.{leads_further, spreads_self}
+use Rattle.carte_mark.specs.Tables.{Users, AreUsers, HasUsers, NeedsIn, PutsUsers}
+use Rattle.carte_mark.proofs.Putting.{get_among, among_get, get_left, get_there}
+use Rattle.carte_mark.proofs.Spreading.{spreads_self, spreads_on}
 use Rattle.carte_mark.proofs.Using.{found_key}
 
 -- besides the names only keys that lead to them, and the users of those at the first places
 pub record IsReaching (K : Kept) (d : Users) (names rs : List (List ℕ)) (next : ℕ) : Type 0 where
   pub spreads : Spreads (kept_view K) names rs
-  pub closed : (i : ℕ) (q k : List ℕ) → i < next → slice_get rs i ≡ Some q → Among (d q) k → Among rs k
+  pub closed : (i : ℕ) (q k : List ℕ) → i < next → slice_get rs i ≡ Some q → NeedsIn (kept_view K) k q → Among (d q) k → Among rs k
 
 pub reaching_first : (K : Kept) (d : Users) (names : List (List ℕ)) → IsReaching K d names names 0
-reaching_first K d names = record { spreads = spreads_self (kept_view K) names; closed = λ i q k below is among. absurd (omega arith) }
+reaching_first K d names = record { spreads = spreads_self (kept_view K) names; closed = λ i q k below is needs among. absurd (omega arith) }
 
-module _ (K : Kept) (d : Users) (users : AreUsers K.entries d) where
+module _ (K : Kept) (d : Users) where
   -- the users of one name more
-  pub reaching_next : (names rs : List (List ℕ)) (next : ℕ) (q : List ℕ) → next < length rs → slice_get rs next ≡ Some q → IsReaching K d names rs next → IsReaching K d names (put_all rs (d q)) (next + 1)
-  reaching_next names rs next q within at so = record {
-    spreads = record {
-      only = λ k among. elim (put_only rs (d q) k among) [
-        | inl was ↦ so.spreads.only k was
-        | inr new ↦ (let needs = users.only q k new in inr (leads_further (kept_view K) names k q (need needs.0 needs.1 needs.2) (so.spreads.only q (get_among rs next q at))))
-      ];
-      stays = λ k among. put_stays rs (d q) k (so.spreads.stays k among);
-    };
-    closed = closed;
-  }
+  pub reaching_next : (names rs new : List (List ℕ)) (next : ℕ) (q : List ℕ) → next < length rs → slice_get rs next ≡ Some q → IsReaching K d names rs next → PutsUsers (kept_view K) (d q) rs new → IsReaching K d names new (next + 1)
+  reaching_next names rs new next q within at so puts = record { spreads = spreads_on (kept_view K) names rs new so.spreads puts.spreads; closed = closed }
     where
-      closed : (i : ℕ) (p k : List ℕ) → i < next + 1 → slice_get (put_all rs (d q)) i ≡ Some p → Among (d p) k → Among (put_all rs (d q)) k
-      closed i p k below is among =
+      closed : (i : ℕ) (p k : List ℕ) → i < next + 1 → slice_get new i ≡ Some p → NeedsIn (kept_view K) k p → Among (d p) k → Among new k
+      closed i p k below is needs among =
           let inside : i < length rs = omega arith in
           let old = get_there rs i inside in
-          let both : Some old.0 ≡ Some p = sym (put_get rs (d q) i old.0 old.1) ∙ is in
-          let same : old.0 ≡ p = cc in
+          let both : Some old.0 ≡ Some p = sym (subst (λ ks. slice_get ks i ≡ Some old.0) (sym puts.front.1) (get_left rs puts.front.0 i old.0 old.1)) ∙ is in
           let was : slice_get rs i ≡ Some p = old.1 ∙ both in
           elim (either i below) [
-            | inl before ↦ put_stays rs (d q) k (so.closed i p k before was among)
+            | inl before ↦ puts.spreads.stays k (so.closed i p k before was needs among)
             | inr here ↦
                 let two : Some p ≡ Some q = sym was ∙ (ap (slice_get rs) here ∙ at) in
                 let e : p ≡ q = cc in
-                put_there rs (d q) k (subst (λ j. Among (d j) k) e among)
+                puts.each k q (subst (λ j. Among (d j) k) e among) (subst (NeedsIn (kept_view K) k) e needs) (get_among rs next q at)
           ]
         where
           either : (i : ℕ) → i < next + 1 → (i < next) ⊎ (i ≡ next)
           either i below = grind arith
 
   -- at the end all users are there
-  pub reached_all : (names rs : List (List ℕ)) (next : ℕ) → length rs ≤ next → IsReaching K d names rs next → AreReached K names rs
-  reached_all names rs next past so = record {
+  pub reached_all : (names rs : List (List ℕ)) (next : ℕ) → HasUsers (kept_view K) d → length rs ≤ next → IsReaching K d names rs next → AreReached K names rs
+  reached_all names rs next users past so = record {
     spreads = so.spreads;
     closed = λ k e kept meets.
         let there = among_get rs meets.name meets.among in
         let below : there.0 < length rs = there.1 in
-        so.closed there.0 meets.name k (omega arith) there.2 (users.each meets.name k (e, kept, meets.needed));
+        so.closed there.0 meets.name k (omega arith) there.2 (e, kept, meets.needed) (users meets.name k (e, kept, meets.needed));
   }
+
+-- the table of all entries has them
+pub has_users : (K : Kept) (d : Users) → AreUsers K.entries d → HasUsers (kept_view K) d
+has_users K d users q k needs = users.each q k needs
 
 -- what leads somewhere has an entry
 leads_key : (K : Kept) (k n : List ℕ) → Leads (kept_view K) k n → Among (map (λ e. e.key) K.entries) k

@@ -4,3 +4,4 @@ pub mod Reached
 pub mod Passes
 pub mod Marking
 pub mod Bases
+pub mod Watching

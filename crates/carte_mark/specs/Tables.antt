@@ -3,7 +3,10 @@ use Rattle.std.specs.Prelude.{ℕ, ◌≡◌, ◌⊎◌, List, [], ◌∷◌, �
 use Rattle.carte_name.specs.Names.{name_eq}
 use Rattle.carte_value.specs.Truths.{Among}
 use Rattle.carte_record.specs.declared.entry.Entry.{Entry}
+use Rattle.carte_value.specs.Lists.{Begins}
+use Rattle.carte_record.specs.Kept.{SomeKept}
 use Rattle.carte_record.specs.Lookups.{first_entry}
+use Rattle.carte_mark.specs.Reached.{Spreads}
 
 -- of each name the keys that need it
 abbrev pub Users : Type 0
@@ -31,3 +34,17 @@ pub record AddsFor (old new : Users) (k : List ℕ) (P : List ℕ → Type 0) : 
 pub record AreUsers (es : List Entry) (d : Users) : Type 0 where
   pub only : (q k : List ℕ) → Among (d q) k → Needs es k q
   pub each : (q k : List ℕ) → Needs es k q → Among (d q) k
+
+-- the key's entry names it as a need, in what is kept
+abbrev pub NeedsIn : SomeKept → List ℕ → List ℕ → Type 0
+NeedsIn K k q = (e : Entry) × (K.entries k ≡ Some e) × Among e.needs q
+
+-- at least the keys that need it
+abbrev pub HasUsers : SomeKept → Users → Type 0
+HasUsers K d = (q k : List ℕ) → NeedsIn K k q → Among (d q) k
+
+-- of these keys those that need what was there, and only keys that lead to it
+pub record PutsUsers (K : SomeKept) (ks old new : List (List ℕ)) : Type 0 where
+  pub front : Begins old new
+  pub spreads : Spreads K old new
+  pub each : (k q : List ℕ) → Among ks k → NeedsIn K k q → Among old q → Among new k

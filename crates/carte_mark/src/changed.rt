@@ -55,7 +55,7 @@ fn add_changed(
     put(alloc, &link.name, names)
 }
 
-fn has_changed(seen: &Seen, book: &Book, name: &Name, digests: &mut Digests) -> bool
+pub(crate) fn has_changed(seen: &Seen, book: &Book, name: &Name, digests: &mut Digests) -> bool
     ensures { result ≡ has_changed (first_link seen.now name.now) (present (book_view book.now) name.now) }
 {
     match seen.find(name) {

@@ -17,6 +17,10 @@
 //! names of what `IsGone` says, in name order. Nothing is marked or dropped here: whoever builds does so, and takes it back
 //! when the build is worked out.
 //!
+//! Whoever builds again and again keeps a `Watch`: it has learned which names may have changed since, and keeps the table of
+//! the keys that need each name, so that a build begins in proportion to what changed. It may suspect too many, and its table
+//! may name keys that need a name no more: each is looked at.
+//!
 //! Turned down: the table from the start, which costs several times the passes; a walk from each entry down to its inputs,
 //! which goes over shared needs again and again; a tree of the marks, dearer than one sort; marks kept beside the entries,
 //! which every reader of an entry would have to look at; and a marked copy of what is kept, dearer than the marking.
@@ -32,9 +36,11 @@ mod set;
 mod tasks;
 mod users;
 mod walk;
+mod watch;
 
 pub use base::{Begun, begin};
 pub use marking::{listed, mark};
 pub use set::{NameSet, holds};
 pub use tasks::know_tasks;
 pub use walk::put_each;
+pub use watch::Watch;

@@ -1,9 +1,10 @@
-ghost use Rattle.std.specs.Prelude.{◌≡◌, ◌↔◌, true, IfOk, OnOk};
+ghost use Rattle.std.specs.Prelude.{◌≡◌, ◌↔◌, ℕ, List, true, IfOk, OnOk};
 ghost use Rattle.carte_value.specs.Truths.{Among, IsListOf};
 ghost use Rattle.carte_book.specs.Book.{Book as SomeBook, book_view};
 ghost use Rattle.carte_record.specs.Kept.{kept_view};
 ghost use Rattle.carte_sound.specs.Marks.{IsMarked};
 ghost use Rattle.carte_mark.specs.Marking.{IsToMark, Pushes, ArePicked};
+ghost use Rattle.carte_mark.specs.Passes.{AreReached};
 ghost use Rattle.carte_mark.specs.Reached.{AreChanged};
 
 use crate::changed::changed;
@@ -31,7 +32,14 @@ pub(crate) fn marks_over(alloc: Global, kept: &Kept, changed: NameSet) -> Result
         return Ok(Names::new(alloc));
     }
     let reached = reached(alloc, kept, changed)?;
-    let marks = to_mark(alloc, &kept.entries, &reached)?;
+    marks_of(alloc, kept, &reached)
+}
+
+/// The same where these were reached from the changed names.
+pub(crate) fn marks_of(alloc: Global, kept: &Kept, reached: &NameSet) -> Result<Names, NoMemory>
+    ensures { IfOk result (λ marks. (b : SomeBook) (names : List (List ℕ)) → AreChanged (kept_view kept.now) b names → AreReached kept.now names reached.now.keys → IsListOf (IsMarked (kept_view kept.now) b) marks) }
+{
+    let marks = to_mark(alloc, &kept.entries, reached)?;
     in_order(alloc, marks)
 }
 

@@ -1,6 +1,7 @@
 ghost use Rattle.std.specs.Prelude.{◌≡◌, ◌↔◌, ◌<◌, ◌+◌, ◌^◌, ℕ, true, List, Some, slice_get, IfOk, OnOk};
 ghost use Rattle.carte_record.specs.Kept.{kept_view};
 ghost use Rattle.carte_record.specs.declared.entry.Entry.{Entry as SomeEntry};
+ghost use Rattle.carte_value.specs.Lists.{Begins};
 ghost use Rattle.carte_mark.specs.Passes.{Passes};
 ghost use Rattle.carte_mark.specs.Reached.{PutsMore, IsClosedAt, IsUser};
 
@@ -72,8 +73,14 @@ fn put_user(
     put_key(alloc, kept, &entry.key, names)
 }
 
-// A key may have several entries, and the first one counts.
-fn put_key(alloc: Global, kept: &Kept, key: &Name, names: &mut NameSet) -> Result<bool, NoMemory>
+/// Puts a key whose entry needs what is there. A key may have several entries, and the first one counts.
+pub(crate) fn put_key(
+    alloc: Global,
+    kept: &Kept,
+    key: &Name,
+    names: &mut NameSet,
+) -> Result<bool, NoMemory>
+    ensures front { Begins names.old.keys names.new.keys }
     ensures puts { IfOk result (PutsMore (kept_view kept.now) names.old.keys names.new.keys) }
     ensures closed { OnOk result (IsClosedAt (kept_view kept.now) names.new.keys key.now) }
 {

@@ -57,7 +57,7 @@ fn add_changed_rule(
     put(alloc, &entry.key, names)
 }
 
-fn is_other(entries: &Entries, key: &Name, task: &Option<Digest>) -> bool
+pub(crate) fn is_other(entries: &Entries, key: &Name, task: &Option<Digest>) -> bool
     ensures { result ≡ is_other (first_entry entries.now key.now) task.now }
 {
     match entries.find(key) {

@@ -16,7 +16,7 @@ pub(crate) type Users = HashMap<Name, Names, Seeded>;
 pub(crate) fn users(alloc: Global, entries: &Entries, hasher: Seeded) -> Result<Users, NoMemory>
     ensures { IfOk result (λ users. AreUsers entries.now (λ q. keys_in (get name_eq users q))) }
 {
-    let mut users = Users::with_hasher(alloc, hasher);
+    let mut users = Users::with_capacity_and_hasher(alloc, entries.len(), hasher)?;
     for entry in entries.as_slice() {
         add_entry(alloc, entries, &entry.key, &mut users)?;
     }
@@ -37,7 +37,13 @@ fn add_entry(
     }
 }
 
-fn add_all(alloc: Global, names: &Names, key: &Name, users: &mut Users) -> Result<(), NoMemory>
+/// Adds the key to those that need these names.
+pub(crate) fn add_all(
+    alloc: Global,
+    names: &Names,
+    key: &Name,
+    users: &mut Users,
+) -> Result<(), NoMemory>
     ensures { OnOk result (AddsFor (λ q. keys_in (get name_eq users.old q)) (λ q. keys_in (get name_eq users.new q)) key.now (Among names.now)) }
 {
     for name in names.as_slice() {

@@ -9,6 +9,9 @@ use carte_value::{Names, Seeded};
 use std::alloc::Global;
 use thiserror::Error;
 
+/// For how many finished keys there is room from the start at most: a build of a few keys takes no more, however many are kept.
+const ROOM: usize = 1 << 10;
+
 /// What a build has done.
 #[derive(Drop)]
 pub struct Work {
@@ -34,7 +37,7 @@ impl Work {
         }
     }
 
-    /// The same with room for so many finished keys.
+    /// The same with room for so many finished keys, or for about a thousand.
     pub fn with_room(
         alloc: Global,
         count: usize,
@@ -45,7 +48,7 @@ impl Work {
         ensures chain { IfOk result (λ work. work.chain ≡ None) }
     {
         Ok(Work {
-            finished: FinishedList::with_room(alloc, count, hasher)?,
+            finished: FinishedList::with_room(alloc, count.min(ROOM), hasher)?,
             runs: Runs::new(alloc),
             chain: None,
         })

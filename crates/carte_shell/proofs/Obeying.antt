@@ -1,5 +1,5 @@
 -- From what a line does to what a step answers.
-use Rattle.std.proofs.Common.{◌≡◌, ℕ, List, Result, Ok, Err, refl, ap, inl, inr}
+use Rattle.std.proofs.Common.{◌≡◌, ℕ, List, Result, Ok, Err, refl, ap, sym, subst, inl, inr}
 use Rattle.std.specs.Prelude.{MatchResult}
 use Rattle.carte_value.specs.declared.value.Value.{Value}
 use Rattle.carte_book.specs.Book.{Book}
@@ -34,3 +34,18 @@ pub sets_by : {S : Type 0} (said : S → Said) (tells : Type 0) (m : Scene) (c :
     → MatchResult q (λ t. Obeys tells m (line.Set k v) (said t) (record m { book = c })) (λ end. Breaks tells m (line.Set k v) end (record m { book = c }))
 sets_by said tells m c k v (Ok t) sets = (sets, refl)
 sets_by said tells m c k v (Err end) sets = inl (sets.0, ap (λ (b : Book). record m { book = b }) sets.1)
+
+-- the book alone has changed
+scenes : (m m' : Scene) → m'.choices ≡ m.choices → m'.stand ≡ m.stand → m'.story ≡ m.story → m'.faults ≡ m.faults → m' ≡ record m { book = m'.book }
+scenes m m' choices stand story faults i = record { choices = choices i; book = m'.book; stand = stand i; story = story i; faults = faults i }
+
+pub sets_apart : {S : Type 0} (said : S → Said) (tells : Type 0) (m m' : Scene) (k : List ℕ) (v : Value) (q : Result S StepEnd)
+    → m'.choices ≡ m.choices → m'.stand ≡ m.stand → m'.story ≡ m.story → m'.faults ≡ m.faults
+    → MatchResult q (λ t. SetsInput m.book m'.book k v (said t)) (λ end. (end ≡ NoMemory) × (m'.book ≡ m.book))
+    → MatchResult q (λ t. Obeys tells m (line.Set k v) (said t) m') (λ end. Breaks tells m (line.Set k v) end m')
+sets_apart said tells m m' k v q choices stand story faults told =
+    subst (λ x. MatchResult q (λ t. Obeys tells m (line.Set k v) (said t) x) (λ end. Breaks tells m (line.Set k v) end x)) (sym (scenes m m' choices stand story faults)) (sets_by said tells m m'.book k v q told)
+
+-- none has changed
+pub same_scene : (m m' : Scene) → m'.choices ≡ m.choices → m'.book ≡ m.book → m'.stand ≡ m.stand → m'.story ≡ m.story → m'.faults ≡ m.faults → m' ≡ m
+same_scene m m' choices book stand story faults i = record { choices = choices i; book = book i; stand = stand i; story = story i; faults = faults i }

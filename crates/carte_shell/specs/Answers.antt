@@ -16,7 +16,8 @@ use Rattle.carte_record.specs.Kept.{nothing_kept}
 use Rattle.carte_report.specs.Lines.{cleaned_line, not_set_line, set_line, stray_line}
 use Rattle.carte_session.specs.declared.end.StepEnd.{StepEnd}
 use Rattle.carte_session.specs.declared.end.StepEnd.TheVariants.{NoMemory}
-use Rattle.carte_state.specs.States.{any_in}
+use Rattle.carte_shell.specs.declared.choices.Choices.{Choices}
+use Rattle.carte_state.specs.States.{Stand, any_in}
 use Rattle.carte_state.specs.Versions.{InTwo}
 use Rattle.carte_words.specs.Lines.{Means}
 use Rattle.carte_words.specs.declared.line.Line.{Line}
@@ -30,9 +31,15 @@ use Rattle.carte_shell.specs.Scenes.{Scene}
 -- ---- builds
 
 -- a build of the targets answers so, rightly, and commits the batches: whatever history what is kept is sound for
+abbrev pub PlansBy : Choices → Stand → Book → List (List ℕ) → Answer → List Batch → Type 0
+PlansBy ch s b targets a Bs = Under (any_in s) b (IsPlan (scheduler_of ch.scheduler) (how_of ch.rebuilder) (any_in s) b targets Bs a)
+
 abbrev pub Plans : Scene → List (List ℕ) → Answer → List Batch → Type 0
-Plans m targets a Bs =
-    Under (any_in m.stand) m.book (IsPlan (scheduler_of m.choices.scheduler) (how_of m.choices.rebuilder) (any_in m.stand) m.book targets Bs a)
+Plans m targets a Bs = PlansBy m.choices m.stand m.book targets a Bs
+
+-- the batches and the reply of a build that was worked out
+abbrev pub WorksOut : Choices → Stand → Book → List (List ℕ) → List Batch → Said → Type 0
+WorksOut ch s b targets Bs reply = (a : Answer) × PlansBy ch s b targets a Bs × (reply ≡ build_reply ch.list targets a)
 
 -- ---- inputs
 

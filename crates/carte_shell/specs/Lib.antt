@@ -3,6 +3,7 @@ pub mod Scenes
 pub mod Replies
 pub mod Stopping
 pub mod Commits
+pub mod Watched
 pub mod Explained
 pub mod Answers
 pub mod Books

@@ -1,8 +1,9 @@
 // The scheduler and the rebuilder that the words choose.
-ghost use Rattle.std.specs.Prelude.{◌≡◌, ℕ, IfOk, Err};
+ghost use Rattle.std.specs.Prelude.{◌≡◌, ℕ, IfOk, IfSome, Err};
 ghost use Rattle.carte_book.specs.Book.{book_view};
 ghost use Rattle.carte_book.specs.Reason.{IsReason};
 ghost use Rattle.carte_book.specs.declared.reason.Reason.{Reason as SomeReason};
+ghost use Rattle.carte_mark.specs.Bases.{IsBegun};
 ghost use Rattle.carte_state.specs.Runs.{AreUnmarked, BeginAll};
 ghost use Rattle.carte_state.specs.States.{any_in};
 ghost use Rattle.carte_engine.specs.Answers.{IsPlan};
@@ -18,6 +19,7 @@ use carte_deep::Deep;
 use carte_dirty::Dirty;
 use carte_engine::{Engine, Plan, Scheduler};
 use carte_explain::RebuilderKind;
+use carte_mark::Begun;
 use carte_rebuild::{PlanFault, Work};
 use carte_value::{Names, NoMemory};
 use carte_verify::Verify;
@@ -34,9 +36,11 @@ pub(crate) fn plan<G: Gate, T: Threads + Sync>(
     choices: Choices,
     engine: &mut Engine,
     book: &Book,
+    known: Option<Begun>,
     targets: &Names,
     gate: &G,
 ) -> Result<Plan, NoMemory>
+    requires { IfSome known (IsBegun (kept_for (any_in engine.old) (book_view book.now)) (book_view book.now)) }
     ensures kept { engine.new ≡ engine.old }
     ensures unmarked { IfOk result (λ p. AreUnmarked p.batches.items) }
     ensures begins { IfOk result (λ p. BeginAll (any_in engine.old) p.batches.items) }
@@ -46,14 +50,18 @@ pub(crate) fn plan<G: Gate, T: Threads + Sync>(
     let by = scheduler_of(choices.scheduler);
     let workers = choices.workers;
     match choices.rebuilder {
-        Rebuilder4::Dirty => engine.plan(rt, alloc, book, &Dirty, by, workers, targets, gate),
+        Rebuilder4::Dirty => {
+            engine.plan_from(rt, alloc, book, known, &Dirty, by, workers, targets, gate)
+        }
         Rebuilder4::Verifying => {
-            engine.plan(rt, alloc, book, &Verify, by, workers, targets, gate)
+            engine.plan_from(rt, alloc, book, known, &Verify, by, workers, targets, gate)
         }
-        Rebuilder4::Constructive => {
-            engine.plan(rt, alloc, book, &Construct, by, workers, targets, gate)
+        Rebuilder4::Constructive => engine.plan_from(
+            rt, alloc, book, known, &Construct, by, workers, targets, gate,
+        ),
+        Rebuilder4::Deep => {
+            engine.plan_from(rt, alloc, book, known, &Deep, by, workers, targets, gate)
         }
-        Rebuilder4::Deep => engine.plan(rt, alloc, book, &Deep, by, workers, targets, gate),
     }
 }
 

@@ -1,8 +1,14 @@
-ghost use Rattle.std.specs.Prelude.{◌≡◌, false, IfOk, IsTrue, MatchResult, OnOk};
-ghost use Rattle.carte_book.specs.Book.{book_view};
+ghost use Rattle.std.specs.Prelude.{◌≡◌, false, None, IfOk, IfSome, IsTrue, MatchResult, OnOk};
+ghost use Rattle.carte_name.specs.Kinds.{is_name_of};
+ghost use Rattle.carte_book.specs.Book.{Book as SomeBook, book_view};
+ghost use Rattle.carte_mark.specs.Bases.{IsBegun};
+ghost use Rattle.carte_mark.specs.Watching.{SameBut, Watches};
 ghost use Rattle.carte_state.specs.Runs.{AreUnmarked, BeginAll};
-ghost use Rattle.carte_state.specs.States.{any_in};
+ghost use Rattle.carte_state.specs.States.{any_in, kept_in};
 ghost use Rattle.carte_engine.specs.Clearing.{clearing};
+ghost use Rattle.carte_engine.specs.Versions.{kept_for};
+ghost use Rattle.carte_session.specs.declared.end.StepEnd.TheVariants.{NoMemory as OutOfMemory};
+ghost use Rattle.carte_shell.specs.Watched.{IsWatchedBehind, IsWatchedIn};
 ghost use Rattle.carte_words.specs.declared.line.Line.TheVariants.{Build as build_line, Clean as clean_line};
 
 use crate::chosen::plan;
@@ -13,10 +19,11 @@ use crate::{Choices, Reply};
 use carte_book::Book;
 use carte_engine::{Engine, Plan};
 use carte_io::Disk;
+use carte_mark::{Begun, Watch};
 use carte_record::Batch;
 use carte_report::{cleaned_line, stray_line};
 use carte_session::{Machine, StepEnd};
-use carte_value::{Names, NoMemory};
+use carte_value::{Name, Names, NoMemory, Value};
 use carte_wave::{Gate, NoGate};
 use carte_words::{Line, read_line};
 use std::alloc::Global;
@@ -24,12 +31,15 @@ use std::marker::Sync;
 use std::thread::Threads;
 
 /// A book and what is kept, in memory, and how builds are made of them: what carries out the lines of a session. Edits stay
-/// in memory.
+/// in memory. From its second build on it watches what changes, so that a build begins in proportion to that.
 #[derive(Drop)]
 pub struct Shell {
     pub(crate) choices: Choices,
     pub(crate) book: Book,
     pub(crate) engine: Engine,
+    watch: Option<Watch>,
+    has_built: bool,
+    ghost watched: { IsWatchedIn engine (book_view book) watch },
 }
 
 impl<D: Disk> Machine<D> for Shell {
@@ -61,7 +71,7 @@ impl<D: Disk> Machine<D> for Shell {
 }
 
 impl Shell {
-    ghost use Rattle.carte_shell.specs.Answers.{Breaks, NamesInput, Obeys};
+    ghost use Rattle.carte_shell.specs.Answers.{Breaks, NamesInput, Obeys, SetsInput, WorksOut};
     ghost use Rattle.carte_shell.specs.Commits.{Puts, Stops};
     ghost use Rattle.carte_shell.specs.Replies.{said};
     ghost use Rattle.carte_shell.specs.Scenes.{scene};
@@ -76,6 +86,8 @@ impl Shell {
             choices,
             book,
             engine,
+            watch: None,
+            has_built: false,
         }
     }
 
@@ -99,7 +111,7 @@ impl Shell {
         ensures on { OnOk result (self.new.engine.journal.broken ≡ false) }
     {
         match line {
-            Line::Set(name, value) => set_input(alloc, &mut self.book, &name, value),
+            Line::Set(name, value) => self.set(alloc, &name, value),
             Line::Build(targets) => {
                 self.know_digests(alloc)?;
                 self.build(rt, alloc, disk, &targets, gate)
@@ -114,6 +126,35 @@ impl Shell {
         }
     }
 
+    // The name is suspected first; where its value is refused that does no harm.
+    fn set(&mut self, alloc: Global, name: &Name, value: Value) -> Result<Reply, StepEnd>
+        requires { IsTrue (is_name_of (book_view self.old.book).kind name.now) }
+        ensures set { MatchResult result
+            (λ reply. SetsInput (book_view self.old.book) (book_view self.new.book) name.now value (said reply))
+            (λ end. (end ≡ OutOfMemory) × (book_view self.new.book ≡ book_view self.old.book)) }
+        ensures choices { self.new.choices ≡ self.old.choices }
+        ensures engine { self.new.engine ≡ self.old.engine }
+    {
+        let watch = self.suspected(alloc, name)?;
+        let reply = set_input(alloc, &mut self.book, name, value)?;
+        self.watch = watch;
+        Ok(reply)
+    }
+
+    // The watch, which it has no more, over a book in which the name may have another value.
+    fn suspected(&mut self, alloc: Global, name: &Name) -> Result<Option<Watch>, NoMemory>
+        ensures suspects { IfOk result (λ watch. (c : SomeBook) → SameBut name.now (book_view self.old.book) c → IsWatchedIn self.old.engine c watch) }
+        ensures choices { self.new.choices ≡ self.old.choices }
+        ensures book { self.new.book ≡ self.old.book }
+        ensures engine { self.new.engine ≡ self.old.engine }
+        ensures watch { self.new.watch ≡ None }
+    {
+        match self.watch.take() {
+            Some(watch) => Ok(Some(watch.suspect(alloc, name)?)),
+            None => Ok(None),
+        }
+    }
+
     // The digests of tasks, which no input changes, are worked out once. That of all rules is wanted to read what is kept in
     // version 1.
     fn know_digests(&mut self, alloc: Global) -> Result<(), NoMemory>
@@ -121,10 +162,7 @@ impl Shell {
         ensures book { book_view self.new.book ≡ book_view self.old.book }
         ensures engine { self.new.engine ≡ self.old.engine }
     {
-        if self.engine.is_old() {
-            self.book.know_digest(alloc)?;
-        }
-        self.engine.know_tasks(alloc, &mut self.book)
+        know_digests(alloc, &self.engine, &mut self.book)
     }
 
     fn build<D: Disk, G: Gate, T: Threads + Sync>(
@@ -141,19 +179,88 @@ impl Shell {
             (λ end. Breaks D.tells (scene D.story D.faults (self.old, disk.old)) (build_line targets.now) end (scene D.story D.faults (self.new, disk.new))) }
         ensures on { OnOk result (self.new.engine.journal.broken ≡ false) }
     {
+        let (batches, reply, watch) = self.worked_out(rt, alloc, targets, gate)?;
+        match self.commit(alloc, disk, batches, watch) {
+            Ok(()) => Ok(reply),
+            Err(end) => Err(end),
+        }
+    }
+
+    // What a build brings and replies, and the watch behind it. All is as it was, but for the watch, which it has no more.
+    fn worked_out<G: Gate, T: Threads + Sync>(
+        &mut self,
+        rt: &T,
+        alloc: Global,
+        targets: &Names,
+        gate: &G,
+    ) -> Result<(Vec<Batch>, Reply, Option<Watch>), NoMemory>
+        ensures works { IfOk result (λ r. WorksOut self.old.choices self.old.engine (book_view self.old.book) targets.now r.0.items (said r.1)) }
+        ensures unmarked { IfOk result (λ r. AreUnmarked r.0.items) }
+        ensures begins { IfOk result (λ r. BeginAll (any_in self.old.engine) r.0.items) }
+        ensures learned { IfOk result (λ r. IsWatchedBehind self.old.engine (book_view self.old.book) r.0.items r.2) }
+        ensures choices { self.new.choices ≡ self.old.choices }
+        ensures book { self.new.book ≡ self.old.book }
+        ensures engine { self.new.engine ≡ self.old.engine }
+    {
+        let known = self.begin(alloc)?;
         let Plan { batches, answer } = plan(
             rt,
             alloc,
             self.choices,
             &mut self.engine,
             &self.book,
+            known,
             targets,
             gate,
         )?;
         let reply = build_reply(alloc, self.choices.list, targets, answer)?;
-        match self.commit(alloc, disk, batches) {
-            Ok(()) => Ok(reply),
-            Err(end) => Err(end),
+        let watch = self.learned(alloc, batches.as_slice())?;
+        Ok((batches, reply, watch))
+    }
+
+    // What a build begins with, where a watch tells it: from the second build on.
+    fn begin(&mut self, alloc: Global) -> Result<Option<Begun>, NoMemory>
+        ensures begun { IfOk result (λ known. IfSome known (IsBegun (kept_for (any_in self.old.engine) (book_view self.old.book)) (book_view self.old.book))) }
+        ensures choices { self.new.choices ≡ self.old.choices }
+        ensures book { self.new.book ≡ self.old.book }
+        ensures engine { self.new.engine ≡ self.old.engine }
+    {
+        let has_built = self.has_built;
+        self.has_built = true;
+        if !has_built || self.engine.is_old() {
+            return Ok(None);
+        }
+        let watch = self.taken(alloc)?;
+        let (begun, watch) = watch.begin(alloc, self.engine.kept(), &self.book)?;
+        self.watch = Some(watch);
+        Ok(Some(begun))
+    }
+
+    // The watch, which it has no more, or one that is made.
+    fn taken(&mut self, alloc: Global) -> Result<Watch, NoMemory>
+        ensures watches { IfOk result (Watches (kept_in self.old.engine) (book_view self.old.book)) }
+        ensures choices { self.new.choices ≡ self.old.choices }
+        ensures book { self.new.book ≡ self.old.book }
+        ensures engine { self.new.engine ≡ self.old.engine }
+        ensures watch { self.new.watch ≡ None }
+    {
+        match self.watch.take() {
+            Some(watch) => Ok(watch),
+            None => Watch::new(alloc, self.engine.kept(), &self.book),
+        }
+    }
+
+    // The watch, which it has no more, behind batches that are about to be put.
+    fn learned(&mut self, alloc: Global, batches: &[Batch]) -> Result<Option<Watch>, NoMemory>
+        ensures learned { IfOk result (IsWatchedBehind self.old.engine (book_view self.old.book) batches.now) }
+        ensures choices { self.new.choices ≡ self.old.choices }
+        ensures book { self.new.book ≡ self.old.book }
+        ensures engine { self.new.engine ≡ self.old.engine }
+        ensures watch { self.new.watch ≡ None }
+    {
+        match self.watch.take() {
+            Some(watch) => watch.learn(alloc, self.engine.kept(), batches),
+            None => Ok(None),
         }
     }
 
@@ -162,8 +269,10 @@ impl Shell {
         alloc: Global,
         disk: &mut D,
         batches: Vec<Batch>,
+        watch: Option<Watch>,
     ) -> Result<(), StepEnd>
         requires whole { self.old.engine.journal.broken ≡ false }
+        requires learned { IsWatchedBehind self.old.engine (book_view self.old.book) batches.items watch }
         requires unmarked { AreUnmarked batches.items }
         requires begins { BeginAll (any_in self.old.engine) batches.items }
         ensures carried { MatchResult result
@@ -171,8 +280,12 @@ impl Shell {
             (λ end. Stops D.tells (scene D.story D.faults (self.old, disk.old)) (scene D.story D.faults (self.new, disk.new)) batches.items end) }
         ensures on { OnOk result (self.new.engine.journal.broken ≡ false) }
     {
+        self.watch = None;
         match self.engine.commit(alloc, disk, batches) {
-            Ok(()) => Ok(()),
+            Ok(()) => {
+                self.watch = watch;
+                Ok(())
+            }
             Err(fault) => Err(stopped(fault)),
         }
     }
@@ -185,9 +298,19 @@ impl Shell {
         ensures on { OnOk result (self.new.engine.journal.broken ≡ false) }
     {
         let reply = Reply::plain(cleaned_line(alloc)?);
+        self.watch = None;
         match self.engine.clean(alloc, disk) {
             Ok(()) => Ok(reply),
             Err(fault) => Err(stopped(fault)),
         }
     }
+}
+
+fn know_digests(alloc: Global, engine: &Engine, book: &mut Book) -> Result<(), NoMemory>
+    ensures { book_view book.new ≡ book_view book.old }
+{
+    if engine.is_old() {
+        book.know_digest(alloc)?;
+    }
+    engine.know_tasks(alloc, book)
 }

@@ -3,7 +3,7 @@ use Rattle.std.specs.Prelude.{IfOk}
 use Rattle.carte_value.specs.Truths.{IsListOf}
 use Rattle.carte_record.specs.Kept.{kept_view}
 use Rattle.carte_sound.specs.Marks.{IsMarked}
-use Rattle.carte_mark.proofs.Listing.{all_marked, no_names, none_marked}
+use Rattle.carte_mark.proofs.Listing.{no_names, none_marked}
 use Rattle.carte_mark.proofs.marking.marks_over.Goals as goal
 
 if_ok : {A E : Type 0} {P Q : A → Type 0} (r : Result A E) → ((x : A) → P x → Q x) → IfOk r P → IfOk r Q
@@ -17,8 +17,4 @@ returns-then-is_empty c =
     λ b are. subst (IsListOf (IsMarked (kept_view c.args.kept.now) b)) (sym c.new.ensures) (none_marked c.args.kept.now b changed are (no_names changed zero))
 
 pub returns : goal.returns
-returns c =
-    let K = c.args.kept.now in
-    let reached = c.in_ok-reached.reached.keys in
-    let ms = c.in_ok-marks.marks.items in
-    if_ok c.in_order.result (λ names l b are. all_marked K b c.args.changed.keys reached are (c.in_ok-reached.ensures {u = tt}) ms names (c.in_ok-marks.ensures {u = tt}) l) c.in_order.ensures
+returns c = if_ok c.marks_of.result (λ names marks b are. marks b c.args.changed.keys are (c.in_ok-reached.ensures {u = tt})) c.marks_of.ensures

@@ -1,33 +1,16 @@
-use Rattle.std.proofs.Common.{◌<◌, ◌≤◌, ◌+◌, ℕ, List, length, sym, subst, rules, arith}
+use Rattle.std.proofs.Common.{ℕ, List, Result, Ok, Err}
 use Rattle.std.specs.HashMap.{get}
+use Rattle.std.specs.Prelude.{IfOk}
 use Rattle.carte_name.specs.Names.{name_eq}
 use Rattle.carte_mark.specs.Tables.{keys_in}
-use Rattle.carte_mark.proofs.Putting.{get_there}
-use Rattle.carte_mark.proofs.Reaching.{IsReaching, reaching_first, reaching_next, reached_all, reached_few}
+use Rattle.carte_mark.proofs.Reaching.{has_users}
 use Rattle.carte_mark.proofs.walk.walk.Goals as goal
 
-pub loop-next-init : goal.loop-next-init
-loop-next-init c = reaching_first c.args.kept.now (λ (q : List ℕ). keys_in (get name_eq c.in_ok-users.users q)) c.args.names.keys
-
-pub loop-next-smaller : goal.loop-next-smaller
-loop-next-smaller c =
-    let d = λ (q : List ℕ). keys_in (get name_eq c.in_ok-users.users q) in
-    let few = reached_few c.args.kept.now d c.args.names.keys c.loop-next.reached.keys c.loop-next.next c.len.ensures.unique c.loop-next.invariant in
-    let below : c.loop-next.next < length c.loop-next.reached.keys = search rules in
-    omega arith
-
-pub loop-next-preserved : goal.loop-next-preserved
-loop-next-preserved c =
-    let K = c.args.kept.now in
-    let d = λ (q : List ℕ). keys_in (get name_eq c.in_ok-users.users q) in
-    let rs = c.loop-next.reached.keys in
-    let below : c.loop-next.next < length rs = search rules in
-    let there = get_there rs c.loop-next.next below in
-    subst (λ new. IsReaching K d c.args.names.keys new (c.loop-next.next + 1)) (sym ((c.in_ok-put_users_at.ensures {u = tt}) there.0 there.1))
-    (reaching_next K d (c.in_ok-users.ensures {u = tt}) c.args.names.keys rs c.loop-next.next there.0 below there.1 c.loop-next.invariant)
+if_ok : {A E : Type 0} {P Q : A → Type 0} (r : Result A E) → ((x : A) → P x → Q x) → IfOk r P → IfOk r Q
+if_ok (Ok x) f p = f x p
+if_ok (Err e) f p = p
 
 pub returns : goal.returns
 returns c =
     let d = λ (q : List ℕ). keys_in (get name_eq c.in_ok-users.users q) in
-    let past : length c.loop-next.reached.keys ≤ c.loop-next.next = search rules in
-    reached_all c.args.kept.now d (c.in_ok-users.ensures {u = tt}) c.args.names.keys c.loop-next.reached.keys c.loop-next.next past c.loop-next.invariant
+    if_ok c.walk_over.result (λ reached are. are (has_users c.args.kept.now d (c.in_ok-users.ensures {u = tt}))) c.walk_over.ensures

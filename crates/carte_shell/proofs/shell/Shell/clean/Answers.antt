@@ -30,7 +30,9 @@ returns-in-Err-clause-carried g c =
     let see = scene g.D.Disk.story g.D.Disk.faults in
     let engine = c.args.self.now.engine in
     let Bs = clearing engine ∷ [] in
-    breaks g.D.Disk.tells (see (c.args.self.now, c.args.disk.now)) (see (record c.args.self.now { engine = c.clean.new.self }, c.clean.new.disk)) line.Clean Bs c.stopped.result refl (record {
+    let before = see (c.args.self.now, c.args.disk.now) in
+    let behind = record before { stand = c.clean.new.self; story = g.D.Disk.story c.clean.new.disk; faults = g.D.Disk.faults c.clean.new.disk } in
+    breaks g.D.Disk.tells before behind line.Clean Bs c.stopped.result refl (record {
       choices = refl;
       book = refl;
       commits = subst (λ fault. CommitsAll (seen d) engine c.clean.new.self Bs (Err fault)) (sym c.stopped.ensures)

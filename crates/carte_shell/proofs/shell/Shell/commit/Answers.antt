@@ -2,6 +2,8 @@ use Rattle.std.proofs.Common.{true, Ok, Err, refl, sym, subst}
 use Rattle.carte_state.specs.Around.{over_disk}
 use Rattle.carte_engine.specs.Committing.{CommitsAll, seen}
 use Rattle.carte_engine.proofs.Several.{all_seen, puts_whole}
+use Rattle.carte_book.specs.Book.{book_view}
+use Rattle.carte_shell.proofs.Watched.{watched_behind}
 use Rattle.carte_shell.proofs.shell.Shell.commit.Goals as goal
 
 pub returns-in-Ok-clause-carried : goal.returns-in-Ok-clause-carried
@@ -30,3 +32,11 @@ returns-in-Ok-clause-on g c =
     let d = over_disk g.D.Disk.tells g.D.Disk.story g.D.Disk.faults c.args.disk.now c.commit.new.disk in
     let Bs = c.args.batches.items in
     puts_whole true d c.args.self.now.engine Bs c.commit.new.self (subst (CommitsAll d c.args.self.now.engine c.commit.new.self Bs) c.in-Ok.is c.commit.ensures) c.requires.whole
+
+pub invariant_of-self : goal.invariant_of-self
+invariant_of-self g c =
+    let d = over_disk g.D.Disk.tells g.D.Disk.story g.D.Disk.faults c.args.disk.now c.commit.new.disk in
+    let engine = c.args.self.now.engine in
+    let Bs = c.args.batches.items in
+    let puts = subst (CommitsAll d engine c.commit.new.self Bs) c.in-Ok.is c.commit.ensures in
+    record { watched = watched_behind d engine c.commit.new.self (book_view c.args.self.now.book) Bs c.args.watch puts c.requires.learned }

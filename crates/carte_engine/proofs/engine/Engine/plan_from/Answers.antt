@@ -1,12 +1,12 @@
 use Rattle.std.proofs.Common.{◌≡◌, sym, subst}
-use Rattle.std.specs.Prelude.{IfOk}
+use Rattle.std.specs.Prelude.{IfOk, IfSome}
 use Rattle.carte_book.specs.Book.{book_view}
-use Rattle.carte_mark.specs.Bases.{BeginsWith}
+use Rattle.carte_mark.specs.Bases.{BeginsWith, IsBegun}
 use Rattle.carte_state.specs.States.{Stand, any_in}
 use Rattle.carte_engine.specs.Versions.{Raises, kept_for}
 use Rattle.carte_engine.specs.Working.{StandsOn}
 use Rattle.carte_engine.proofs.Found.{if_begins, if_plan, if_tells}
-use Rattle.carte_engine.proofs.engine.Engine.plan.Goals as goal
+use Rattle.carte_engine.proofs.engine.Engine.plan_from.Goals as goal
 
 pub returns-clause-begins : goal.returns-clause-begins
 returns-clause-begins g c =
@@ -31,3 +31,8 @@ returns-clause-plans g c =
 pub returns-clause-tells : goal.returns-clause-tells
 returns-clause-tells g c =
     if_tells (any_in c.leave.new.state) (book_view c.args.book.now) c.args.targets.now c.in_ok-plan.field-0 c.raising.result c.raising.ensures.raises c.in_ok-plan.ensures.tells
+
+pub begin_on-requires : goal.begin_on-requires
+begin_on-requires g c =
+    let b = book_view c.args.book.now in
+    subst (λ (s : Stand). IfSome c.args.known (IsBegun (kept_for (any_in s) b) b)) (sym c.self.view_is) c.requires
