@@ -4,8 +4,9 @@
 Over a generated book with an input more on which three rules depend, whose last key and these were built, a session sets that
 input and builds the last of the three rules, PAIRS times. Of one such pair: its instructions (a session of many
 pairs beside one of few, by callgrind), its user time and its system calls (strace), each beside a process that builds the last
-key again, where nothing changed. It ends with 1 where a pair takes more than 1/20 of that process's user time, or more syncs
-than a commit has. The same is then told of a pair that builds the last key, beneath which all kept rules lie.
+key again, where nothing changed. It ends with 1 where a pair takes more than 0.2 ms of user time, more than 1.5 times the
+instructions of one in a book with an eighth of the keys, or more syncs than a commit has. The same is then told of a pair that
+builds the last key, beneath which all kept rules lie. Two pairs are made first, at which the session makes its watch.
 """
 import os
 import pathlib
@@ -19,6 +20,8 @@ import tempfile
 from generated import generated
 
 SEED, PAIRS, SYNCS = 1, 200, 2
+# The most milliseconds of user time of a pair that builds three rules, and the most times its instructions with an eighth of the keys.
+MOST, GROWTH = 0.2, 1.5
 
 
 def with_three(book):
@@ -59,29 +62,39 @@ def measure(program, extra, folder, name, target, pairs):
         shutil.copyfile(f"{folder}/built", f"{folder}/state")
         return how(words, script(name, target, count), *more)
 
-    few, many = (of(count, counted, folder) for count in (2, 12))
-    times = [(of(pairs + 1, run)[1] - of(1, run)[1]) / pairs for _ in range(3)]
-    seen, more = (of(count, calls, folder) for count in (2, 12))
+    few, many = (of(count, counted, folder) for count in (3, 13))
+    times = [(of(pairs + 3, run)[1] - of(3, run)[1]) / pairs for _ in range(3)]
+    seen, more = (of(count, calls, folder) for count in (3, 13))
     return (many - few) / 10, statistics.median(times), (more[0] - seen[0]) / 10, (more[1] - seen[1]) / 10
 
 
-def main(program, *words):
-    extra = [word for at, word in enumerate(words) if word.startswith("--") or (at and words[at - 1].startswith("--"))]
-    keys = next((int(word) for word in words if word.isdigit()), 65_536)
-    program, book, last = os.path.abspath(program), with_three(generated(SEED, keys - 4)), f"k{keys - 5}"
+def measured(program, extra, keys):
+    """Of a pair that builds three rules the instructions; and whether a bound was left."""
+    book, last = with_three(generated(SEED, keys - 4)), f"k{keys - 5}"
     with tempfile.TemporaryDirectory() as folder:
         pathlib.Path(f"{folder}/book.toml").write_text(book)
         null = [program, "build", f"{folder}/book.toml", f"{folder}/built", last, "third", *extra]
         subprocess.run(null, check=True, stdout=subprocess.DEVNULL)
         null_count, null_time = counted(null, b"", folder), statistics.median(run(null, b"")[1] for _ in range(5))
         print(f"{keys} keys, a build in a process where nothing changed: {null_count} instructions, {null_time:.3f} s of user time")
-        failed = False
+        three, failed = 0, False
         for what, pairs in (("third", PAIRS), (last, PAIRS // 10)):
             count, seconds, made, syncs = measure(program, extra, folder, "edited", what, pairs)
             print(f"set edited, build {what}: {count:.0f} instructions (1/{null_count / count:.1f}), {1000 * seconds:.2f} ms of user time "
                   f"(1/{null_time / max(seconds, 1e-9):.1f}), {made:.1f} system calls, {syncs:.1f} syncs", flush=True)
-            failed |= what == "third" and (seconds > null_time / 20 or syncs > SYNCS)
-    return 1 if failed else 0
+            if what == "third":
+                three, failed = count, 1000 * seconds > MOST or syncs > SYNCS
+    return three, failed
+
+
+def main(program, *words):
+    extra = [word for at, word in enumerate(words) if word.startswith("--") or (at and words[at - 1].startswith("--"))]
+    keys = next((int(word) for word in words if word.isdigit()), 65_536)
+    program = os.path.abspath(program)
+    small, small_failed = measured(program, extra, keys // 8)
+    large, large_failed = measured(program, extra, keys)
+    print(f"a pair that builds three rules, {keys} keys to {keys // 8}: {large / small:.2f} times the instructions")
+    return 1 if small_failed or large_failed or large > GROWTH * small else 0
 
 
 if __name__ == "__main__":
