@@ -36,6 +36,21 @@ impl Engine {
         requires begins { BeginAll (any_in self.old) batches.items }
         ensures { CommitsAll (over_disk D.tells D.story D.faults disk.old disk.new) self.old self.new batches.items result }
     {
+        self.state.make_room(batches.as_slice());
+        self.commit_each(alloc, disk, batches)
+    }
+
+    fn commit_each<D: Disk>(
+        &mut self,
+        alloc: Global,
+        disk: &mut D,
+        batches: Vec<Batch>,
+    ) -> Result<(), ApplyFault>
+        requires whole { self.old.journal.broken ≡ false }
+        requires unmarked { AreUnmarked batches.items }
+        requires begins { BeginAll (any_in self.old) batches.items }
+        ensures { CommitsAll (over_disk D.tells D.story D.faults disk.old disk.new) self.old self.new batches.items result }
+    {
         let mut first = true;
         for batch in batches {
             self.commit_one(alloc, disk, batch, first)?;

@@ -5,8 +5,9 @@ ghost use Rattle.carte_note.specs.Methods.{how_of};
 ghost use Rattle.carte_plan.specs.Cuts.{AreCuts, cut_off, rest_of, with_all};
 
 use carte_book::Book;
+use carte_effect::Made;
 use carte_note::{Finished, Method, note_finished};
-use carte_record::{Batch, Kept, Seen, Store};
+use carte_record::{Batch, Kept, Seen, Store, Way};
 use carte_value::{Digest, NoMemory, Same, Seeded, Value};
 use std::alloc::Global;
 use std::mem;
@@ -118,11 +119,30 @@ fn note_part(
 ) -> Result<(), NoMemory>
     ensures { OnOk result (batch.new ≡ with_all (how_of method) (book_view book.now) kept.now part.now batch.old) }
 {
-    batch.widen(part.len());
+    batch.widen(count_ran(part), way_of(method));
     for one in part {
         note_finished(alloc, method, kept, book, one, batch)?;
     }
     Ok(())
+}
+
+// What didn't run mostly brings nothing, so no room is made for it.
+fn count_ran(part: &[Finished]) -> usize {
+    let mut count = 0usize;
+    for one in part {
+        if let Made::Ran(_) = &one.made {
+            count = count.saturating_add(1);
+        }
+    }
+    count
+}
+
+// Of which way the traces are that a rebuilder writes.
+fn way_of(method: Method) -> Option<Way> {
+    match method {
+        Method::Dirty => None,
+        Method::Tracing(way) => Some(way),
+    }
 }
 
 // Entries and traces are moved. Values and links stay for the keys that come, and what is copied of them is short or shared.

@@ -1,7 +1,7 @@
 ghost use Rattle.std.specs.Prelude.{◌≡◌, IfOk, true};
 ghost use Rattle.carte_record.specs.Empty.{is_empty, brings_no_key, brings_no_trace, drops_nothing};
 
-use crate::{DeepTraces, Entries, Seen, Start, Store, Traces};
+use crate::{DeepTraces, Entries, Seen, Start, Store, Traces, Way};
 use carte_value::{Names, NoMemory, Seeded};
 use std::alloc::Global;
 
@@ -41,15 +41,18 @@ impl Batch {
         }
     }
 
-    /// Room for what so many finished keys bring at most, where there is memory for it. Lists that grow as items come
-    /// leave holes behind them, as large as they are.
-    pub fn widen(&mut self, count: usize)
+    /// Room for what so many finished keys bring at most, where there is memory for it: entries, and traces of a way where
+    /// the rebuilder has one. Lists that grow as items come leave holes behind them, as large as they are.
+    pub fn widen(&mut self, count: usize, way: Option<Way>)
         ensures { self.new ≡ self.old }
     {
         self.entries.widen(count);
-        self.verifying.widen(count);
-        self.constructive.widen(count);
-        self.deep.widen(count);
+        match way {
+            Some(Way::Verifying) => self.verifying.widen(count),
+            Some(Way::Constructive) => self.constructive.widen(count),
+            Some(Way::Deep) => self.deep.widen(count),
+            None => {}
+        }
     }
 
     /// Whether it goes on and has nothing in it.

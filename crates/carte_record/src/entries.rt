@@ -56,7 +56,7 @@ impl Entries {
     }
 
     /// Room for so many entries more at once, where it has few beside these.
-    pub(crate) fn widen(&mut self, more: usize)
+    pub fn widen(&mut self, more: usize)
         ensures { self.new ≡ self.old }
     {
         self.list.widen(more);

@@ -8,6 +8,7 @@ ghost use Rattle.carte_state.specs.Runs.{applied};
 
 use crate::any::AnyBatch;
 use crate::parts::Found;
+use crate::room::{Sizes, put_in};
 use carte_record::{Batch, Kept};
 use carte_value::{NoMemory, Seeded};
 use std::alloc::Global;
@@ -265,8 +266,9 @@ fn put_together(alloc: Global, batches: Vec<Batch>, hasher: Seeded) -> Result<Ke
     ensures { IfOk result (λ kept. kept_view kept ≡ applied nothing_kept batches.items) }
 {
     let mut kept = Kept::empty(alloc, hasher);
+    let mut coming = Sizes::of_all(batches.as_slice());
     for batch in batches {
-        kept.absorb(batch)?;
+        put_in(&mut kept, batch, &mut coming)?;
     }
     Ok(kept)
 }

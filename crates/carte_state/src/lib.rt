@@ -37,6 +37,7 @@ mod load;
 mod made;
 mod many;
 mod parts;
+mod room;
 mod state;
 
 pub use any::{AnyBatch, decode_any};

@@ -10,7 +10,7 @@ ghost use Rattle.carte_state.specs.Versions.{Fresh};
 
 use crate::columns::{are_cut, can_cut, kept_by_columns};
 use crate::made::Made;
-use crate::parts::{Found, bytes_of, cut, found_in, part_count, read_parts};
+use crate::parts::{Found, bytes_of, cut, found_in, part_count, read_parts, weight_of};
 use crate::{LoadFault, State};
 use carte_io::{Disk, Gate};
 use carte_journal::{Bodies, Body, Journal};
@@ -176,18 +176,28 @@ fn take_each(alloc: Global, bodies: Bodies, hasher: Seeded) -> Result<Made, Load
     ensures { ReadsTo made_view Fresh bodies result }
 {
     let mut made = Made::Nothing;
+    let mut left = bytes_of(bodies.as_slice());
     let items = bodies.into_vec();
     for body in items {
-        take_body(&mut made, alloc, body, hasher)?;
+        let weight = weight_of(&body);
+        left = left.saturating_sub(weight);
+        take_body(&mut made, alloc, body, left / weight, hasher)?;
     }
     Ok(made)
 }
 
-fn take_body(made: &mut Made, alloc: Global, body: Body, hasher: Seeded) -> Result<(), LoadFault>
+// Behind it stands so many times as much.
+fn take_body(
+    made: &mut Made,
+    alloc: Global,
+    body: Body,
+    times: usize,
+    hasher: Seeded,
+) -> Result<(), LoadFault>
     ensures { ReadsTo (λ _. made_view made.new) (made_view made.old) (body ∷ []) result }
 {
     match found_in(alloc, body, hasher) {
-        Ok(found) => made.take(alloc, found, hasher),
+        Ok(found) => made.take_before(alloc, found, times, hasher),
         Err(_) => Err(LoadFault::NoMemory),
     }
 }

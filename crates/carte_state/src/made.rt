@@ -11,6 +11,7 @@ ghost use Rattle.carte_state.specs.declared.any.AnyBatch.TheVariants.{One as AsO
 use crate::LoadFault;
 use crate::any::AnyBatch;
 use crate::parts::Found;
+use crate::room::{Sizes, widen_behind};
 use carte_record::{Batch, Kept, Start};
 use carte_record_one::{BatchOne, KeptOne};
 use carte_value::{NoMemory, Seeded};
@@ -41,6 +42,39 @@ impl Made {
         let before = replace(self, Made::Nothing);
         *self = before.behind(alloc, found, hasher)?;
         Ok(())
+    }
+
+    /// The same, and where it is of kind 4 it makes room for so many times as much behind it.
+    pub(crate) fn take_before(
+        &mut self,
+        alloc: Global,
+        found: Found,
+        times: usize,
+        hasher: Seeded,
+    ) -> Result<(), LoadFault>
+        ensures { (body : BodyAt) → IsFoundIn body found → ReadsTo (λ _. made_view self.new) (made_view self.old) (body ∷ []) result }
+    {
+        let before = self.sizes();
+        let brought = found.sizes();
+        let taken = self.take(alloc, found, hasher);
+        self.widen(before, brought, brought.times(times));
+        taken
+    }
+
+    fn sizes(&self) -> Sizes {
+        match self {
+            Made::Now(kept) => Sizes::of_kept(kept),
+            _ => Sizes::none(),
+        }
+    }
+
+    fn widen(&mut self, before: Sizes, brought: Sizes, more: Sizes)
+        ensures { made_view self.new ≡ made_view self.old }
+    {
+        match self {
+            Made::Now(kept) => widen_behind(kept, before, brought, more),
+            _ => {}
+        }
     }
 
     /// Puts the batches of many bodies in, one after another.

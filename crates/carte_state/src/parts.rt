@@ -3,6 +3,7 @@ ghost use Rattle.std.specs.Prelude.{◌≡◌, ◌+◌, ◌<◌, ◌≤◌, ◌^
 ghost use Rattle.carte_state.specs.Parts.{AreFound, IsFoundIn, ReadsEach, bodies_in, held_in};
 
 use crate::any::{AnyBatch, decode_any};
+use crate::room::Sizes;
 use carte_io::Gate;
 use carte_journal::Body;
 use carte_value::{NoMemory, Seeded};
@@ -38,8 +39,10 @@ pub(crate) fn bytes_of(bodies: &[Body]) -> usize {
     bytes
 }
 
-// The bytes of a body's frame, so that none weighs nothing.
-fn weight_of(body: &Body) -> usize {
+/// The bytes of a body's frame, so that none weighs nothing.
+pub(crate) fn weight_of(body: &Body) -> usize
+    ensures { 0 < result }
+{
     body.bytes().len().saturating_add(5)
 }
 
@@ -165,6 +168,16 @@ fn read_part<G: Gate>(
         put(&mut founds, found)?;
     }
     Ok(founds)
+}
+
+impl Found {
+    /// What it brings, where it is a batch of kind 4.
+    pub(crate) fn sizes(&self) -> Sizes {
+        match &self.batch {
+            Some(AnyBatch::Four(batch)) => Sizes::of(batch),
+            _ => Sizes::none(),
+        }
+    }
 }
 
 /// What a body is.

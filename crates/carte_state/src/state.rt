@@ -21,6 +21,7 @@ ghost use Rattle.carte_journal.specs.Regions.{AreShort, IsPlannedOn, IsRegionOf,
 use crate::ApplyFault;
 use crate::fault::fault_of;
 use crate::made::Made;
+use crate::room::{Sizes, widen};
 use carte_io::Disk;
 use carte_journal::{Bank, Bodies, CommitFault, Frame, Journal, Region};
 use carte_record::{Batch, Kept};
@@ -203,6 +204,13 @@ impl State {
             → StepsThrough (Keeps self.old.journal.limit) (any_in self.old) (step_over region.now (any_in self.old)) (D.story disk.old) (D.story disk.new) }
     {
         self.journal.rewrite(disk, region)
+    }
+
+    /// Makes room at once for what batches bring that are about to be applied, where there is memory for it.
+    pub fn make_room(&mut self, batches: &[Batch])
+        ensures { self.new ≡ self.old }
+    {
+        widen(&mut self.kept, Sizes::of_all(batches));
     }
 
     /// Puts a batch into what is kept, on the disk and here. After Ok every later image of the file keeps it; at each

@@ -104,7 +104,7 @@ impl<T: Compared + Drop> All<T> {
     pub fn widen(&mut self, more: usize)
         ensures { self.new ≡ self.old }
     {
-        widen(&mut self.items, more);
+        widen(&mut self.items, &mut self.places, more);
     }
 
     /// The item at a place counted from 0, where the list is longer than that.
@@ -150,12 +150,19 @@ impl<T: Compared + Drop> All<T> {
         }
     }
 
+    // Whether it has nothing, nor room for more than so many items.
+    fn can_become(&self, len: usize) -> bool
+        ensures { IsTrue result → self.now ≡ [] }
+    {
+        self.items.is_empty() && self.items.capacity() <= len
+    }
+
     /// Puts the items of a later list behind these. Where there is no room for all of them, some may stand there.
     pub fn append(&mut self, later: All<T>) -> Result<(), NoMemory>
         ensures ok { OnOk result (self.new ≡ self.old ++ later) }
         ensures front { Begins self.old self.new }
     {
-        if self.items.is_empty() {
+        if self.can_become(later.len()) {
             *self = later;
             return Ok(());
         }

@@ -73,7 +73,7 @@ impl<T: Keyed + Drop> Firsts<T> {
     pub fn widen(&mut self, more: usize)
         ensures { self.new ≡ self.old }
     {
-        widen(&mut self.items, more);
+        widen(&mut self.items, &mut self.places, more);
     }
 
     /// Where its memory comes from.
@@ -144,6 +144,9 @@ impl<T: Keyed + Drop> Firsts<T> {
         if !self.is_empty() {
             return false;
         }
+        if self.items.capacity() > later.len() {
+            return false;
+        }
         each_once(later.items.as_slice(), &later.places)
     }
 
@@ -163,8 +166,8 @@ impl<T: Keyed + Drop> Firsts<T> {
     }
 
     /// Puts the items of a later list behind these whose keys have none here, and gives back those that are left, which it
-    /// then takes in without fail; where it has nothing and no key comes twice, it becomes that list. Where there is no
-    /// room, some items may stand there.
+    /// then takes in without fail; where it has nothing, nor room for more, and no key comes twice, it becomes that list.
+    /// Where there is no room, some items may stand there.
     pub fn make_ready(&mut self, later: Firsts<T>) -> Result<Vec<T>, NoMemory>
         ensures ok { IfOk result (λ left. IsReady (has_key T.key_of) later self.old left.items self.new) }
         ensures front { Begins self.old self.new }

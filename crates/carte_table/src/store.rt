@@ -1,4 +1,4 @@
-ghost use Rattle.std.specs.Prelude.{◌≡◌, ◌<◌, ◌^◌, ◌∷◌, ◌++◌, [], List, length, map, slice_get, option_map, option_copied, ◌==◌, is_ok, take, IfOk, OnOk, Some, None, if◌then◌else◌};
+ghost use Rattle.std.specs.Prelude.{◌≡◌, ◌<◌, ◌^◌, ◌∷◌, ◌++◌, [], List, length, map, slice_get, option_map, option_copied, ◌==◌, is_ok, take, IfOk, IsTrue, OnOk, Some, None, if◌then◌else◌};
 ghost use Rattle.carte_codec.specs.Lengths.{IsLengthOf};
 ghost use Rattle.carte_value.specs.Spelling.{digest_of, spelling};
 ghost use Rattle.std.specs.HashMap.{get};
@@ -85,12 +85,15 @@ impl Store {
         })
     }
 
-    // Room for so many values more at once, where it has few beside these.
-    fn widen(&mut self, more: usize)
+    /// Room for so many values more at once, where it has few beside these.
+    pub fn widen(&mut self, more: usize)
         ensures { self.new ≡ self.old }
     {
-        widen(&mut self.values, more);
-        widen(&mut self.digests, more);
+        let has_few = self.values.len() < more / 2;
+        widen(&mut self.values, &mut self.places, more);
+        if has_few {
+            let _room = self.digests.reserve_exact(more);
+        }
     }
 
     /// How many values there are.
@@ -149,13 +152,20 @@ impl Store {
         self.known = items_length(self.values.as_slice());
     }
 
+    // Whether it has nothing, nor room for more than so many values.
+    fn can_become(&self, len: usize) -> bool
+        ensures { IsTrue result → self.now ≡ [] }
+    {
+        self.values.is_empty() && self.values.capacity() <= len
+    }
+
     /// Puts the values of a later list behind these, but for those whose digest is there. Where there is no room for all
     /// of them, some may stand there.
     pub fn take_in(&mut self, later: Store) -> Result<(), NoMemory>
         ensures ok { OnOk result ((d : SomeDigest) → first_value self.new d ≡ option_or (first_value self.old d) (first_value later d)) }
         ensures front { Begins self.old self.new }
     {
-        if self.values.is_empty() {
+        if self.can_become(later.len()) {
             *self = later;
             self.measure();
             return Ok(());

@@ -21,14 +21,16 @@ pub const MOST: usize = 4294967295;
 /// From how many items on a list grows by less than doubling.
 const LONG: usize = 1024;
 
-/// Makes room at once for so many more items, where the list is short beside them: then it takes just what it needs. A
-/// longer one grows as items come, since else each of many small batches would copy it. Where there is no memory for the
-/// room, putting an item behind the others says so.
-pub fn widen<T>(items: &mut Vec<T>, more: usize)
-    ensures { items.new.items ≡ items.old.items }
+/// Makes room at once for so many more items and their keys, where the list is short beside them: then it takes just what
+/// it needs, and no table is made anew as it grows. A longer one grows as items come, since else each of many small
+/// batches would copy it. Where there is no memory for the room, putting an item behind the others says so.
+pub fn widen<K: Eq + Hash, V, T>(items: &mut Vec<T>, table: &mut Table<K, V>, more: usize)
+    ensures items { items.new.items ≡ items.old.items }
+    ensures table { (q : K) → get K.eq table.new q ≡ get K.eq table.old q }
 {
     if items.len() < more / 2 {
         let _room = items.reserve_exact(more);
+        let _places = table.reserve(more);
     }
 }
 

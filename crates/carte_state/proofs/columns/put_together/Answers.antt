@@ -8,8 +8,8 @@ use Rattle.carte_state.proofs.columns.put_together.Goals as goal
 
 pub loop-batch-preserved : goal.loop-batch-preserved
 loop-batch-preserved c =
-    let put = c.in_ok-absorb.ensures {u = tt} in
-    kept_further nothing_kept c.loop-batch.yielded c.in-Some.batch (kept_view c.loop-batch.kept) (kept_view c.absorb.new.self) c.loop-batch.invariant put.ok
+    let put = c.in_ok-put_in.ensures {u = tt} in
+    kept_further nothing_kept c.loop-batch.yielded c.in-Some.batch (kept_view c.loop-batch.kept) (kept_view c.put_in.new.kept) c.loop-batch.invariant put
 
 -- all batches were put in: a search finds it too, but breaks off where they are others than those that were passed
 pub returns : goal.returns

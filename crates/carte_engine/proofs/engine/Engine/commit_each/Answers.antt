@@ -8,7 +8,7 @@ use Rattle.carte_state.proofs.Runs.{begins_in, cut_behind, unmarked_in}
 use Rattle.carte_engine.specs.Committing.{Commits, CommitsAll, PutsAll, is_first}
 use Rattle.carte_engine.proofs.Committing.{has_put}
 use Rattle.carte_engine.proofs.Looping.{all_put, one_put, one_stopped, so_far_kept, then_later}
-use Rattle.carte_engine.proofs.engine.Engine.commit.Goals as goal
+use Rattle.carte_engine.proofs.engine.Engine.commit_each.Goals as goal
 
 pub loop-batch-init : goal.loop-batch-init
 loop-batch-init g c = record { whole = c.requires.whole; first = refl; so_far = (refl, refl, refl) }

@@ -1,7 +1,7 @@
 use Rattle.std.proofs.Common.{◌≡◌, false}
 use Rattle.carte_engine.specs.Committing.{is_first}
 use Rattle.carte_engine.proofs.Looping.{SoFar}
-use Rattle.carte_engine.proofs.engine.Engine.commit.Given as goal
+use Rattle.carte_engine.proofs.engine.Engine.commit_each.Given as goal
 
 abbrev pub invariant-loop-batch : goal.invariant-loop-batch
 invariant-loop-batch g l = record {
