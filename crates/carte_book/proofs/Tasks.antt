@@ -4,14 +4,13 @@ use Rattle.std.specs.HashMap as hash
 use Rattle.carte_name.specs.Names.{name_eq, is_cell_name}
 use Rattle.carte_name.specs.declared.kind.Kind.{Kind}
 use Rattle.carte_name.specs.declared.kind.Kind.TheVariants.{Rules, Sheet}
-use Rattle.carte_value.specs.declared.digest.Digest.{Digest}
 use Rattle.carte_value.specs.declared.value.Value.TheVariants.{Empty}
 use Rattle.carte_tree.specs.Tree.{Tree}
 use Rattle.carte_book.specs.declared.book.Book.{Book as CodeBook}
 use Rattle.carte_book.specs.declared.book.Item.{Item as CodeItem}
 use Rattle.carte_book.specs.declared.book.Item.TheVariants.{Input as InputItem, Rule as RuleItem}
-use Rattle.carte_book.specs.Book.{input, rule, Book, default_of, or_default, content, formula_of, item_view, book_view}
-use Rattle.carte_book.specs.Task.{task_digest_of, task_in, task_now, OneTask}
+use Rattle.carte_book.specs.Book.{input, rule, Book, default_of, or_default, content, item_view, book_view}
+use Rattle.carte_book.specs.Task.{task_digest_of, task_held, task_in, task_now, OneTask}
 use Rattle.carte_book.proofs.Books.{item_found}
 
 -- a rule has the task of its formula
@@ -20,12 +19,6 @@ task_of_rule b k e is = ap (task_in b.kind) is
 
 pub one_task : OneTask
 one_task a b j k e kind at_j at_k = task_of_rule a j e at_j ∙ ap (λ q. Some (task_digest_of q e)) kind ∙ sym (task_of_rule b k e at_k)
-
--- the task of what stands in memory
-abbrev pub task_held : Kind → Option CodeItem → Option Digest
-task_held q None = None
-task_held q (Some (InputItem v)) = None
-task_held q (Some (RuleItem r)) = Some (task_digest_of q (formula_of r))
 
 no_task : (q : Kind) (k : List ℕ) → task_in q (default_of q k) ≡ None
 no_task Rules k = refl

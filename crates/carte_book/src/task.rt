@@ -1,10 +1,12 @@
-ghost use Rattle.std.specs.Prelude.{◌≡◌, IfOk};
-ghost use Rattle.indexmap.specs.IndexMap.{hasher_of};
+ghost use Rattle.std.specs.Prelude.{◌≡◌, Some, IfOk};
+ghost use Rattle.indexmap.specs.IndexMap.{get, hasher_of};
+ghost use Rattle.carte_name.specs.Names.{name_eq};
+ghost use Rattle.carte_name.specs.declared.kind.Kind.{Kind as SomeKind};
 ghost use Rattle.carte_tree.specs.Code.{tree_of};
 ghost use Rattle.carte_tree.specs.Formula.{IsExpr};
 ghost use Rattle.carte_book.specs.Book.{book_view, hasher_in, item_view, entries_view, formula_of};
 ghost use Rattle.carte_book.specs.Fits.{FitsRule, FitsItem, Fits};
-ghost use Rattle.carte_book.specs.Task.{task_code, task_digest_of, task_now};
+ghost use Rattle.carte_book.specs.Task.{task_code, task_digest_of, task_held, task_now};
 
 use crate::book::Items;
 use crate::{Book, Item, Rule};
@@ -19,23 +21,34 @@ impl Book {
     pub fn task_digest(&self, alloc: Global, name: &Name) -> Result<Option<Digest>, NoMemory>
         ensures { IfOk result (λ d. d ≡ task_now (book_view self.now) name.now) }
     {
+        self.task_digest_in(alloc, &mut Vec::new(alloc), name)
+    }
+
+    /// The same, spelled in room that is kept from one task to the next.
+    pub fn task_digest_in(
+        &self,
+        alloc: Global,
+        room: &mut Vec<u8>,
+        name: &Name,
+    ) -> Result<Option<Digest>, NoMemory>
+        ensures { IfOk result (λ d. d ≡ task_now (book_view self.now) name.now) }
+    {
         match self.items.get(name) {
-            Some(Item::Rule(rule)) => Ok(Some(rule.digest(alloc, self.kind)?)),
+            Some(Item::Rule(rule)) => Ok(Some(rule.digest(alloc, room, self.kind)?)),
             Some(Item::Input(_)) => Ok(None),
             None => Ok(None),
         }
     }
 
-    /// Works the digest of a rule's task out, where it isn't known yet; from then on it is, while the rule stands. It does
-    /// nothing where the name is no rule.
-    pub fn know_task(&mut self, alloc: Global, name: &Name) -> Result<(), NoMemory>
+    /// Keeps what the task's digest of a name was worked out to be: from then on it is known, while the rule stands. It does
+    /// nothing where the name is no rule. It takes no memory.
+    pub fn learn_task(&mut self, name: &Name, task: Option<Digest>)
+        requires { task ≡ task_now (book_view self.old) name.now }
         ensures book { book_view self.new ≡ book_view self.old }
         ensures hasher { hasher_in self.new ≡ hasher_in self.old }
     {
-        if know_at(alloc, self.kind, &mut self.items, name)? {
-            self.known_tasks = self.known_tasks.saturating_add(1);
-        }
-        Ok(())
+        let is_new = learn_at(&mut self.items, name, task);
+        self.known_tasks = self.known_tasks.saturating_add(usize::from(is_new));
     }
 
     /// Of so many rules, or of more, the digest of the task is known. It takes no memory.
@@ -44,55 +57,50 @@ impl Book {
     }
 }
 
-// Works the digest of the task at a name out, by one look, and tells whether it wasn't known yet.
-fn know_at(alloc: Global, kind: Kind, items: &mut Items, name: &Name) -> Result<bool, NoMemory>
-    requires { Fits kind items.old.entries }
-    ensures fits { Fits kind items.new.entries }
+// Keeps the digest of the task at a name, by one look, and tells whether it wasn't known yet.
+fn learn_at(items: &mut Items, name: &Name, task: Option<Digest>) -> bool
+    ensures fits { (q : SomeKind) → Fits q items.old.entries → task ≡ task_held q (get name_eq items.old name.now) → Fits q items.new.entries }
     ensures view { entries_view items.new.entries ≡ entries_view items.old.entries }
     ensures hasher { hasher_of items.new ≡ hasher_of items.old }
 {
     match items.get_mut(name) {
-        Some(item) => item.know_digest(alloc, kind),
-        None => Ok(false),
+        Some(item) => item.learn(task),
+        None => false,
     }
 }
 
 impl Item {
-    fn know_digest(&mut self, alloc: Global, kind: Kind) -> Result<bool, NoMemory>
-        requires { FitsItem kind self.old }
-        ensures fits { FitsItem kind self.new }
+    fn learn(&mut self, task: Option<Digest>) -> bool
+        ensures fits { (q : SomeKind) → FitsItem q self.old → task ≡ task_held q (Some self.old) → FitsItem q self.new }
         ensures view { item_view self.new ≡ item_view self.old }
     {
         match self {
-            Item::Input(_) => Ok(false),
-            Item::Rule(rule) => rule.know_digest(alloc, kind),
+            Item::Input(_) => false,
+            Item::Rule(rule) => rule.learn(task),
         }
     }
 }
 
 impl Rule {
     // The digest of its task, which is no work where it is known.
-    fn digest(&self, alloc: Global, kind: Kind) -> Result<Digest, NoMemory>
+    fn digest(&self, alloc: Global, room: &mut Vec<u8>, kind: Kind) -> Result<Digest, NoMemory>
         requires { FitsRule kind self.now }
         ensures { IfOk result (λ d. d ≡ task_digest_of kind (formula_of self.now)) }
     {
         match self.task {
             Some(digest) => Ok(digest),
-            None => digest_of_task(alloc, kind, &self.formula),
+            None => digest_of_task(alloc, room, kind, &self.formula),
         }
     }
 
-    // Works the digest of its task out, and tells whether it wasn't known yet.
-    fn know_digest(&mut self, alloc: Global, kind: Kind) -> Result<bool, NoMemory>
-        requires { FitsRule kind self.old }
-        ensures fits { FitsRule kind self.new }
+    // Keeps the digest of its task, and tells whether it wasn't known yet.
+    fn learn(&mut self, task: Option<Digest>) -> bool
+        ensures fits { (q : SomeKind) → FitsRule q self.old → task ≡ Some (task_digest_of q (formula_of self.old)) → FitsRule q self.new }
         ensures formula { formula_of self.new ≡ formula_of self.old }
     {
-        if self.task.is_some() {
-            return Ok(false);
-        }
-        self.task = Some(digest_of_task(alloc, kind, &self.formula)?);
-        Ok(true)
+        let is_new = self.task.is_none();
+        self.task = task;
+        is_new
     }
 }
 
@@ -100,15 +108,21 @@ impl Rule {
 const MOST_BYTES: usize = 64;
 
 // A formula is short, so it is spelled whole before the hasher sees it.
-fn digest_of_task(alloc: Global, kind: Kind, formula: &Expr) -> Result<Digest, NoMemory>
+fn digest_of_task(
+    alloc: Global,
+    room: &mut Vec<u8>,
+    kind: Kind,
+    formula: &Expr,
+) -> Result<Digest, NoMemory>
     requires { IsExpr (tree_of formula.now) }
     ensures { IfOk result (λ d. d ≡ task_digest_of kind (tree_of formula.now)) }
 {
-    let mut bytes = Vec::with_capacity(alloc, MOST_BYTES)?;
-    bytes.push(task_code(kind))?;
-    print_expr(alloc, &mut bytes, formula)?;
+    room.clear();
+    room.reserve(MOST_BYTES)?;
+    room.push(task_code(kind))?;
+    print_expr(alloc, room, formula)?;
     let mut hasher = Sha256::new();
-    hasher.update(bytes.as_slice());
+    hasher.update(room.as_slice());
     Ok(Digest(hasher.finalize()))
 }
 

@@ -74,7 +74,7 @@ fn all_of(alloc: Global, kept: &Kept, names: &[Name], keys: &[Name]) -> Result<B
         values: by_digest(alloc, &kept.values, hasher)?,
         gone: Names::new(alloc),
         seen: links_at(alloc, &kept.seen, names, hasher)?,
-        entries: entries_at(alloc, &kept.entries, keys, hasher)?,
+        entries: entries_at(alloc, &kept.entries, keys)?,
         stale: stale_at(alloc, &kept.entries, keys)?,
         verifying: last_ones(alloc, &kept.verifying, hasher)?,
         constructive: last_ones(alloc, &kept.constructive, hasher)?,

@@ -4,7 +4,7 @@ ghost use Rattle.carte_record.specs.Lookups.{first_entry};
 ghost use Rattle.carte_record.specs.Marked.{marked_as};
 ghost use Rattle.carte_compact.specs.Live.{entry_at, found_at, is_stale, link_at, put, stale_at};
 
-use carte_record::{Entries, Entry, Seen};
+use carte_record::{Entries, Entry, Plain, Seen};
 use carte_value::{Link, Name, Names, NoMemory, Same, Seeded};
 use std::alloc::Global;
 
@@ -41,11 +41,10 @@ pub(crate) fn entries_at(
     alloc: Global,
     entries: &Entries,
     keys: &[Name],
-    hasher: Seeded,
-) -> Result<Entries, NoMemory>
+) -> Result<Plain<Entry>, NoMemory>
     ensures { IfOk result (λ list. list ≡ found_at (entry_at entries.now) keys.now) }
 {
-    let mut list = Entries::new(alloc, hasher);
+    let mut list = Plain::new(alloc);
     for key in keys {
         put_entry(alloc, entries, key, &mut list)?;
     }
@@ -56,7 +55,7 @@ fn put_entry(
     alloc: Global,
     entries: &Entries,
     key: &Name,
-    list: &mut Entries,
+    list: &mut Plain<Entry>,
 ) -> Result<(), NoMemory>
     ensures { OnOk result (list.new ≡ list.old ++ put (entry_at entries.now key.now) []) }
 {

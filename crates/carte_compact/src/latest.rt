@@ -3,7 +3,7 @@ ghost use Rattle.std.specs.Prelude.{◌≡◌, map, reverse, IfOk};
 ghost use Rattle.carte_table.specs.Latest.{last_ones};
 
 use crate::content::{Content, Hashed};
-use carte_table::All;
+use carte_table::{All, Plain};
 use carte_value::{NoMemory, Seeded};
 use std::alloc::Global;
 use std::collections::HashSet;
@@ -13,12 +13,12 @@ pub(crate) fn last_ones<T: Hashed + Drop>(
     alloc: Global,
     traces: &All<T>,
     hasher: Seeded,
-) -> Result<All<T>, NoMemory>
+) -> Result<Plain<T>, NoMemory>
     ensures { IfOk result (λ list. list ≡ last_ones T.alike traces.now) }
 {
     let mut last = last_first(alloc, traces.as_slice(), hasher)?;
     last.reverse();
-    copied(alloc, &last, hasher)
+    copied(alloc, &last)
 }
 
 /// The same from the last one on.
@@ -42,14 +42,10 @@ pub(crate) fn last_first<'a, T: Hashed>(
     Ok(list)
 }
 
-fn copied<T: Hashed + Drop>(
-    alloc: Global,
-    traces: &[&T],
-    hasher: Seeded,
-) -> Result<All<T>, NoMemory>
+fn copied<T: Hashed + Drop>(alloc: Global, traces: &[&T]) -> Result<Plain<T>, NoMemory>
     ensures { IfOk result (λ list. list ≡ map (λ t. t.now) traces.now) }
 {
-    let mut list = All::new(alloc, hasher);
+    let mut list = Plain::new(alloc);
     for trace in traces {
         list.push(trace.same(alloc)?)?;
     }

@@ -10,8 +10,11 @@ use Rattle.std.specs.Cmp.{eq_by_cmp_equiv}
 use Rattle.std.proofs.lemmas.Cmp.{nat_list_cmp_total}
 use Rattle.carte_name.specs.Names.{name_cmp}
 use Rattle.carte_value.specs.Truths.{Among, IsListOf, NoneTwice}
+use Rattle.carte_engine.specs.Sorted.{sorted}
 use Rattle.carte_value.proofs.Members.{no_longer}
 use Rattle.carte_book.proofs.Clean.{tied_name}
+use Rattle.carte_compact.proofs.Sizes.{one_list}
+use Rattle.carte_mark.proofs.Listing.{IsInOrder, in_order}
 
 abbrev Below : List ℕ → List (List ℕ) → Type 0
 Below k ks = AllByRecursion (λ j. name_cmp k j ≡ Less) ks
@@ -76,11 +79,6 @@ put_each (x ∷ xs) k q there = on (name_cmp k x) refl there (put_each xs k q)
     on Greater is (inr (inl same)) rest = inl same
     on Greater is (inr (inr later)) rest = inr (rest (inr later))
 
--- the names of a list, in name order
-abbrev pub sorted : List (List ℕ) → List (List ℕ)
-sorted [] = []
-sorted (k ∷ ks) = insert_key name_cmp (sorted ks) k
-
 none_rising : IsStrictlySortedBy name_cmp []
 unfolding IsStrictlySortedBy
 none_rising = tt
@@ -120,3 +118,22 @@ same_length xs ys once twice into back =
     let le : length xs ≤ length ys = no_longer xs ys once into in
     let ge : length ys ≤ length xs = no_longer ys xs twice back in
     omega arith
+
+-- the list has as many as the names, where none stands twice; and is the one list of the same names
+pub sorted_length : (ks : List (List ℕ)) → NoneTwice ks → length ks ≡ length (sorted ks)
+sorted_length ks once =
+    let listed = sorted_list ks in
+    same_length ks (sorted ks) once (rising_once (sorted ks) listed.rising) listed.each listed.only
+
+pub sorted_is : (ks ordered once : List (List ℕ)) → IsInOrder ks ordered once → once ≡ sorted ks
+sorted_is ks ordered once order = one_list (Among ks) once (sorted ks) (in_order ks ordered once order) (sorted_list ks)
+
+pub sorted_again : (ks : List (List ℕ)) → sorted (sorted ks) ≡ sorted ks
+sorted_again ks =
+    let listed = sorted_list ks in
+    let again = sorted_list (sorted ks) in
+    one_list (Among ks) (sorted (sorted ks)) (sorted ks) (record {
+      rising = again.rising;
+      only = λ q there. listed.only q (again.only q there);
+      each = λ q there. again.each q (listed.each q there);
+    }) listed

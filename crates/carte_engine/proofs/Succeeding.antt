@@ -29,7 +29,8 @@ use Rattle.carte_engine.specs.declared.answer.Built.{Built}
 use Rattle.carte_engine.specs.declared.scheduler.Scheduler.{Scheduler}
 use Rattle.carte_engine.specs.declared.scheduler.Scheduler.TheVariants.{Topological, Restarting, Suspending}
 use Rattle.carte_engine.proofs.Counting.{none_given_up}
-use Rattle.carte_engine.proofs.Sorting.{rising_once, same_length, sorted, sorted_list}
+use Rattle.carte_engine.specs.Sorted.{sorted}
+use Rattle.carte_engine.proofs.Sorting.{rising_once, same_length, sorted_list}
 
 module _ (h : How) (M : SomeKept) (b : Book) where
   -- a finished key that is found is right

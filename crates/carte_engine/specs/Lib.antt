@@ -1,4 +1,5 @@
 pub mod Versions
+pub mod Sorted
 pub mod Schedulers
 pub mod Answers
 pub mod Building

@@ -1,7 +1,8 @@
+use crate::Ran;
 use carte_book::Reason;
 use carte_effect::Runs;
 use carte_record::Batch;
-use carte_value::{Names, Values};
+use carte_value::Values;
 
 /// What a build has made.
 #[derive(Debug, Drop)]
@@ -9,7 +10,7 @@ pub struct Built {
     /// The targets' values, in the order of the targets.
     pub values: Values,
     /// The rules whose tasks ran, in name order.
-    pub ran: Names,
+    pub ran: Ran,
     /// How many tasks were started and didn't end.
     pub given_up: u64,
     /// How many rules were finished without a run.

@@ -98,11 +98,17 @@ impl Engine {
     }
 
     /// Has the book know the digests of the tasks of the keys that have entries. Whoever builds lets it know them first: it
-    /// is no work where the book knows as many, as in the next line of a session.
-    pub fn know_tasks(&self, alloc: Global, book: &mut Book) -> Result<(), NoMemory>
+    /// is no work where the book knows as many, as in the next line of a session. Where there are many, `rt` gives a thread
+    /// for half of them.
+    pub fn know_tasks<T: Threads>(
+        &self,
+        rt: &T,
+        alloc: Global,
+        book: &mut Book,
+    ) -> Result<(), NoMemory>
         ensures { book_view book.new ≡ book_view book.old }
     {
-        know_tasks(alloc, &self.kept().entries, book)
+        know_tasks(rt, alloc, &self.kept().entries, book)
     }
 
     /// What a build of the book finds to be kept, as a second one: what became of it by the book's rules, where it is of

@@ -20,8 +20,8 @@
 //! anew, how many starts were given up is told by a ledger that stands in the clause alone: a number can't say the bound of
 //! each rule.
 //!
-//! The values of the targets come from the book and the finished keys by look-ups, those that ran are sorted once, and
-//! each other list is gone through once: no step grows faster than n log n.
+//! The values of the targets come from the book and the finished keys by look-ups, those that ran are sorted where they are
+//! listed, and each other list is gone through once: no step grows faster than n log n.
 //!
 //! Turned down: a commit of each key as it is finished, which syncs the disk for each, and needs the disk where tasks run;
 //! a plan that holds the state, so that no other one could be made before its commit; a marked copy of what is kept for
@@ -39,6 +39,7 @@ mod fault;
 mod laws;
 mod planned;
 mod preview;
+mod ran;
 mod reckon;
 mod scheduler;
 
@@ -47,4 +48,5 @@ pub use carte_state::{ApplyFault, LoadFault};
 pub use engine::Engine;
 pub use fault::BuildFault;
 pub use laws::{history_is_right, plan_is_sound, plan_keeps, served_or_refused};
+pub use ran::Ran;
 pub use scheduler::Scheduler;

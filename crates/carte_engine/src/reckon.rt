@@ -1,15 +1,17 @@
 // From the end of a build to what it has made.
 ghost use Rattle.std.specs.Prelude.{◌≡◌, ◌++◌, ◌∷◌, [], ℕ, List, Some, IfOk, OnOk, if◌then◌else◌};
-ghost use Rattle.carte_value.specs.Truths.{Among, IsListOf};
+ghost use Rattle.carte_value.specs.Truths.{Among, IsListOf, NoneTwice};
 ghost use Rattle.carte_book.specs.Book.{book_view};
 ghost use Rattle.carte_note.specs.Lists.{finished_of};
 ghost use Rattle.carte_note.specs.Right.{has_run, key_of, keys_in, ran_in};
 ghost use Rattle.carte_rebuild.specs.Ends.{HasTargets};
 ghost use Rattle.carte_rebuild.specs.declared.work.WorkEnd.TheVariants.{All};
 ghost use Rattle.carte_engine.specs.Answers.{AreValues};
+ghost use Rattle.carte_engine.specs.Sorted.{sorted};
 ghost use Rattle.carte_engine.specs.Reckoned.{IsReckoned, IsThere, value_found, value_made};
 
-use crate::Built;
+use crate::ran::in_order;
+use crate::{Built, Ran};
 use carte_book::{Book, Looked};
 use carte_effect::Made;
 use carte_note::{Finished, FinishedList};
@@ -28,7 +30,7 @@ pub(crate) fn reckon(
     ensures { IfOk result (IsReckoned (book_view book.now) targets.now work) }
 {
     let values = values(alloc, book, targets, &work.finished)?;
-    let ran = ran(alloc, work.finished.as_slice())?;
+    let ran = ran(alloc, &work.finished)?;
     let finished = work.finished.len() as u64;
     let reused = finished.saturating_sub(ran.len() as u64);
     Ok(Built {
@@ -83,14 +85,24 @@ fn made(alloc: Global, finished: &FinishedList, name: &Name) -> Result<Value, No
     }
 }
 
-// The keys of those that ran, in name order.
-fn ran(alloc: Global, finished: &[Finished]) -> Result<Names, NoMemory>
+// The keys of those that ran.
+fn ran(alloc: Global, finished: &FinishedList) -> Result<Ran, NoMemory>
     ensures { IfOk result (IsListOf (Among (ran_in finished.now))) }
 {
-    let mut keys = keys_that_ran(alloc, finished)?;
-    keys.sort_unstable();
-    keys.dedup();
-    listed(alloc, keys)
+    let keys = keys_that_ran(alloc, finished.as_slice())?;
+    Ok(Ran::of(each_once(finished, keys)))
+}
+
+// No scheduler finishes a key twice, whatever is kept. That isn't asked of it, since it can be seen.
+fn each_once(finished: &FinishedList, keys: Vec<Name>) -> Vec<Name>
+    requires { keys.items ≡ ran_in finished.now }
+    ensures once { NoneTwice result.items }
+    ensures same { IsListOf (Among keys.items) (sorted result.items) }
+{
+    if finished.has_each_once() {
+        return keys;
+    }
+    in_order(keys)
 }
 
 fn keys_that_ran(alloc: Global, finished: &[Finished]) -> Result<Vec<Name>, NoMemory>
@@ -117,14 +129,4 @@ fn push(alloc: Global, key: &Name, keys: &mut Vec<Name>) -> Result<(), NoMemory>
 {
     keys.push(key.copy(alloc)?)?;
     Ok(())
-}
-
-fn listed(alloc: Global, keys: Vec<Name>) -> Result<Names, NoMemory>
-    ensures { IfOk result (λ names. names ≡ keys.items) }
-{
-    let mut names = Names::with_room(alloc, keys.len())?;
-    for key in keys {
-        names.push(key)?;
-    }
-    Ok(names)
 }

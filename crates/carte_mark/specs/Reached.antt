@@ -1,5 +1,5 @@
 -- Which names have changed, and which keys lead to one of these.
-use Rattle.std.specs.Prelude.{ℕ, ◌≡◌, ◌⊎◌, Bool, false, not, List, Option, Some, None}
+use Rattle.std.specs.Prelude.{ℕ, ◌≡◌, ◌⊎◌, Bool, false, not, List, Option, Some, None, map}
 use Rattle.carte_value.specs.declared.digest.Digest.{Digest}
 use Rattle.carte_value.specs.declared.link.Link.{Link}
 use Rattle.carte_value.specs.Truths.{Among}
@@ -19,6 +19,10 @@ has_changed (Some d) p = not (is_digest p d)
 abbrev pub is_other : Option Entry → Option Digest → Bool
 is_other None t = false
 is_other (Some e) t = not (is_digest t e.task)
+
+-- the digests of the tasks of these entries' keys
+abbrev pub tasks_in : Book → List Entry → List (Option Digest)
+tasks_in b es = map (λ e. task_now b e.key) es
 
 -- it was seen with a digest that it hasn't now
 pub record IsSeenChanged (K : SomeKept) (b : Book) (k : List ℕ) : Type 0 where

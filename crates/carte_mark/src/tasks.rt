@@ -1,28 +1,99 @@
-ghost use Rattle.std.specs.Prelude.{◌≡◌, OnOk};
+ghost use Rattle.std.specs.Prelude.{◌≡◌, ◌++◌, ◌∷◌, [], IfOk, OnOk};
 ghost use Rattle.carte_book.specs.Book.{book_view};
+ghost use Rattle.carte_book.specs.Task.{task_now};
 ghost use Rattle.carte_record.specs.Kept.{kept_view};
 ghost use Rattle.carte_record.specs.Lookups.{first_entry};
 ghost use Rattle.carte_sound.specs.Begun.{is_digest};
-ghost use Rattle.carte_mark.specs.Reached.{is_other, AddsOther, PutsOthers};
+ghost use Rattle.carte_mark.specs.Reached.{is_other, tasks_in, AddsOther, PutsOthers};
 
 use crate::set::{NameSet, put};
 use carte_book::Book;
 use carte_record::{Entries, Entry, Kept};
 use carte_value::{Digest, Name, NoMemory};
 use std::alloc::Global;
+use std::thread::{Threads, join};
+
+/// From so many entries on a thread of its own works out half of the digests: to fork takes as long as some fifty digests.
+const WORTH: usize = 512;
 
 /// Has the book know the digests of the tasks of the keys that have entries: the marking looks at each of them, and a build at
-/// each key that it reaches. It is no work where the book knows as many.
-pub fn know_tasks(alloc: Global, entries: &Entries, book: &mut Book) -> Result<(), NoMemory>
+/// each key that it reaches. It is no work where the book knows as many. Where there are many, `rt` gives a thread for half of
+/// them.
+pub fn know_tasks<T: Threads>(
+    rt: &T,
+    alloc: Global,
+    entries: &Entries,
+    book: &mut Book,
+) -> Result<(), NoMemory>
     ensures { book_view book.new ≡ book_view book.old }
 {
-    if book.known_tasks() >= entries.len() {
+    let all = entries.as_slice();
+    if book.known_tasks() >= all.len() {
         return Ok(());
     }
-    for entry in entries.as_slice() {
-        book.know_task(alloc, &entry.key)?;
-    }
+    let (front, back) = all.split_at(all.len() / 2);
+    let (fronts, backs) = tasks_of_both(rt, alloc, front, back, book);
+    let (fronts, backs) = (fronts?, backs?);
+    learn_each(front, fronts.as_slice(), book);
+    learn_each(back, backs.as_slice(), book);
     Ok(())
+}
+
+fn tasks_of_both<T: Threads>(
+    rt: &T,
+    alloc: Global,
+    front: &[Entry],
+    back: &[Entry],
+    book: &Book,
+) -> (
+    Result<Vec<Option<Digest>>, NoMemory>,
+    Result<Vec<Option<Digest>>, NoMemory>,
+)
+    ensures front { IfOk result.0 (λ tasks. tasks.items ≡ tasks_in (book_view book.now) front.now) }
+    ensures back { IfOk result.1 (λ tasks. tasks.items ≡ tasks_in (book_view book.now) back.now) }
+{
+    if back.len() < WORTH / 2 {
+        return (tasks_of(alloc, front, book), tasks_of(alloc, back, book));
+    }
+    join(
+        rt,
+        || tasks_of(alloc, front, book),
+        || tasks_of(alloc, back, book),
+    )
+}
+
+// The digests of the tasks of entries' keys.
+fn tasks_of(alloc: Global, entries: &[Entry], book: &Book) -> Result<Vec<Option<Digest>>, NoMemory>
+    ensures { IfOk result (λ tasks. tasks.items ≡ tasks_in (book_view book.now) entries.now) }
+{
+    let mut room = Vec::new(alloc);
+    let mut tasks = Vec::with_capacity(alloc, entries.len())?;
+    for entry in entries {
+        push_task(alloc, &mut room, entry, book, &mut tasks)?;
+    }
+    Ok(tasks)
+}
+
+fn push_task(
+    alloc: Global,
+    room: &mut Vec<u8>,
+    entry: &Entry,
+    book: &Book,
+    tasks: &mut Vec<Option<Digest>>,
+) -> Result<(), NoMemory>
+    ensures { OnOk result (tasks.new.items ≡ tasks.old.items ++ task_now (book_view book.now) entry.now.key ∷ []) }
+{
+    tasks.push(book.task_digest_in(alloc, room, &entry.key)?)?;
+    Ok(())
+}
+
+fn learn_each(entries: &[Entry], tasks: &[Option<Digest>], book: &mut Book)
+    requires { tasks.now ≡ tasks_in (book_view book.old) entries.now }
+    ensures { book_view book.new ≡ book_view book.old }
+{
+    for at in 0..entries.len() {
+        book.learn_task(&entries[at].key, tasks[at]);
+    }
 }
 
 /// Puts the keys whose entries have a task that they haven't now.

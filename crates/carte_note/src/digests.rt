@@ -17,12 +17,18 @@ pub(crate) struct Digests {
 }
 
 impl Digests {
-    /// That of the value is taken already; that of the task is the book's.
-    pub(crate) fn of(alloc: Global, book: &Book, finished: &Finished) -> Result<Digests, NoMemory>
+    /// That of the value is taken already; that of the task is the book's, and spelled in `room` where the book doesn't know
+    /// it.
+    pub(crate) fn of(
+        alloc: Global,
+        room: &mut Vec<u8>,
+        book: &Book,
+        finished: &Finished,
+    ) -> Result<Digests, NoMemory>
         ensures made { IfOk result (λ d. d.result ≡ digest_made finished.now) }
         ensures task { IfOk result (λ d. d.task ≡ task_made (book_view book.now) finished.now) }
     {
-        let task = task(alloc, book, finished.made.key())?;
+        let task = task(alloc, room, book, finished.made.key())?;
         Ok(Digests {
             result: finished.made.hashed().digest(),
             task,
@@ -31,10 +37,10 @@ impl Digests {
 }
 
 // No build finishes a key that is no rule of its book: such a one has no task, and is refused as if there were no memory.
-fn task(alloc: Global, book: &Book, key: &Name) -> Result<Digest, NoMemory>
+fn task(alloc: Global, room: &mut Vec<u8>, book: &Book, key: &Name) -> Result<Digest, NoMemory>
     ensures { IfOk result (λ d. d ≡ or_none (task_now (book_view book.now) key.now)) }
 {
-    match book.task_digest(alloc, key)? {
+    match book.task_digest_in(alloc, room, key)? {
         Some(digest) => Ok(digest),
         None => Err(NoMemory),
     }

@@ -1,10 +1,13 @@
-ghost use Rattle.std.specs.Prelude.{◌≡◌, ◌<◌, ◌^◌, ◌++◌, ◌∷◌, [], length, slice_get, option_copied, ◌==◌, is_ok, IfOk, OnOk, OnErr, ℕ, List, take, if◌then◌else◌};
+ghost use Rattle.std.specs.Prelude.{◌≡◌, ◌<◌, ◌^◌, ◌++◌, ◌∷◌, [], length, slice_get, option_copied, ◌==◌, is_ok, IfOk, OnOk, OnErr, ℕ, List, IsTrue, take, if◌then◌else◌};
 ghost use Rattle.std.specs.HashMap.{get};
 ghost use Rattle.carte_name.specs.Names.{name_eq};
 ghost use Rattle.carte_table.specs.Places.{AddsPlace};
+ghost use Rattle.std.specs.List.{IsDistinct};
 ghost use Rattle.carte_note.specs.Lists.{finished_of};
+ghost use Rattle.carte_note.specs.Right.{keys_in};
 
 use crate::Finished;
+use carte_table::table::each_once;
 use carte_value::{Name, NoMemory, Seeded};
 use std::alloc::Global;
 use std::collections::HashMap;
@@ -90,6 +93,13 @@ impl FinishedList {
         ensures { result.now ≡ self.now }
     {
         self.finished.as_slice()
+    }
+
+    /// Whether no key comes twice. It takes no pass over them.
+    pub fn has_each_once(&self) -> bool
+        ensures { IsTrue result → IsDistinct name_eq (keys_in self.now) }
+    {
+        each_once(self.finished.as_slice(), &self.places)
     }
 
     /// The first finished key of a name, where there is one. It takes no memory.

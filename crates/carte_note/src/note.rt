@@ -21,10 +21,11 @@ use std::alloc::Global;
 
 /// Adds to the batch of a build what one more finished key brings: the value that the store lacks and the trace, where
 /// its task ran, and the entry with the inputs that it names, where those differ from what is kept. `kept` is what the
-/// build began with. Where there is no memory the batch may hold a part of it; a key that is no rule of the book has no
+/// build began with, and tasks are spelled in `room`, which is kept from one key to the next. Where there is no memory the batch may hold a part of it; a key that is no rule of the book has no
 /// task, and is refused so too.
 pub fn note_finished(
     alloc: Global,
+    room: &mut Vec<u8>,
     method: Method,
     kept: &Kept,
     book: &Book,
@@ -40,11 +41,12 @@ pub fn note_finished(
     ensures chain { batch.new.chain ≡ batch.old.chain }
     ensures items { OnOk result (batch.new ≡ with_finished (how_of method) (book_view book.now) kept.now finished.now batch.old) }
 {
-    note_items(alloc, method, kept, book, finished, batch)
+    note_items(alloc, room, method, kept, book, finished, batch)
 }
 
 fn note_items(
     alloc: Global,
+    room: &mut Vec<u8>,
     method: Method,
     kept: &Kept,
     book: &Book,
@@ -57,7 +59,7 @@ fn note_items(
     if brings_nothing(method, finished) {
         return Ok(());
     }
-    let digests = Digests::of(alloc, book, finished)?;
+    let digests = Digests::of(alloc, room, book, finished)?;
     note_run(alloc, method, kept, book, finished, digests, batch)?;
     note_entry(alloc, method, kept, book, finished, digests, batch)
 }

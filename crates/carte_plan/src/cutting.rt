@@ -120,8 +120,9 @@ fn note_part(
     ensures { OnOk result (batch.new ≡ with_all (how_of method) (book_view book.now) kept.now part.now batch.old) }
 {
     batch.widen(count_ran(part), way_of(method));
+    let mut room = Vec::new(alloc);
     for one in part {
-        note_finished(alloc, method, kept, book, one, batch)?;
+        note_finished(alloc, &mut room, method, kept, book, one, batch)?;
     }
     Ok(())
 }

@@ -63,7 +63,8 @@ pub trait Rebuilder {
         ensures stale { batch.new.stale ≡ batch.old.stale }
         ensures chain { batch.new.chain ≡ batch.old.chain }
     {
-        note_finished(alloc, self.method(), kept, book, finished, batch)
+        let mut room = Vec::new(alloc);
+        note_finished(alloc, &mut room, self.method(), kept, book, finished, batch)
     }
 
     /// Whether the needs of a held key are looked into.

@@ -5,7 +5,8 @@ ghost use Rattle.carte_record.specs.Folds.{apply, started, without};
 ghost use Rattle.carte_record.specs.Growth.{Grows, HasTraces, IsReadyIn, Settles, AreLengthsOf, put_in};
 
 use crate::lengths::Lengths;
-use crate::{Batch, DeepTraces, Entries, Entry, Kept, Seen, Start, Store, Traces};
+use crate::{Batch, DeepTrace, Entry, Kept, Seen, Start, Store, Trace};
+use carte_table::Plain;
 use carte_value::{Link, Names, NoMemory};
 
 impl Kept {
@@ -90,11 +91,11 @@ impl Kept {
     fn grow(
         &mut self,
         values: Store,
-        verifying: Traces,
-        constructive: Traces,
-        deep: DeepTraces,
+        verifying: Plain<Trace>,
+        constructive: Plain<Trace>,
+        deep: Plain<DeepTrace>,
         seen: Seen,
-        entries: Entries,
+        entries: Plain<Entry>,
     ) -> Result<(Vec<Link>, Vec<Entry>), NoMemory>
         ensures front { Grows self.old self.new }
         ensures traces { OnOk result (HasTraces verifying constructive deep self.old self.new) }
@@ -109,9 +110,9 @@ impl Kept {
 
     fn grow_traces(
         &mut self,
-        verifying: Traces,
-        constructive: Traces,
-        deep: DeepTraces,
+        verifying: Plain<Trace>,
+        constructive: Plain<Trace>,
+        deep: Plain<DeepTrace>,
     ) -> Result<(), NoMemory>
         ensures front { Grows self.old self.new }
         ensures traces { OnOk result (HasTraces verifying constructive deep self.old self.new) }

@@ -1,11 +1,13 @@
 ghost use Rattle.std.specs.Prelude.{◌≡◌, IfOk, true};
 ghost use Rattle.carte_record.specs.Empty.{is_empty, brings_no_key, brings_no_trace, drops_nothing};
 
-use crate::{DeepTraces, Entries, Seen, Start, Store, Traces, Way};
+use crate::{DeepTrace, Entry, Seen, Start, Store, Trace, Way};
+use carte_table::Plain;
 use carte_value::{Names, NoMemory, Seeded};
 use std::alloc::Global;
 
-/// What a build changes of what is kept. Where it names a key twice, the later one counts.
+/// What a build changes of what is kept. Where it names a key twice, the later one counts. Entries and traces aren't looked up
+/// in it, and have no tables.
 #[derive(Drop)]
 pub struct Batch {
     pub start: Start,
@@ -13,12 +15,12 @@ pub struct Batch {
     /// The names of which nothing is kept any more but what the batch brings.
     pub gone: Names,
     pub seen: Seen,
-    pub entries: Entries,
+    pub entries: Plain<Entry>,
     /// The keys whose entries are marked stale, after the entries of the batch are put in.
     pub stale: Names,
-    pub verifying: Traces,
-    pub constructive: Traces,
-    pub deep: DeepTraces,
+    pub verifying: Plain<Trace>,
+    pub constructive: Plain<Trace>,
+    pub deep: Plain<DeepTrace>,
     pub chain: Option<Names>,
 }
 
@@ -32,11 +34,11 @@ impl Batch {
             values: Store::new(alloc, hasher),
             gone: Names::new(alloc),
             seen: Seen::new(alloc, hasher),
-            entries: Entries::new(alloc, hasher),
+            entries: Plain::new(alloc),
             stale: Names::new(alloc),
-            verifying: Traces::new(alloc, hasher),
-            constructive: Traces::new(alloc, hasher),
-            deep: DeepTraces::new(alloc, hasher),
+            verifying: Plain::new(alloc),
+            constructive: Plain::new(alloc),
+            deep: Plain::new(alloc),
             chain: None,
         }
     }

@@ -11,7 +11,7 @@ ghost use Rattle.carte_table.specs.Steps.{IsReady};
 ghost use Rattle.carte_record.specs.Growth.{TakesEntries};
 
 use crate::Entry;
-use carte_table::{Firsts, NameTable};
+use carte_table::{Firsts, NameTable, Plain};
 use carte_value::{Name, Names, NoMemory, Seeded};
 use std::alloc::Global;
 use std::marker::Model;
@@ -39,20 +39,6 @@ impl Entries {
         Entries {
             list: Firsts::new(alloc, hasher),
         }
-    }
-
-    /// These entries, with the places of their keys in a table. How many bytes they take isn't counted until they become
-    /// another list's.
-    pub(crate) fn with_places(
-        alloc: Global,
-        entries: Vec<Entry>,
-        hasher: Seeded,
-    ) -> Result<Entries, NoMemory>
-        requires { length entries.items < 2 ^ 32 }
-        ensures { IfOk result (λ list. list ≡ entries.items) }
-    {
-        let list = Firsts::with_places(alloc, entries, hasher)?;
-        Ok(Entries { list })
     }
 
     /// Room for so many entries more at once, where it has few beside these.
@@ -115,11 +101,11 @@ impl Entries {
     /// Puts the entries of a later list behind these whose keys have none here, and gives back those that are left, which
     /// it then takes in without fail; where it has nothing and no key comes twice, it becomes that list. Where there is no
     /// room, some entries may stand there.
-    pub(crate) fn make_ready(&mut self, later: Entries) -> Result<Vec<Entry>, NoMemory>
+    pub(crate) fn make_ready(&mut self, later: Plain<Entry>) -> Result<Vec<Entry>, NoMemory>
         ensures ok { IfOk result (λ left. IsReady is_entry_of later self.old left.items self.new) }
         ensures front { Begins self.old self.new }
     {
-        self.list.make_ready(later.list)
+        self.list.make_ready_plain(later)
     }
 
     /// Takes in what is left of a later list, each entry in the place of its key's first one, and marks entries stale.

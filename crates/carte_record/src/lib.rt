@@ -36,7 +36,7 @@ mod trace;
 mod way;
 
 pub use batch::Batch;
-pub use carte_table::{Seen, Store};
+pub use carte_table::{Plain, Seen, Store};
 pub use codec::{one_body, one_body_three};
 pub use deep_trace::{DeepTrace, DeepTraces};
 pub use entries::Entries;

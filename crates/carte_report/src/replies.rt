@@ -1,6 +1,6 @@
 ghost use Rattle.std.specs.Prelude.{◌≡◌, ◌++◌, ◌∷◌, [], codes, IfOk, OnOk, string_bytes};
 ghost use Rattle.std.specs.Fmt.{decimal};
-ghost use Rattle.carte_report.specs.Reply.{keys_line, reply, target_line, target_lines, ran_lines, listed_lines, counts_line};
+ghost use Rattle.carte_report.specs.Reply.{keys_line, target_line, target_lines, ran_lines, counts_line};
 
 use crate::pieces::{between, number_after};
 use carte_value::{Name, Names, NoMemory, Value, Values};
@@ -15,22 +15,23 @@ pub fn keys_line(alloc: Global, keys: u64, inputs: u64) -> Result<String, NoMemo
     between(alloc, keys.as_str(), inputs.as_str(), "\n")
 }
 
-/// The reply of a build: the targets with their values, the rules that ran where they are to be listed, and the counts.
+/// The reply of a build: the targets with their values, the rules that are listed, and the counts: of those that ran, of those
+/// that were given up, and of those that were reused.
 pub fn reply(
     alloc: Global,
     targets: &Names,
     values: &Values,
-    list: bool,
-    ran: &Names,
+    listed: &Names,
+    ran: u64,
     given_up: u64,
     reused: u64,
 ) -> Result<String, NoMemory>
-    ensures { IfOk result (λ text. string_bytes text ≡ reply targets.now values.now list ran.now given_up reused) }
+    ensures { IfOk result (λ text. string_bytes text ≡ target_lines targets.now values.now ++ (ran_lines listed.now ++ counts_line ran given_up reused)) }
 {
     let mut text = String::new(alloc);
     push_targets(alloc, &mut text, targets.as_slice(), values.as_slice())?;
-    push_listed(&mut text, list, ran.as_slice())?;
-    push_counts(alloc, &mut text, ran.len() as u64, given_up, reused)?;
+    push_ran(&mut text, listed.as_slice())?;
+    push_counts(alloc, &mut text, ran, given_up, reused)?;
     Ok(text)
 }
 
@@ -66,15 +67,6 @@ fn push_target(
     text.push_str(" = ")?;
     text.push_str(value.as_str())?;
     text.push_str("\n")?;
-    Ok(())
-}
-
-fn push_listed(text: &mut String, list: bool, ran: &[Name]) -> Result<(), NoMemory>
-    ensures { OnOk result (string_bytes text.new ≡ string_bytes text.old ++ listed_lines list ran.now) }
-{
-    if list {
-        push_ran(text, ran)?;
-    }
     Ok(())
 }
 

@@ -113,11 +113,11 @@ impl Shell {
         match line {
             Line::Set(name, value) => self.set(alloc, &name, value),
             Line::Build(targets) => {
-                self.know_digests(alloc)?;
+                self.know_digests(rt, alloc)?;
                 self.build(rt, alloc, disk, &targets, gate)
             }
             Line::Explain(targets) => {
-                self.know_digests(alloc)?;
+                self.know_digests(rt, alloc)?;
                 let rebuilder = self.choices.rebuilder;
                 Ok(explanation(alloc, rebuilder, &mut self.engine, &self.book, &targets)?)
             }
@@ -157,12 +157,12 @@ impl Shell {
 
     // The digests of tasks, which no input changes, are worked out once. That of all rules is wanted to read what is kept in
     // version 1.
-    fn know_digests(&mut self, alloc: Global) -> Result<(), NoMemory>
+    fn know_digests<T: Threads>(&mut self, rt: &T, alloc: Global) -> Result<(), NoMemory>
         ensures choices { self.new.choices ≡ self.old.choices }
         ensures book { book_view self.new.book ≡ book_view self.old.book }
         ensures engine { self.new.engine ≡ self.old.engine }
     {
-        know_digests(alloc, &self.engine, &mut self.book)
+        know_digests(rt, alloc, &self.engine, &mut self.book)
     }
 
     fn build<D: Disk, G: Gate, T: Threads + Sync>(
@@ -306,11 +306,16 @@ impl Shell {
     }
 }
 
-fn know_digests(alloc: Global, engine: &Engine, book: &mut Book) -> Result<(), NoMemory>
+fn know_digests<T: Threads>(
+    rt: &T,
+    alloc: Global,
+    engine: &Engine,
+    book: &mut Book,
+) -> Result<(), NoMemory>
     ensures { book_view book.new ≡ book_view book.old }
 {
     if engine.is_old() {
         book.know_digest(alloc)?;
     }
-    engine.know_tasks(alloc, book)
+    engine.know_tasks(rt, alloc, book)
 }

@@ -1,10 +1,11 @@
 // The reply of a build, and why a line isn't answered.
 ghost use Rattle.std.specs.Prelude.{◌≡◌, IfOk};
+ghost use Rattle.carte_report.specs.Reply.{listed_lines, ran_lines};
 ghost use Rattle.carte_shell.specs.Replies.{build_reply, said};
 ghost use Rattle.carte_shell.specs.Stopping.{fault_of};
 
 use crate::Reply;
-use carte_engine::{Answer, ApplyFault};
+use carte_engine::{Answer, ApplyFault, Ran};
 use carte_report::reply;
 use carte_session::StepEnd;
 use carte_value::{Names, NoMemory};
@@ -20,18 +21,30 @@ pub(crate) fn build_reply(
 {
     match answer {
         Answer::Built(built) => {
+            let listed = listed(alloc, list, &built.ran)?;
             let text = reply(
                 alloc,
                 targets,
                 &built.values,
-                list,
-                &built.ran,
+                &listed,
+                built.ran.len() as u64,
                 built.given_up,
                 built.reused,
             )?;
             Ok(Reply::plain(text))
         }
         Answer::Refused(reason, _) => Reply::refusal(alloc, reason),
+    }
+}
+
+// The names of the rules that ran, where they are to be listed.
+fn listed(alloc: Global, list: bool, ran: &Ran) -> Result<Names, NoMemory>
+    ensures { IfOk result (λ names. ran_lines names ≡ listed_lines list ran.now) }
+{
+    if list {
+        ran.names(alloc)
+    } else {
+        Ok(Names::new(alloc))
     }
 }
 

@@ -8,7 +8,7 @@ ghost use Rattle.carte_state.specs.Runs.{AreUnmarked, BeginAll};
 ghost use Rattle.carte_state.specs.States.{any_in};
 
 use carte_io::MemDisk;
-use carte_record::{Batch, DeepTraces, Entries, Seen, Start, Store, Traces};
+use carte_record::{Batch, Plain, Seen, Start, Store};
 use carte_state::{State, apply_all};
 use carte_value::{Names, NoMemory, Seeded, Value};
 use std::alloc::Global;
@@ -25,11 +25,11 @@ fn number_batch(alloc: Global, start: Start, number: i64) -> Result<Batch, NoMem
         values,
         gone: Names::new(alloc),
         seen: Seen::new(alloc, Seeded::of(7)),
-        entries: Entries::new(alloc, Seeded::of(7)),
+        entries: Plain::new(alloc),
         stale: Names::new(alloc),
-        verifying: Traces::new(alloc, Seeded::of(7)),
-        constructive: Traces::new(alloc, Seeded::of(7)),
-        deep: DeepTraces::new(alloc, Seeded::of(7)),
+        verifying: Plain::new(alloc),
+        constructive: Plain::new(alloc),
+        deep: Plain::new(alloc),
         chain: None,
     })
 }

@@ -11,7 +11,7 @@ ghost use Rattle.carte_table.specs.KeyPlaces.{places_in};
 
 use crate::keyed::Compared;
 use crate::table::{MOST, Table, make_place, widen};
-use crate::{NameTable, Places};
+use crate::{NameTable, Places, Plain};
 use carte_value::{Name, NoMemory, Seeded};
 use std::alloc::Global;
 use std::marker::Model;
@@ -158,16 +158,16 @@ impl<T: Compared + Drop> All<T> {
     }
 
     /// Puts the items of a later list behind these. Where there is no room for all of them, some may stand there.
-    pub fn append(&mut self, later: All<T>) -> Result<(), NoMemory>
+    pub fn append(&mut self, later: Plain<T>) -> Result<(), NoMemory>
         ensures ok { OnOk result (self.new ≡ self.old ++ later) }
         ensures front { Begins self.old self.new }
     {
         if self.can_become(later.len()) {
-            *self = later;
+            *self = All::with_places(self.alloc, later.into_items(), *self.places.hasher())?;
             return Ok(());
         }
         self.widen(later.len());
-        for item in later.items {
+        for item in later.into_items() {
             self.push(item)?;
         }
         Ok(())

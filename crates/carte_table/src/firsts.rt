@@ -9,9 +9,9 @@ ghost use Rattle.carte_table.specs.Changes.{all_changed, change_first, front, is
 ghost use Rattle.carte_value.specs.Lists.{Begins};
 ghost use Rattle.carte_table.specs.Steps.{Replaces, Brings, CanBecome, IsReady};
 
-use crate::NameTable;
 use crate::keyed::{Keyed, Marked};
 use crate::table::{Table, add, each_once, first, forget, length_with, place, push, set, widen};
+use crate::{NameTable, Plain};
 use carte_codec::{items_length, with_item, without_item};
 use carte_value::{Name, Names, NoMemory, Seeded};
 use std::alloc::Global;
@@ -172,14 +172,33 @@ impl<T: Keyed + Drop> Firsts<T> {
         ensures ok { IfOk result (λ left. IsReady (has_key T.key_of) later self.old left.items self.new) }
         ensures front { Begins self.old self.new }
     {
-        let mut left = Vec::new(self.alloc);
         if self.can_become(&later) {
             *self = later;
             self.measure();
-            return Ok(left);
+            return Ok(Vec::new(self.alloc));
         }
-        self.widen(later.len());
-        for item in later.items {
+        self.bring_all(later.items)
+    }
+
+    /// The same of a list without a table: it gets one where this one may become it.
+    pub fn make_ready_plain(&mut self, later: Plain<T>) -> Result<Vec<T>, NoMemory>
+        ensures ok { IfOk result (λ left. IsReady (has_key T.key_of) later self.old left.items self.new) }
+        ensures front { Begins self.old self.new }
+    {
+        if !self.is_empty() || self.items.capacity() > later.len() {
+            return self.bring_all(later.into_items());
+        }
+        let later = Firsts::with_places(self.alloc, later.into_items(), self.hasher())?;
+        self.make_ready(later)
+    }
+
+    fn bring_all(&mut self, items: Vec<T>) -> Result<Vec<T>, NoMemory>
+        ensures ok { IfOk result (λ left. IsReady (has_key T.key_of) items.items self.old left.items self.new) }
+        ensures front { Begins self.old self.new }
+    {
+        let mut left = Vec::new(self.alloc);
+        self.widen(items.len());
+        for item in items {
             self.bring(item, &mut left)?;
         }
         Ok(left)

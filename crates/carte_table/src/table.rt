@@ -29,8 +29,17 @@ pub fn widen<K: Eq + Hash, V, T>(items: &mut Vec<T>, table: &mut Table<K, V>, mo
     ensures table { (q : K) → get K.eq table.new q ≡ get K.eq table.old q }
 {
     if items.len() < more / 2 {
-        let _room = items.reserve_exact(more);
         let _places = table.reserve(more);
+    }
+    make_room(items, more);
+}
+
+/// The same of a list without a table.
+pub fn make_room<T>(items: &mut Vec<T>, more: usize)
+    ensures { items.new.items ≡ items.old.items }
+{
+    if items.len() < more / 2 {
+        let _room = items.reserve_exact(more);
     }
 }
 

@@ -13,7 +13,7 @@ use Rattle.carte_record.specs.Folds.{is_among}
 use Rattle.carte_record.specs.Kept.{SomeKept, nothing_kept, staled}
 use Rattle.carte_record.specs.Ways.{TraceBy, result_by}
 use Rattle.carte_record.proofs.Growing.{kept_same}
-use Rattle.carte_sound.specs.Begun.{Beginning, IsBeginning, IsGone, begin}
+use Rattle.carte_sound.specs.Begun.{Beginning, IsGone, begin}
 use Rattle.carte_sound.specs.Begun as dropped
 use Rattle.carte_sound.specs.Held.{IsTrusted, dirty, tracing}
 use Rattle.carte_sound.specs.Marks.{Comes, IsChanged, IsFresh, IsMarked, Leads, need, on}

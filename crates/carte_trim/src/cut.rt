@@ -1,12 +1,14 @@
 // The batch of the live information, cut to the newest traces.
 ghost use Rattle.std.specs.Prelude.{◌≡◌, IfOk, OnOk};
-ghost use Rattle.carte_trim.specs.Lists.{AreCut, IsCut, number_in, with_newest};
+ghost use Rattle.carte_trim.specs.Lists.{AreCut, IsCut, newest_of, number_in, with_newest};
 
 use crate::named::named;
 use crate::newest::newest_of;
 use carte_record::Batch;
+use carte_table::{Compared, Plain};
 use carte_value::{NoMemory, Seeded};
 use std::alloc::Global;
+use std::mem::replace;
 
 /// How many traces there were, and how many are left.
 #[derive(Clone, Copy)]
@@ -49,9 +51,21 @@ fn cut(alloc: Global, batch: &mut Batch, count: u64, hasher: Seeded) -> Result<C
 fn cut_traces(alloc: Global, batch: &mut Batch, count: u64, hasher: Seeded) -> Result<(), NoMemory>
     ensures { OnOk result (batch.new ≡ with_newest count batch.old) }
 {
-    batch.verifying = newest_of(alloc, &batch.verifying, count, hasher)?;
-    batch.constructive = newest_of(alloc, &batch.constructive, count, hasher)?;
-    batch.deep = newest_of(alloc, &batch.deep, count, hasher)?;
+    cut_list(alloc, &mut batch.verifying, count, hasher)?;
+    cut_list(alloc, &mut batch.constructive, count, hasher)?;
+    cut_list(alloc, &mut batch.deep, count, hasher)
+}
+
+fn cut_list<T: Compared + Drop>(
+    alloc: Global,
+    traces: &mut Plain<T>,
+    count: u64,
+    hasher: Seeded,
+) -> Result<(), NoMemory>
+    ensures { OnOk result (traces.new ≡ newest_of T.key_of count traces.old) }
+{
+    let all = replace(traces, Plain::new(alloc));
+    *traces = newest_of(alloc, all, count, hasher)?;
     Ok(())
 }
 

@@ -2,20 +2,31 @@
 ghost use Rattle.std.specs.Prelude.{◌≡◌, ◌+◌, ◌<◌, nat_lt, length, drop, get_or, IfOk};
 ghost use Rattle.carte_trim.specs.Lists.{count_of, newest_of};
 
-use carte_table::{All, Compared};
+use carte_table::{All, Compared, Plain};
 use carte_value::{NoMemory, Seeded};
 use std::alloc::Global;
 
 /// Of each key the last `count` traces, in their order.
 pub(crate) fn newest_of<T: Compared + Drop>(
     alloc: Global,
-    traces: &All<T>,
+    traces: Plain<T>,
     count: u64,
     hasher: Seeded,
-) -> Result<All<T>, NoMemory>
+) -> Result<Plain<T>, NoMemory>
+    ensures { IfOk result (λ list. list ≡ newest_of T.key_of count traces) }
+{
+    let traces = All::with_places(alloc, traces.into_items(), hasher)?;
+    newest_in(alloc, &traces, count)
+}
+
+fn newest_in<T: Compared + Drop>(
+    alloc: Global,
+    traces: &All<T>,
+    count: u64,
+) -> Result<Plain<T>, NoMemory>
     ensures { IfOk result (λ list. list ≡ newest_of T.key_of count traces.now) }
 {
-    let mut list = All::new(alloc, hasher);
+    let mut list = Plain::new(alloc);
     let all = traces.as_slice();
     for at in 0..all.len() {
         let trace = &all[at];

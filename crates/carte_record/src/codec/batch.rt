@@ -5,7 +5,7 @@ ghost use Rattle.carte_record.specs.Bodies.{spelled_kind, spelled_front, FitsFro
 ghost use Rattle.carte_record.specs.BodyLaws.{kind_one, batch_of};
 
 use crate::codec::lists::{write_deep, write_links, write_traces, write_values};
-use crate::{Batch, DeepTrace, DeepTraces, Entries, Entry, Seen, Start, Store, Trace, Traces};
+use crate::{Batch, DeepTrace, Entry, Seen, Start, Store, Trace};
 use carte_codec::{Spelled, Unread};
 use carte_table::Plain;
 use carte_value::{Link, Names, NoMemory, Seeded, Value};
@@ -72,7 +72,7 @@ fn write_back(batch: &Batch, out: &mut Vec<u8>) -> Result<(), NoMemory>
     batch.chain.write(out)
 }
 
-/// What was read, with its tables.
+/// What was read. Values and links get their tables.
 pub(crate) fn of_parts(alloc: Global, parts: Parts, hasher: Seeded) -> Result<Batch, NoMemory>
     ensures { IfOk result (λ batch. batch ≡ batch_of parts) }
 {
@@ -84,11 +84,11 @@ pub(crate) fn of_parts(alloc: Global, parts: Parts, hasher: Seeded) -> Result<Ba
         values: Store::with_places(alloc, values.into_items(), hasher)?,
         gone,
         seen: Seen::with_places(alloc, seen.into_items(), hasher)?,
-        entries: Entries::of(alloc, entries, hasher)?,
+        entries,
         stale,
-        verifying: Traces::with_places(alloc, verifying.into_items(), hasher)?,
-        constructive: Traces::with_places(alloc, constructive.into_items(), hasher)?,
-        deep: DeepTraces::with_places(alloc, deep.into_items(), hasher)?,
+        verifying,
+        constructive,
+        deep,
         chain,
     })
 }

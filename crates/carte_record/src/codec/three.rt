@@ -5,7 +5,7 @@ ghost use Rattle.carte_record.specs.ThreeLaws.{kind_three_one, batch_three, IsWh
 
 use crate::codec::batch::{Front, Kind, of_parts};
 use crate::{Batch, DeepTrace, Trace};
-use carte_codec::{ListOf, Spelled, Unread};
+use carte_codec::{Spelled, Unread};
 use carte_table::Plain;
 use carte_value::{Names, NoMemory, Seeded};
 use std::alloc::Global;
@@ -73,12 +73,12 @@ fn whole(
     Ok(Some(batch))
 }
 
-/// What was read, with its tables and with no deep traces.
+/// What was read, with no deep traces.
 fn without_deep(alloc: Global, parts: PartsThree, hasher: Seeded) -> Result<Batch, NoMemory>
     ensures { IfOk result (λ batch. batch ≡ batch_three parts) }
 {
     let (_, (front, (verifying, (constructive, (_deep, chain))))) = parts;
-    let none: Plain<DeepTrace> = Plain::empty(alloc, 0)?;
+    let none: Plain<DeepTrace> = Plain::new(alloc);
     of_parts(
         alloc,
         (Kind, (front, (verifying, (constructive, (none, chain))))),

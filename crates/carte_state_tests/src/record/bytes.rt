@@ -83,7 +83,7 @@ fn has_a2(batch: &Batch) -> bool {
 }
 
 fn has_b2(batch: &Batch) -> bool {
-    match batch.entries.get(1) {
+    match batch.entries.as_slice().get(1) {
         Some(entry) => {
             entry.key.text() == "b2" && entry.result == number(60) && entry.needs.len() == 1
         }
@@ -92,7 +92,7 @@ fn has_b2(batch: &Batch) -> bool {
 }
 
 fn has_b1(batch: &Batch) -> bool {
-    match batch.verifying.get(0) {
+    match batch.verifying.as_slice().get(0) {
         Some(trace) => {
             trace.key.text() == "b1" && trace.result == number(30) && trace.links.len() == 2
         }

@@ -5,5 +5,4 @@ use Rattle.carte_record.proofs.entries.Entries.make_ready.Goals as goal
 
 pub returns-clause-ok : goal.returns-clause-ok
 returns-clause-ok c =
-    subst (λ es. IfOk c.make_ready.result (λ left. IsReady is_entry_of c.args.later es left.items c.make_ready.new.self)) c.self.view_is
-    (subst (λ ls. IfOk c.make_ready.result (λ left. IsReady is_entry_of ls c.self.inside.list left.items c.make_ready.new.self)) c.later.view_is c.make_ready.ensures.ok)
+    subst (λ es. IfOk c.make_ready_plain.result (λ left. IsReady is_entry_of c.args.later es left.items c.make_ready_plain.new.self)) c.self.view_is c.make_ready_plain.ensures.ok
