@@ -13,8 +13,9 @@ use carte_value::{Digest, Name, NoMemory};
 use std::alloc::Global;
 use std::thread::{Threads, join};
 
-/// From so many entries on a thread of its own works out half of the digests: to fork takes as long as some fifty digests.
-const WORTH: usize = 512;
+/// From so many entries on a thread of its own works out half of the digests. It has to be made, and to fetch the formulas anew:
+/// with half as many entries it takes a little longer than one thread.
+const WORTH: usize = 2048;
 
 /// Has the book know the digests of the tasks of the keys that have entries: the marking looks at each of them, and a build at
 /// each key that it reaches. It is no work where the book knows as many. Where there are many, `rt` gives a thread for half of
