@@ -368,7 +368,9 @@ def turned_bits(both, stride):
             data, counts = as_three(both.read()) if kind == 3 else both.read(), collections.Counter()
             for bit in range(0, 8 * len(data), stride):
                 counts[worst(both.runs, rebuilder, batches.turned(data, bit))] += 1
-            both.runs.same(f"{rebuilder}, kind {kind}: other ends", set(counts) <= {"bad state", "wrong", "refused", "right"}, True)
+            # A state of version 1 with an entry of a name that is no rule ends a build with status 9 (docs/STATE.md).
+            ends = {"bad state", "wrong", "refused", "right"} | ({"status 9"} if kind == 1 else set())
+            both.runs.same(f"{rebuilder}, kind {kind}: other ends", set(counts) <= ends, True)
             both.runs.same(f"{rebuilder}, kind {kind}: wrong values", counts["wrong"] if rebuilder != "dirty" else 0, 0)
             print(f"{rebuilder}, kind {kind}: {sum(counts.values())} bits, " + ", ".join(f"{times} {it}" for it, times in sorted(counts.items())), flush=True)
 
