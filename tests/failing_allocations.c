@@ -3,6 +3,7 @@
 #include <dlfcn.h>
 #include <stdio.h>
 #include <stdlib.h>
+#include <sys/syscall.h>
 #include <unistd.h>
 
 static long count, failing;
@@ -27,8 +28,19 @@ void *realloc(void *old, size_t size) { return fails() ? NULL : next_realloc(old
 void *aligned_alloc(size_t align, size_t size) { return fails() ? NULL : next_aligned(align, size); }
 int posix_memalign(void **into, size_t align, size_t size) { return fails() ? 12 : next_memalign(into, align, size); }
 
+static void end(int status) {
+  syscall(SYS_exit_group, status);
+  __builtin_unreachable();
+}
+
 __attribute__((destructor)) static void tell(void) {
   char text[32];
   int length = snprintf(text, sizeof text, "%ld", count);
-  if (write(9, text, length) != length) _exit(70);
+  if (write(9, text, length) != length) end(70);
+}
+
+// The program ends by this call, behind which no destructor runs.
+void _exit(int status) {
+  tell();
+  end(status);
 }

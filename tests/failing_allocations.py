@@ -43,12 +43,12 @@ def is_well(program, shim, words, at, ample):
 
 
 def sweep(program, shim, words):
-    """How many runs with a failing allocation ended otherwise."""
+    """How many runs with a failing allocation ended otherwise; or 1 where none was counted."""
     (shim.parent / "state").unlink(missing_ok=True)
     ample, count = run(program, shim, words, 0)
     others = [at for at in range(1, count + 1) if not is_well(program, shim, words, at, ample)]
     print(f"{pathlib.Path(words[1]).stem} {words[3:]}: status {ample[0]}, {count} allocations, otherwise at {others}", flush=True)
-    return len(others)
+    return len(others) + (count == 0)
 
 
 def main(program):
