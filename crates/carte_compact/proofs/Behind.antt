@@ -1,22 +1,18 @@
 -- A rewriting and a batch behind it, as steps.
-use Rattle.std.proofs.Common.{◌≡◌, ◌⊎◌, ℕ, ◌<◌, Bool, true, false, if◌then◌else◌, List, [], ◌∷◌, ◌++◌, Result, Ok, ap, ◌∙◌, subst, inl, inr, arith}
+use Rattle.std.proofs.Common.{◌≡◌, ◌⊎◌, ℕ, ◌<◌, Bool, true, false, if◌then◌else◌, List, [], ◌∷◌, ◌++◌, ap, ◌∙◌, subst, inl, inr, arith}
 use Rattle.carte_io.specs.Stations.{IsAtOneOf, Step, StepsThrough}
 use Rattle.carte_io.proofs.Acknowledged.{AreMade, steps_leave, steps_then}
 use Rattle.carte_io.proofs.Images.{leaves_more}
 use Rattle.carte_journal.specs.Journals.{calls_of}
 use Rattle.carte_journal.proofs.Commits.{some_calls}
-use Rattle.carte_record.specs.declared.batch.Batch.{Batch}
 use Rattle.carte_record.specs.Empty.{is_empty}
 use Rattle.carte_record.specs.Folds.{apply}
 use Rattle.carte_record.specs.Kept.{kept_view}
-use Rattle.carte_state.specs.Applying.{Applies}
-use Rattle.carte_state.specs.Around.{OverDisk}
 use Rattle.carte_state.specs.Folding.{Keeps}
-use Rattle.carte_state.specs.States.{IsKeptOn, Stand, any_in, any_of, step_for}
+use Rattle.carte_state.specs.States.{any_in, any_of, step_for}
 use Rattle.carte_state.specs.Versions.{AnyKept, InTwo, two_of}
-use Rattle.carte_state.specs.declared.fault.ApplyFault.{ApplyFault}
-use Rattle.carte_compact.specs.Laws.{KeptThroughout, StationsBehind, StepsBehind, TellsApplied, TellsRenewed}
-use Rattle.carte_compact.specs.Rewriting.{Rewrites, step_again}
+use Rattle.carte_compact.specs.Laws.{KeptThroughout, StationsBehind, StepsBehind}
+use Rattle.carte_compact.specs.Rewriting.{step_again}
 
 one_of_two : {A : Type 0} (o : A ⊎ A) → A
 one_of_two (inl a) = a
@@ -54,10 +50,3 @@ stations_behind s t B old mid new renewed applied =
     leaves_more old new (IsAtOneOf (Keeps s.journal.limit) K (step_again s ++ step_for t.journal K B)) _
     (λ image at. at_two (Keeps s.journal.limit) K (InTwo (apply B (two_of K))) (calls_of t.journal) (is_empty B) image at)
     (steps_leave (Keeps s.journal.limit) K (step_again s ++ step_for t.journal K B) old new applied.ordered (steps_behind s t B old mid new renewed applied))
-
--- what a rewriting and a batch come to, as they are told
-pub told_renewed : (d : OverDisk) (s t : Stand) → Rewrites d s t (Ok tt) → d.tells → IsKeptOn s d.old → TellsRenewed s t d.old d.new
-told_renewed d s t rewrites told on = record { kept = rewrites.kept; one = rewrites.one; limit = rewrites.limit; calls = rewrites.comes.calls told; steps = rewrites.steps told on }
-
-pub told_applied : (d : OverDisk) (s t : Stand) (B : Batch) (result : Result (Unit {0}) ApplyFault) → Applies d s t B result → d.tells → IsKeptOn s d.old → TellsApplied s B d.old d.new
-told_applied d s t B result applies told on = record { steps = applies.steps told on; ordered = applies.ordered told }

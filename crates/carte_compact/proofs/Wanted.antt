@@ -1,5 +1,5 @@
 -- What isn't wanted where little is live isn't wanted where more is.
-use Rattle.std.proofs.Common.{◌≡◌, ◌≤◌, ◌*◌, ℕ, Bool, true, false, ◌&&◌, not, nat_lt, refl, sym, arith}
+use Rattle.std.proofs.Common.{◌≡◌, ◌≤◌, ◌*◌, ℕ, Bool, true, false, ◌&&◌, nat_lt, refl, arith}
 use Rattle.std.proofs.lemmas.Bool.{ltb-true, ltb-false}
 use Rattle.std.specs.Prelude.{◌||◌}
 use Rattle.carte_journal.specs.declared.bank.Bank.{Bank}
@@ -23,8 +23,3 @@ pub wanted_less : (b : Bank) (least live : ℕ) (over first : Bool) → least �
 wanted_less b least live true first less unwanted = unwanted
 wanted_less b least live false true less unwanted = large_less b least live less unwanted
 wanted_less b least live false false less unwanted = refl
-
-pub not_due : (empty possible wanted : Bool) → wanted ≡ false → false ≡ (not empty && (possible && wanted))
-not_due true possible wanted unwanted = refl
-not_due false true wanted unwanted = sym unwanted
-not_due false false wanted unwanted = refl

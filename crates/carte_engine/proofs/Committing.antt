@@ -130,7 +130,7 @@ module _ (first : Bool) where
 
   pub ready_rest : (d : OverDisk) (old base : Stand) (B : Batch) → Readies first d old B base → d.tells → IsKeptOn old d.old → IsKeptOn base d.new
   ready_rest d old base B (inl (undue, same, story, faults)) told on =
-      subst (λ (u : Story). IsKeptOn base u) (sym (story told)) (subst (λ (s : Stand). IsKeptOn s d.old) (sym same) on)
+      subst (λ (u : Story). IsKeptOn base u) (sym story) (subst (λ (s : Stand). IsKeptOn s d.old) (sym same) on)
   ready_rest d old base B (inr (due, rewrites)) told on = rewrites.comes.rest told on
 
   -- the state as it stood when the batch was put
@@ -209,11 +209,11 @@ module _ (first : Bool) (d : OverDisk) (old base : Stand) (B : Batch) where
   ready_last (inr turned) = refl
 
   ready_calls : (ready : Readies first d old B base) → d.tells → d.new.now.passed ≡ d.old.now.passed + calls_in (steps_ready first d old base B ready)
-  ready_calls (inl (undue, same, story, faults)) told = omega (arith, ap (λ (u : Story). u.now.passed) (story told))
+  ready_calls (inl (undue, same, story, faults)) told = omega (arith, ap (λ (u : Story). u.now.passed) story)
   ready_calls (inr (due, rewrites)) told = omega (arith, rewrites.comes.calls told)
 
   ready_through : (ready : Readies first d old B base) → d.tells → IsKeptOn old d.old → StepsThrough (Keeps old.journal.limit) (any_in old) (steps_ready first d old base B ready) d.old d.new
-  ready_through (inl (undue, same, story, faults)) told on = none_through old d.old d.new (story told) on
+  ready_through (inl (undue, same, story, faults)) told on = none_through old d.old d.new story on
   ready_through (inr (due, rewrites)) told on = rewrites.steps told on
 
 module _ (first : Bool) (d : OverDisk) (old new : Stand) (B : Batch) where

@@ -4,8 +4,6 @@ use Rattle.std.specs.Prelude.{◌==◌, if◌then◌else◌}
 use Rattle.std.proofs.Math.Path.{fun_ext}
 use Rattle.carte_value.specs.declared.link.Link.{Link}
 use Rattle.carte_value.specs.declared.value.Value.{Value}
-use Rattle.carte_codec.specs.Each.{EachFits}
-use Rattle.carte_record.specs.Bodies.{IsUnmarked}
 use Rattle.carte_record.specs.declared.batch.Batch.{Batch}
 use Rattle.carte_record.specs.declared.entry.Entry.{Entry}
 use Rattle.carte_record.specs.declared.kept.Kept.{Kept}
@@ -51,13 +49,6 @@ bare_kept K is =
 abbrev pub cleared_by : Bool → Batch
 cleared_by bare = if bare then empty_batch else record empty_batch { start = Cleared }
 
-unmarked_by : (bare : Bool) → EachFits IsUnmarked (cleared_by bare).entries
-unmarked_by true = tt
-unmarked_by false = tt
-
-pub clearing_unmarked : (s : Stand) → EachFits IsUnmarked (clearing s).entries
-clearing_unmarked s = unmarked_by (keeps_nothing s)
-
 no_trace : (w : Way) → batch_traces w (record empty_batch { start = Cleared }) ≡ []
 no_trace Verifying = refl
 no_trace Constructive = refl
@@ -79,9 +70,6 @@ module _ (K : Kept) where
 
 pub clearing_empties : (s : Stand) → apply_to (clearing s) (any_in s) ≡ InTwo nothing_kept
 clearing_empties s = empties s.kept s.one
-
-pub clearing_begins : (s : Stand) → Begins (any_in s) (clearing s)
-clearing_begins s = begins s.kept s.one
 
 pub clears : (s : Stand) (bare : Bool) (B : Batch) → is_empty B ≡ true → bare ≡ keeps_nothing s → bare ≡ false → record B { start = Cleared } ≡ clearing s
 clears s bare B empty test is = ap (λ (C : Batch). record C { start = Cleared }) (empty_is B empty) ∙ sym (ap cleared_by (sym test ∙ is))

@@ -16,3 +16,4 @@ pub mod Committing
 pub mod Several
 pub mod Looping
 pub mod Foreseeing
+pub mod Idle

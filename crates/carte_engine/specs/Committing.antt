@@ -48,7 +48,7 @@ behind d between = record { tells = d.tells; old = between; new = d.new; failed_
 -- nothing was done, or the file was rewritten, where that is due
 abbrev pub Readies : Bool → OverDisk → Stand → Batch → Stand → Type 0
 Readies first d old B base =
-    (IsNotDue first old B × (base ≡ old) × (d.tells → d.new ≡ d.old) × (d.failed ≡ d.failed_before)) ⊎ (IsDue first old B × Rewrites d old base (Ok tt))
+    (IsNotDue first old B × (base ≡ old) × (d.new ≡ d.old) × (d.failed ≡ d.failed_before)) ⊎ (IsDue first old B × Rewrites d old base (Ok tt))
 
 -- as steps: none, or one from what is kept to the same
 abbrev pub steps_ready : (first : Bool) (d : OverDisk) (old base : Stand) (B : Batch) → Readies first d old B base → List (Step AnyKept)

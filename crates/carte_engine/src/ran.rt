@@ -3,6 +3,7 @@ ghost use Rattle.std.specs.Prelude.{◌≡◌, length, IfOk};
 ghost use Rattle.carte_value.specs.Truths.{NoneTwice};
 ghost use Rattle.carte_engine.specs.Sorted.{sorted};
 
+use carte_mark::listed;
 use carte_value::{Name, Names, NoMemory};
 use std::alloc::Global;
 use std::marker::Model;
@@ -69,14 +70,4 @@ pub(crate) fn in_order(keys: Vec<Name>) -> Vec<Name>
     keys.sort_unstable();
     keys.dedup();
     keys
-}
-
-fn listed(alloc: Global, keys: Vec<Name>) -> Result<Names, NoMemory>
-    ensures { IfOk result (λ names. names ≡ keys.items) }
-{
-    let mut names = Names::with_room(alloc, keys.len())?;
-    for key in keys {
-        names.push(key)?;
-    }
-    Ok(names)
 }

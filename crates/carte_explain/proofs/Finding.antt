@@ -30,9 +30,6 @@ take_all : {A : Type 0} (xs : List A) → take (length xs) xs ≡ xs
 take_all [] = refl
 take_all (x ∷ xs) = ap (λ ys. x ∷ ys) (take_all xs)
 
-pub missed_all : {A : Type 0} (p : A → Bool) (xs : List A) (i : ℕ) → i ≡ length xs → find p (take i xs) ≡ None → find p xs ≡ None
-missed_all p xs i end none = subst (λ ys. find p ys ≡ None) (ap (λ n. take n xs) end ∙ take_all xs) none
-
 take_more : {A : Type 0} (xs : List A) (i : ℕ) (x : A) → slice_get xs i ≡ Some x → take (suc i) xs ≡ take i xs ++ x ∷ []
 take_more [] i x is = cc
 take_more (y ∷ ys) zero x is = let e : y ≡ x = cc in ap (λ z. z ∷ []) e
@@ -48,9 +45,6 @@ last_end {A = A} p (y ∷ ys) x = ap (λ o. option_or o (cond (p y) (Some y) Non
 
 pub last_more : {A : Type 0} (p : A → Bool) (xs : List A) (i : ℕ) (x : A) → slice_get xs i ≡ Some x → find_last p (take (suc i) xs) ≡ cond (p x) (Some x) (find_last p (take i xs))
 last_more p xs i x is = ap (find_last p) (take_more xs i x is) ∙ last_end p (take i xs) x
-
-pub last_all : {A : Type 0} (p : A → Bool) (xs : List A) (i : ℕ) → i ≡ length xs → find_last p (take i xs) ≡ find_last p xs
-last_all p xs i end = ap (find_last p) (ap (λ n. take n xs) end ∙ take_all xs)
 
 item_at : {A : Type 0} (xs : List A) (i : ℕ) (x : A) → i < length xs → x ≡ get_or xs i x → slice_get xs i ≡ Some x
 item_at [] i x below is = absurd (let never : i < 0 = below in omega (arith, never))

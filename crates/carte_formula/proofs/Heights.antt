@@ -176,10 +176,6 @@ at_lifted : (b : Bool) (d : ℕ) (e : Tree) → AtDepth (suc d) e → AtDepth (l
 at_lifted true d e h = higher e d h
 at_lifted false d e h = h
 
-low_here : (r : Round) (ts : List Token) → Low r ts → length r.by ≤ 64
-low_here r [] h = h
-low_here r (t ∷ ts) h = h.0
-
 args_more : (d : ℕ) (xs : List Arg) (x : Arg) → ArgsAt d (args_of xs) → ArgAt d x → ArgsAt d (args_of (xs ++ x ∷ []))
 args_more d [] x h k = (k, tt)
 args_more d (y ∷ xs) x h k = (h.0, args_more d xs x h.1 k)

@@ -1,6 +1,6 @@
 -- What an operator does with the newest frame.
 use Rattle.std.proofs.Common.{Bool, true, false, List, [], ◌∷◌, ◌≡◌, ◌==◌, nat_lt, Some, if◌then◌else◌, refl}
-use Rattle.carte_tree.specs.Tree.{Tree, chain, level_of, rank, steps_of}
+use Rattle.carte_tree.specs.Tree.{Tree, chain, level_of, rank}
 use Rattle.carte_tree.specs.Code.{tree_of, terms_of}
 use Rattle.carte_tree.specs.declared.expr.Op.{Op}
 use Rattle.carte_formula.specs.Frames.{joint_at, joint_of, is_empty_at, open_frame, frames_of}
@@ -17,11 +17,6 @@ joint_by less same = if less then joints.Ends else if same then joints.GoesOn el
 abbrev picked : Bool → Bool → List Begun → List Begun → List Begun → List Begun
 picked less same x y z = if less then x else if same then y else z
 
-picks_first : (less same : Bool) (x y z : List Begun) → joint_by less same ≡ joints.Ends → picked less same x y z ≡ x
-picks_first true same x y z h = refl
-picks_first false true x y z h = absurd (let no : ⊥ = cc in no)
-picks_first false false x y z h = absurd (let no : ⊥ = cc in no)
-
 picks_second : (less same : Bool) (x y z : List Begun) → joint_by less same ≡ joints.GoesOn → picked less same x y z ≡ y
 picks_second true same x y z h = absurd (let no : ⊥ = cc in no)
 picks_second false true x y z h = refl
@@ -31,11 +26,6 @@ picks_third : (less same : Bool) (x y z : List Begun) → joint_by less same ≡
 picks_third true same x y z h = absurd (let no : ⊥ = cc in no)
 picks_third false true x y z h = absurd (let no : ⊥ = cc in no)
 picks_third false false x y z h = refl
-
--- a chain that binds tighter is whole
-pub chain_ended : (o : Op) (v : Tree) (c : OpenChain) (S : List Begun) → joint_at (level_of o) (code.Chain c) ≡ joints.Ends
-    → joined o v (open_frame c ∷ S) ≡ joined o (chain c.level (tree_of c.first) (steps_of (grown (terms_of c.steps.items) c.last v))) S
-chain_ended o v c S h = picks_first (nat_lt (rank c.level) (rank (level_of o))) (rank c.level == rank (level_of o)) _ _ _ h
 
 -- one of the same level goes on
 pub chain_longer : (o : Op) (v : Tree) (c : OpenChain) (S : List Begun) → joint_at (level_of o) (code.Chain c) ≡ joints.GoesOn

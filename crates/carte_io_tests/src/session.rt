@@ -1,7 +1,7 @@
 //! The replies of a session to the lines of a script, and its ends.
 
 use carte_io::{MemSink, MemSource, NoMemory};
-use carte_session::{Machine, SessionEnd, StepEnd, run_session};
+use carte_session::{Answer, Machine, SessionEnd, StepEnd, run_session};
 use std::alloc::Global;
 use std::marker::Sync;
 use std::test::Fail;
@@ -25,12 +25,12 @@ impl Machine<()> for Echo {
         _disk: &mut (),
         number: usize,
         line: &[u8],
-    ) -> Result<String, StepEnd> {
+    ) -> Result<Answer, StepEnd> {
         if line == b"stop".as_slice() {
             return Err(StepEnd::DiskFault);
         }
         match reply_to(alloc, number, line) {
-            Ok(reply) => Ok(reply),
+            Ok(text) => Ok(Answer { text, stays: false }),
             Err(_) => Err(StepEnd::NoMemory),
         }
     }

@@ -166,9 +166,6 @@ walk_past limit at [] bytes = ap (λ n. walk limit n 0 bytes) (omega arith)
 walk_past limit at (x ∷ front) bytes =
     walk_past limit (suc at) front bytes ∙ ap (λ n. walk limit n 0 bytes) (omega arith)
 
-length-piece_of : (body : List ℕ) → length (piece_of body) ≡ 5 + length body
-length-piece_of body = simp (length-append) (omega arith)
-
 stated_piece : (body rest : List ℕ) → length body < 2 ^ 32 → stated (to_be_bytes w32 (length body) ++ body ++ rest) ≡ length body
 unfolding stated
 stated_piece body rest short = from_be_bytes-to_be_bytes_4 (length body) short

@@ -58,7 +58,7 @@ equal_low n b k h = let e : b ≡ n = eqb-true b n h in omega arith
 or_low : (x y : Bool) (b : ℕ) → (x ≡ true → b < 128) → (y ≡ true → b < 128) → (x || y) ≡ true → b < 128
 or_low x y b f g h = elim (or_cases x y h) [ inl k ↦ f k | inr k ↦ g k ]
 
-name_low : (b : ℕ) → is_name_byte b ≡ true → b < 128
+pub name_low : (b : ℕ) → is_name_byte b ≡ true → b < 128
 name_low b = or_low (((is_lower b || is_digit b) || b == 95) || b == 46) (b == 47) b
     (or_low ((is_lower b || is_digit b) || b == 95) (b == 46) b
     (or_low (is_lower b || is_digit b) (b == 95) b (or_low (is_lower b) (is_digit b) b (lower_low b) (digit_low b)) (equal_low 95 b (omega arith)))
@@ -81,7 +81,9 @@ known_on : (c e : Class) (bs : List ℕ) (b : ℕ) → 0 < length bs → RunOk c
 known_on numeral e bs b some h g =
     let w = goes (is_digit b) numeral e g in
     known_as numeral e (bs ++ b ∷ []) w.1 (list_all-append is_digit bs (b ∷ []) ∙ and_both (list_all is_digit bs) (is_digit b && true) h (and_both (is_digit b) true w.0 refl))
-known_on small e bs b some h g = let w = goes (is_name_byte b) small e g in known_as small e (bs ++ b ∷ []) w.1 (ascii_last bs b (name_low b w.0))
+known_on small e bs b some h g =
+    let w = goes (is_name_byte b) small e g in
+    known_as small e (bs ++ b ∷ []) w.1 (ap is_lower (first_kept bs b some) ∙ h.0, list_all-append is_name_byte bs (b ∷ []) ∙ and_both (list_all is_name_byte bs) (is_name_byte b && true) h.1 (and_both (is_name_byte b) true w.0 refl))
 known_on capitals e bs b some h g = let w = goes (is_upper b) capitals e g in known_as capitals e (bs ++ b ∷ []) w.1 (ascii_last bs b (upper_low b w.0))
 known_on letters e bs b some h g = let w = goes (is_letter b || is_digit b) letters e g in known_as letters e (bs ++ b ∷ []) w.1 (ascii_last bs b (word_low b w.0))
 known_on less e bs b some h g =

@@ -5,7 +5,7 @@ use Rattle.std.specs.Str.{IsUtf8, IsCharBoundary}
 use Rattle.std.proofs.lemmas.Bool.{eqb-true}
 use Rattle.std.proofs.lemmas.List.{get_or-take, get_or-drop}
 use Rattle.std.proofs.lemmas.Str.{IsCharBoundary-before_ascii, IsCharBoundary-after_ascii}
-use Rattle.carte_name.specs.Names.{is_digit, is_lower, is_upper}
+use Rattle.carte_name.specs.Names.{is_digit, is_lower, is_upper, is_name_byte}
 use Rattle.carte_name.specs.declared.kind.Kind.{Kind}
 use Rattle.carte_name.specs.declared.kind.Kind.TheVariants.{Rules, Sheet}
 use Rattle.carte_lexer.specs.Tokens.{Token, op, lpar, rpar, comma, colon, add, sub, mul, div, join, eq}
@@ -13,7 +13,7 @@ use Rattle.carte_lexer.specs.Lexer.{Class, numeral, small, capitals, letters, le
 use Rattle.carte_lexer.specs.Runs.{RunOk, RunsTo}
 use Rattle.carte_lexer.specs.Takes.{MeetsTo}
 use Rattle.carte_lexer.proofs.Bytes.{and_both, and_left, and_right}
-use Rattle.carte_lexer.proofs.Running.{slice_more, slice_length, digit_low, lower_low, upper_low}
+use Rattle.carte_lexer.proofs.Running.{slice_more, slice_length, digit_low, lower_low, upper_low, name_low}
 
 -- what is known where a run begins
 abbrev pub KnownStart : ℕ → Start → Type 0
@@ -24,9 +24,12 @@ pick : (b : ℕ) (t : Bool) (x y : Start) → (t ≡ true → KnownStart b x) �
 pick b true x y h k = h refl
 pick b false x y h k = k
 
-low_known : (q : Kind) (b : ℕ) → b < 128 → KnownStart b (begins (low_class q))
-low_known Rules b h = (h, h)
-low_known Sheet b h = (h, h)
+lower_name : (b : ℕ) → is_lower b ≡ true → is_name_byte b ≡ true
+lower_name b h = rw h refl
+
+low_known : (q : Kind) (b : ℕ) → is_lower b ≡ true → KnownStart b (begins (low_class q))
+low_known Rules b h = ((h, and_both (is_name_byte b) true (lower_name b h) refl), lower_low b h)
+low_known Sheet b h = (lower_low b h, lower_low b h)
 
 high_known : (q : Kind) (b : ℕ) → b < 128 → KnownStart b (begins (high_class q))
 high_known Rules b h = (h, h)
@@ -47,7 +50,7 @@ sign_known b = pick b (b == 43) (single (op add)) (if b == 45 then single (op su
 start_known : (q : Kind) (b : ℕ) → KnownStart b (start_of q b)
 start_known q b =
     pick b (is_digit b) (begins numeral) (if is_lower b then begins (low_class q) else if is_upper b then begins (high_class q) else if is_blank b then blank else if b == 34 then begins inside else sign_of b) (digit_known b)
-    (pick b (is_lower b) (begins (low_class q)) (if is_upper b then begins (high_class q) else if is_blank b then blank else if b == 34 then begins inside else sign_of b) (λ h. low_known q b (lower_low b h))
+    (pick b (is_lower b) (begins (low_class q)) (if is_upper b then begins (high_class q) else if is_blank b then blank else if b == 34 then begins inside else sign_of b) (low_known q b)
     (pick b (is_upper b) (begins (high_class q)) (if is_blank b then blank else if b == 34 then begins inside else sign_of b) (λ h. high_known q b (upper_low b h))
     (pick b (is_blank b) blank (if b == 34 then begins inside else sign_of b) (λ h. tt)
     (pick b (b == 34) (begins inside) (sign_of b) (quote_known b) (sign_known b)))))
@@ -92,7 +95,7 @@ last_ascii : (d : Class) (bs : List ℕ) → 0 < length bs → (d ≡ inside →
 last_ascii numeral bs h other k = digit_low (slice_index bs (length bs - 1)) (all_at is_digit bs (length bs - 1) k (omega arith))
 last_ascii inside bs h other k = absurd (other refl)
 last_ascii closing bs h other k = let e : slice_index bs (length bs - 1) ≡ 34 = k.2 in omega arith
-last_ascii small bs h other k = k
+last_ascii small bs h other k = name_low (slice_index bs (length bs - 1)) (all_at is_name_byte bs (length bs - 1) k.1 (omega arith))
 last_ascii capitals bs h other k = k
 last_ascii letters bs h other k = k
 last_ascii less bs h other k = k

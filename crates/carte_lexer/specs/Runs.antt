@@ -1,13 +1,14 @@
 -- Runs of bytes, and where they end.
 use Rattle.std.specs.Prelude.{ℕ, List, ◌≡◌, ◌≤◌, ◌<◌, ◌+◌, ◌-◌, true, length, drop, slice_index, slice_range, Some}
 use Rattle.std.specs.List.{list_all}
-use Rattle.carte_name.specs.Names.{is_digit}
+use Rattle.carte_name.specs.Names.{is_digit, is_lower, is_name_byte}
 use Rattle.carte_name.specs.declared.kind.Kind.{Kind}
-use Rattle.carte_lexer.specs.Lexer.{Class, numeral, inside, closing, idle, run, grown_run, token_of, emit, lexed}
+use Rattle.carte_lexer.specs.Lexer.{Class, numeral, small, inside, closing, idle, run, grown_run, token_of, emit, lexed}
 
 -- what is known of the bytes of a run by its class
 abbrev pub RunOk : Class → List ℕ → Type 0
 RunOk numeral bs = list_all is_digit bs ≡ true
+RunOk small bs = (is_lower (slice_index bs 0) ≡ true) × (list_all is_name_byte bs ≡ true)
 RunOk inside bs = slice_index bs 0 ≡ 34
 RunOk closing bs = (slice_index bs 0 ≡ 34) × (2 ≤ length bs) × (slice_index bs (length bs - 1) ≡ 34)
 RunOk _ bs = slice_index bs (length bs - 1) < 128

@@ -1,5 +1,5 @@
 -- Lists of names to which names are put, each once.
-use Rattle.std.proofs.Common.{◌≡◌, ◌↔◌, ◌⊎◌, ℕ, suc, zero, ◌<◌, Bool, true, false, ◌||◌, cond, List, [], ◌∷◌, ◌++◌, length, Some, None, slice_get, take, add-one, ◌+◌, refl, ap, sym, ◌∙◌, subst, inl, inr, arith, Result, Ok, Err}
+use Rattle.std.proofs.Common.{◌≡◌, ◌↔◌, ◌⊎◌, ℕ, suc, zero, ◌<◌, Bool, true, false, ◌||◌, cond, List, [], ◌∷◌, ◌++◌, length, Some, None, slice_get, ◌+◌, refl, ap, sym, ◌∙◌, subst, inl, inr, arith, Result, Ok, Err}
 use Rattle.std.specs.List.{list_any}
 use Rattle.std.specs.Prelude.{IfOk, OnErr}
 use Rattle.indexmap.specs.IndexSet.{insert_key}
@@ -112,15 +112,6 @@ put_get rs (k ∷ ks) i q is = put_get (put rs k) ks i q (one_get rs k i q is)
 pub put_end : (rs ks : List (List ℕ)) (k : List ℕ) → put_all rs (ks ++ k ∷ []) ≡ insert_key name_eq (put_all rs ks) k
 put_end rs [] k = refl
 put_end rs (j ∷ js) k = put_end (put rs j) js k
-
--- one place more
-pub take_get : (rs : List (List ℕ)) (i : ℕ) (q : List ℕ) → slice_get rs i ≡ Some q → take (suc i) rs ≡ take i rs ++ q ∷ []
-take_get [] i q is = cc
-take_get (r ∷ rs) zero q is = (let e : Some r ≡ Some q = is in let f : r ≡ q = cc in ap (λ x. x ∷ []) f)
-take_get (r ∷ rs) (suc i) q is = ap (λ xs. r ∷ xs) (take_get rs i q is)
-
-pub take_next : (rs : List (List ℕ)) (i : ℕ) (q : List ℕ) → slice_get rs i ≡ Some q → take (i + 1) rs ≡ take i rs ++ q ∷ []
-take_next rs i q is = ap (λ n. take n rs) (add-one i) ∙ take_get rs i q is
 
 -- places
 

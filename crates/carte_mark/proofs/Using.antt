@@ -77,9 +77,6 @@ pub record AreUsersSoFar (es before : List Entry) (d : Users) : Type 0 where
   pub only : (q k : List ℕ) → Among (d q) k → Needs es k q
   pub each : (q k : List ℕ) → Among (map (λ e. e.key) before) k → Needs es k q → Among (d q) k
 
-pub users_first : (es : List Entry) (d : Users) → ((q : List ℕ) → d q ≡ []) → AreUsersSoFar es [] d
-users_first es d none = record { only = λ q k among. absurd (subst (λ ks. Among ks k) (none q) among); each = λ q k nowhere needs. absurd nowhere }
-
 map_end : (xs : List Entry) (x : Entry) → map (λ e. e.key) (xs ++ x ∷ []) ≡ map (λ e. e.key) xs ++ x.key ∷ []
 map_end [] x = refl
 map_end (y ∷ ys) x = ap (λ zs. y.key ∷ zs) (map_end ys x)

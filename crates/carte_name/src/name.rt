@@ -140,6 +140,14 @@ impl Name {
         Ok(Name::held(alloc, text.as_str())?)
     }
 
+    /// The name of a rule file whose text is one, which isn't tested again.
+    pub fn tested(alloc: Global, text: &str) -> Result<Name, NoMemory>
+        requires { IsTrue (is_rule_name text.now) }
+        ensures { IfOk result (λ k. k ≡ text.now) }
+    {
+        Ok(Name::held(alloc, text)?)
+    }
+
     fn held(alloc: Global, text: &str) -> Result<Name, AllocError>
         requires { IsTrue (is_name text.now) }
         ensures { IfOk result (λ k. k ≡ text.now) }

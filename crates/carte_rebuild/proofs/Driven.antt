@@ -1,8 +1,5 @@
 -- A drive of checks, and of the task behind them.
-use Rattle.std.proofs.Common.{◌≡◌, ℕ, ◌+◌, List, [], ◌∷◌, ◌++◌, Option, Some, None, Result, Ok, Err, refl, ap, sym, ◌∙◌, subst, suc, length, take, get_or, set, ◌≤◌, arith}
-use Rattle.std.proofs.Math.ListN.{drop_of_length-le}
-use Rattle.std.proofs.Math.Seq.{take-length}
-use Rattle.std.proofs.lemmas.List.{set_split, take_more}
+use Rattle.std.proofs.Common.{◌≡◌, ℕ, ◌+◌, List, [], ◌∷◌, ◌++◌, Option, Some, None, Result, Ok, Err, refl, ap, sym, ◌∙◌, subst, length}
 use Rattle.carte_value.specs.Truths.{Truth}
 use Rattle.carte_value.specs.Asks.{Asks, done, and_then}
 use Rattle.carte_value.specs.Once.{Answers, AnswersOf, Went}
@@ -28,14 +25,7 @@ use Rattle.carte_rebuild.proofs.Trials.{last_first}
 
 -- 1. checks
 
--- a list with another last item
-pub last_set : {A : Type 0} (xs : List A) (n : ℕ) (x : A) → n + 1 ≡ length xs → set xs n x ≡ take n xs ++ x ∷ []
-last_set xs n x is = set_split xs n x (omega (arith, is)) ∙ ap (λ ys. take n xs ++ x ∷ ys) (drop_of_length-le xs (let all : length xs ≤ suc n = omega (arith, is) in all))
-
 -- and with its own
-pub last_own : {A : Type 0} (xs : List A) (n : ℕ) (x : A) → n + 1 ≡ length xs → x ≡ get_or xs n x → xs ≡ take n xs ++ x ∷ []
-last_own xs n x is own = sym (take-length xs) ∙ ap (λ m. take m xs) (sym is) ∙ take_more xs n x (omega (arith, is)) ∙ ap (λ y. take n xs ++ y ∷ []) (sym own)
-
 pub no_items : {A : Type 0} (xs : List A) → length xs ≡ 0 → xs ≡ []
 no_items [] none = refl
 no_items (x ∷ xs) none = cc

@@ -8,7 +8,6 @@ use Rattle.carte_task.specs.Checking.{Checking}
 use Rattle.carte_book.specs.Book.{Book}
 use Rattle.carte_book.specs.Task.{task_now}
 use Rattle.carte_record.specs.declared.trace.Trace.{Trace}
-use Rattle.carte_record.specs.declared.way.Way.{Way}
 use Rattle.carte_record.specs.declared.way.Way.TheVariants.{Verifying, Constructive}
 use Rattle.carte_table.specs.Lookups.{digest_eq, first_value}
 use Rattle.carte_record.specs.Lookups.{is_trace_of}
@@ -17,7 +16,7 @@ use Rattle.carte_value.specs.Lists.{Has}
 use Rattle.carte_sound.specs.Held.{IsTrusted}
 use Rattle.carte_sound.proofs.Tests.{same_digest, digest_self}
 use Rattle.carte_rebuild.specs.Earlier.{check_of, check_at, is_wanted, may_hold, checks_for, checks_in, checks_now}
-use Rattle.carte_rebuild.specs.Traced.{AreTried, IsTracedJob, IsStart}
+use Rattle.carte_rebuild.specs.Traced.{AreTried, IsStart}
 use Rattle.carte_rebuild.specs.Trying.{task_left, tries}
 use Rattle.carte_rebuild.specs.declared.recipe.Recipe.{Recipe}
 use Rattle.carte_rebuild.specs.Recipes.{formula_in, asks_in, IsRecipeOf}
@@ -155,17 +154,4 @@ recipe_start b k cs r p left of = record {
   formula = formula_in r;
   is_rule = of.is_rule;
   left = left ∙ ap (λ j. tries cs (task_left j (asks_in r))) of.key ∙ ap (λ q. tries cs (task_left k (asks q (formula_in r)))) of.kind;
-}
-
--- a job at its start was driven over no truth
-pub start_begun : (w : Way) (K : SomeKept) (b : Book) (k : List ℕ) (cs : List Checking) (p : Tries) → AreTried w K b k cs → IsStart b k cs p → IsTracedJob w K b (λ q. None) k p
-start_begun w K b k cs p tried start = record {
-  formula = start.formula;
-  is_rule = start.is_rule;
-  checks = cs;
-  tried = tried;
-  within = λ q v is. cc;
-  further = [];
-  known = tt;
-  went = sym start.left;
 }

@@ -22,7 +22,3 @@ item_ahead xs i x below is = drop_more xs i x below ∙ ap (λ y. y ∷ drop (i 
 
 pub item_more : {A : Type 0} (xs : List A) (i : ℕ) (x : A) → i < length xs → x ≡ get_or xs i x → take (i + 1) xs ≡ take i xs ++ x ∷ []
 item_more xs i x below is = take_more xs i x below ∙ ap (λ y. take i xs ++ y ∷ []) (sym is)
-
-pub next_links : (ls ms : List Link) (i : ℕ) (l m : Link) → i < length ls → i < length ms → l ≡ get_or ls i l → m ≡ get_or ms i m
-    → links_eq (drop i ls) (drop i ms) ≡ ((name_eq l.name m.name && digest_eq l.digest m.digest) && links_eq (drop (i + 1) ls) (drop (i + 1) ms))
-next_links ls ms i l m below below' is is' = rw (item_ahead ls i l below is, item_ahead ms i m below' is') refl

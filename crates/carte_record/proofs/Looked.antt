@@ -7,10 +7,8 @@ use Rattle.carte_value.specs.declared.value.Value.{Value}
 use Rattle.carte_name.specs.Names.{name_eq}
 use Rattle.carte_value.specs.Truths.{Among, NoneTwice}
 use Rattle.carte_value.specs.Spelling.{digest_of}
-use Rattle.carte_record.specs.declared.entry.Entry.{Entry}
 use Rattle.carte_record.specs.declared.kept.Kept.{Kept}
 use Rattle.carte_table.specs.Lookups.{find_last, is_value_of}
-use Rattle.carte_record.specs.Lookups.{is_entry_of}
 use Rattle.carte_record.specs.Kept.{kept_view}
 use Rattle.carte_table.proofs.Names.{name_eq_is}
 use Rattle.carte_table.proofs.Found.{or_none}
@@ -23,10 +21,6 @@ find_passes {A = A} p (y ∷ ys) x is = on (p y) refl is (find_passes p ys x)
     on : (b : Bool) → p y ≡ b → cond b (Some y) (find p ys) ≡ Some x → (find p ys ≡ Some x → p x ≡ true) → p x ≡ true
     on true passes here later = let same : y ≡ x = cc in rw (← same) passes
     on false fails there later = later there
-
--- an entry is found by its own key
-pub own_key : (K : Kept) (k : List ℕ) (e : Entry) → (kept_view K).entries k ≡ Some e → e.key ≡ k
-own_key K k e is = sym (name_eq_is k e.key (find_passes (is_entry_of k) K.entries e is))
 
 -- and a value by its own digest
 pub own_digest : (K : Kept) (d : Digest) (v : Value) → (kept_view K).stored d ≡ Some v → digest_of v ≡ d

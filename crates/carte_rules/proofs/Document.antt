@@ -55,14 +55,6 @@ puts_one (f ∷ es) e ns = through (at_key f.key.now (key_value (data_of f.held)
 pub no_pairs : (text : List ℕ) → ReadsPairs text [] text
 no_pairs text = λ m room. (m, room, λ k root at ns. refl)
 
-then_then : {A B C : Type 0} (f : A → Option B) (g h : B → Option C) (o : Option A) → ((b : B) → g b ≡ h b) → option_and_then g (option_and_then f o) ≡ option_and_then h (option_and_then f o)
-then_then f g h None same = refl
-then_then f g h (Some a) same = inner (f a)
-  where
-    inner : (p : Option _) → option_and_then g p ≡ option_and_then h p
-    inner None = refl
-    inner (Some b) = same b
-
 assoc : {A B C : Type 0} (f : A → Option B) (g : B → Option C) (h : A → Option C) (o : Option A) → ((a : A) → h a ≡ option_and_then g (f a)) → option_and_then h o ≡ option_and_then g (option_and_then f o)
 assoc f g h None same = refl
 assoc f g h (Some a) same = same a

@@ -1,7 +1,7 @@
 -- One key, its value and what comes of them.
 use Rattle.std.proofs.Common.{◌≡◌, ℕ, Bool, true, false, cond, List, Option, Some, None, is_some, Result, Ok, Err, refl, ap, sym, subst}
 use Rattle.std.specs.FinMap.{get, insert}
-use Rattle.toml.specs.Data.{Data, string, as_str}
+use Rattle.toml.specs.Data.{Data, string}
 use Rattle.carte_value.specs.declared.value.Value.{Value}
 use Rattle.carte_name.specs.Names.{is_rule_name}
 use Rattle.carte_tree.specs.Tree.{Tree}
@@ -57,17 +57,9 @@ new_is_key k j m e = named (is_rule_name k) k j (get m k) e
 pub name_fault : (k : List ℕ) (d : Data) (m : Content) (fault : BookFault) → new_name k m ≡ Err fault → RuleAt k d m (Err fault)
 name_fault k d m fault e = rw e refl
 
--- and so is that of a key that is no name
-pub key_fault : (k : List ℕ) (d : Data) (m : Content) (fault : BookFault) → name_of k ≡ Err fault → RuleAt k d m (Err fault)
-key_fault k d m fault e = name_fault k d m fault (untold (is_rule_name k) k (get m k) fault e)
-
 -- or of one at which something stands
 pub taken_fault : (k : List ℕ) (d : Data) (m : Content) → is_rule_name k ≡ true → is_some (get m k) ≡ true → RuleAt k d m (Err (Twice k))
 taken_fault k d m name there = name_fault k d m (Twice k) (rw (name, there) refl)
-
--- what is no text is a fault after these
-pub value_fault : (k j : List ℕ) (d : Data) (m : Content) → new_name k m ≡ Ok j → as_str d ≡ None → RuleAt k d m (Err (BadValue j))
-value_fault k j d m e none = rw (e, none) refl
 
 -- and then comes what the text is read as
 pub text_rule : (k j text : List ℕ) (m : Content) (o : Result Tree BookFault) → new_name k m ≡ Ok j → FormulaOf j text o → RuleAt k (string text) m o

@@ -1,5 +1,5 @@
 -- How far a test holds, where it holds of the bytes at the front.
-use Rattle.std.proofs.Common.{◌≡◌, ℕ, Bool, true, false, eqb, cond, ◌+◌, ◌<◌, ◌≤◌, List, length, take, drop, ◌++◌, length-drop, drop-drop, length-take-le, take-append-drop, refl, sym, ap, ◌∙◌, subst, arith}
+use Rattle.std.proofs.Common.{◌≡◌, ℕ, Bool, true, false, eqb, cond, ◌+◌, ◌<◌, ◌≤◌, List, length, take, drop, length-drop, drop-drop, length-take-le, take-append-drop, refl, sym, ap, ◌∙◌, subst, arith}
 use Rattle.std.specs.List.{prefix_len}
 use Rattle.std.proofs.lemmas.Bool.{eq-eqb, ne_eqb}
 use Rattle.std.proofs.lemmas.List.Sums.{prefix_len-le-length}

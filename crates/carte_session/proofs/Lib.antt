@@ -3,3 +3,4 @@ pub mod SessionLemmas
 pub mod SessionLaws
 pub mod Leaves
 pub mod Seeing
+pub mod Staying

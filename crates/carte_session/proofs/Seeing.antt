@@ -1,5 +1,5 @@
 -- A session seen through a view.
-use Rattle.std.proofs.Common.{◌≡◌, ℕ, ◌+◌, List, [], ◌∷◌, Result, Ok, Err, ap}
+use Rattle.std.proofs.Common.{ℕ, ◌+◌, List, [], ◌∷◌, Result, Ok, Err, ap}
 use Rattle.carte_session.specs.Around.{OverSink, OverSource}
 use Rattle.carte_session.specs.Laws.{SessionSeen}
 use Rattle.carte_session.specs.Session.{Ended, Goes}

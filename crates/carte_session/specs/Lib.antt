@@ -4,3 +4,4 @@ pub mod Laws
 pub mod Leaving
 pub mod Lines
 pub mod Session
+pub mod Staying

@@ -3,7 +3,10 @@
 //!
 //! The loop is generic over the source, the machine, the disk that is lent to each step, and the sink. What a machine does
 //! with a line are ghost members of the trait `Machine`, so the clause `IsSession` says of any machine which lines it went
-//! through, and what was written. It needs memory for the longest line and for one piece of 8,192 bytes.
+//! through, and what was written. It needs memory for the longest line and for one piece of 8,192 bytes, and takes some for
+//! up to sixteen lines with their replies: a line that changed nothing is answered again without a step, as long as no other
+//! changes something. That it would be answered so is passed on from line to line by the loop's contracts, since no field of a
+//! machine can hold why.
 //!
 //! The clause is over every source, sink and disk, and no body can foresee which of their calls fails. So it fixes the
 //! order of effects too: an end of the machine says that just the lines before were answered, a failed write that the
@@ -20,6 +23,7 @@
 #![tactic(auto)]
 
 mod end;
+mod known;
 mod laws;
 mod lines;
 mod machine;
@@ -29,5 +33,5 @@ pub use end::{SessionEnd, StepEnd};
 pub use laws::{
     Soundness, all_lines, done_lines, lines_front, lines_leave, next_of, one_cut, too_long,
 };
-pub use machine::Machine;
+pub use machine::{Answer, Machine};
 pub use run::run_session;

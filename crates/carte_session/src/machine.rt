@@ -1,9 +1,19 @@
-ghost use Rattle.std.specs.Prelude.{ℕ, List, MatchResult, OnOk, string_bytes};
+ghost use Rattle.std.specs.Prelude.{◌≡◌, ℕ, List, true, IfOk, MatchResult, OnOk, string_bytes};
+ghost use Rattle.carte_session.specs.Staying.{Stays};
 
 use crate::StepEnd;
 use std::alloc::Global;
 use std::marker::Sync;
 use std::thread::Threads;
+
+/// What a machine answers to a line.
+#[derive(Debug, Drop)]
+pub struct Answer {
+    /// The reply.
+    pub text: String,
+    /// Whether the line changed nothing, so that it would be answered so again.
+    pub stays: bool,
+}
 
 /// What carries out the lines of a session, over a disk that is lent to each step.
 pub trait Machine<D> {
@@ -20,7 +30,7 @@ pub trait Machine<D> {
     ghost goes_on: { Self → Type 0 };
 
     /// Carries out a line, without its line feed, and gives its reply. All lines are counted, from 1. What it does may have
-    /// threads of `rt`.
+    /// threads of `rt`. A line that it says would be answered so again isn't handed to it before another changes something.
     fn step<T: Threads + Sync>(
         &mut self,
         rt: &T,
@@ -28,11 +38,12 @@ pub trait Machine<D> {
         disk: &mut D,
         number: usize,
         line: &[u8],
-    ) -> Result<String, StepEnd>
+    ) -> Result<Answer, StepEnd>
         requires on { goes_on self.old }
         requires threads { IsSync T.row }
         ensures carried { MatchResult result
-            (λ reply. answers (self.old, disk.old) number line.now (string_bytes reply) (self.new, disk.new))
+            (λ answer. answers (self.old, disk.old) number line.now (string_bytes answer.text) (self.new, disk.new))
             (λ end. ends (self.old, disk.old) number line.now end (self.new, disk.new)) }
+        ensures stays { IfOk result (λ answer. answer.stays ≡ true → Stays answers (self.old, disk.old) line.now (string_bytes answer.text) (self.new, disk.new)) }
         ensures on { OnOk result (goes_on self.new) };
 }

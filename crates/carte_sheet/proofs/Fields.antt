@@ -1,13 +1,12 @@
 -- What one field gives.
-use Rattle.std.proofs.Common.{◌≡◌, ℕ, ◌≤◌, ◌==◌, Bool, true, false, cond, List, [], ◌∷◌, length, drop, Result, Ok, Err, refl, sym, subst, arith}
+use Rattle.std.proofs.Common.{◌≡◌, ℕ, ◌≤◌, ◌==◌, Bool, true, false, cond, List, [], ◌∷◌, length, Result, Ok, Err, refl, sym, subst, arith}
 use Rattle.std.specs.Str.{IsUtf8, is_utf8, IsCharBoundary}
-use Rattle.std.specs.Prelude.{MatchBool, slice_index}
+use Rattle.std.specs.Prelude.{slice_index}
 use Rattle.std.specs.FinMap.{insert}
 use Rattle.std.proofs.lemmas.Str.{is_utf8-from_IsUtf8, IsUtf8-from_is_utf8, IsCharBoundary-after_ascii}
-use Rattle.carte_book.specs.Book.{Item}
 use Rattle.carte_book.specs.declared.fault.BookFault.{BookFault}
 use Rattle.carte_book.specs.declared.fault.BookFault.TheVariants.{NotUtf8}
-use Rattle.carte_sheet.specs.Reading.{Content, Then, cell_of, text_of, ItemOf, FormulaOf, ValueOf, ItemInto, FilledInto, FieldInto}
+use Rattle.carte_sheet.specs.Reading.{Content, Then, cell_of, text_of, ItemOf, ItemInto, FilledInto, FieldInto}
 use Rattle.carte_sheet.specs.Places.{IsBefore}
 use Rattle.carte_sheet.specs.Drafts.{Holds}
 use Rattle.carte_sheet.specs.Steps.{LeavesItem, LeavesFilled, LeavesField}
@@ -18,20 +17,6 @@ use Rattle.carte_sheet.proofs.Cells.{before_column, before_more}
 pub equals_boundary : (t : List ℕ) → IsUtf8 t → (slice_index t 0 == 61) ≡ true → IsCharBoundary t 1
 equals_boundary [] u e = cc
 equals_boundary (b ∷ bs) u e = IsCharBoundary-after_ascii (b ∷ bs) 0 u (omega arith) (grind arith)
-
-formula_item : (k text : List ℕ) (o : Result Item BookFault) → (slice_index text 0 == 61) ≡ true → FormulaOf k (drop 1 text) o → ItemOf k text o
-formula_item k text o e h = subst (λ (b : Bool). MatchBool b (FormulaOf k (drop 1 text) o) (ValueOf k text o)) (sym e) h
-
-value_item : (k text : List ℕ) (o : Result Item BookFault) → (slice_index text 0 == 61) ≡ false → ValueOf k text o → ItemOf k text o
-value_item k text o e h = subst (λ (b : Bool). MatchBool b (FormulaOf k (drop 1 text) o) (ValueOf k text o)) (sym e) h
-
-pub leaves_formula : (k text : List ℕ) (m : Content) (d : Draft) (r : Result (Unit {0}) BookFault) → (slice_index text 0 == 61) ≡ true → LeavesItem (FormulaOf k (drop 1 text)) k m d r → LeavesItem (ItemOf k text) k m d r
-leaves_formula k text m d (Ok u) e (x, p, h) = (x, formula_item k text (Ok x) e p, h)
-leaves_formula k text m d (Err fault) e h = λ cause. formula_item k text (Err fault) e (h cause)
-
-pub leaves_value : (k text : List ℕ) (m : Content) (d : Draft) (r : Result (Unit {0}) BookFault) → (slice_index text 0 == 61) ≡ false → LeavesItem (ValueOf k text) k m d r → LeavesItem (ItemOf k text) k m d r
-leaves_value k text m d (Ok u) e (x, p, h) = (x, value_item k text (Ok x) e p, h)
-leaves_value k text m d (Err fault) e h = λ cause. value_item k text (Err fault) e (h cause)
 
 -- ---- a field that isn't empty
 

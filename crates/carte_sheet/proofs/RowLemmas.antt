@@ -13,9 +13,6 @@ use Rattle.carte_sheet.specs.Steps.{Gives, Answers}
 pub fields_turn : (r c : ℕ) (all fs : List (List ℕ)) (f : List ℕ) (m n : Content) (o : Result Content BookFault) → all ≡ f ∷ fs → FieldInto r c f m (Ok n) → FieldsInto r (c + 1) fs n o → FieldsInto r c all m o
 fields_turn r c all fs f m n o is h g = subst (λ (xs : List (List ℕ)). FieldsInto r c xs m o) (sym is) (Ok n, h, g)
 
-pub fields_fault : (r c : ℕ) (all fs : List (List ℕ)) (f : List ℕ) (m : Content) (fault : BookFault) → all ≡ f ∷ fs → FieldInto r c f m (Err fault) → FieldsInto r c all m (Err fault)
-fields_fault r c all fs f m fault is h = subst (λ (xs : List (List ℕ)). FieldsInto r c xs m (Err fault)) (sym is) (Err fault, h, refl)
-
 pub fields_end : (r c : ℕ) (all : List (List ℕ)) (m : Content) → all ≡ [] → FieldsInto r c all m (Ok m)
 fields_end r c all m is = subst (λ (xs : List (List ℕ)). FieldsInto r c xs m (Ok m)) (sym is) refl
 

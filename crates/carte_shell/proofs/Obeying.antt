@@ -21,6 +21,14 @@ module _ (tells : Type 0) (m m' : Scene) where
   pub answers_with : (n : ℕ) (bytes : List ℕ) (l : Line) (reply : Said) → Means m.book.kind bytes l → Obeys tells m l reply m' → Answers tells m n bytes reply.text m'
   answers_with n bytes l reply means does = inr (l, means, reply, refl, does)
 
+  -- where nothing was changed, it would be answered so again, and so would all that would have been before it
+  pub stays_with : m' ≡ m → (bytes : List ℕ) (l : Line) (reply : Said) → Means m.book.kind bytes l → Obeys tells m l reply m'
+      → ((n : ℕ) → Answers tells m' n bytes reply.text m') × ((other told : List ℕ) → ((n : ℕ) → Answers tells m n other told m) → (n : ℕ) → Answers tells m' n other told m')
+  stays_with same bytes l reply means does = (
+    λ n. subst (λ s. Answers tells s n bytes reply.text m') (sym same) (answers_with n bytes l reply means does),
+    λ other told before n. subst (λ s. Answers tells s n other told s) (sym same) (before n),
+  )
+
 -- a line that was read names an input of the book's kind
 pub names_input : (kind : Kind) (l : Line) → LineNamed kind l → NamesInput kind l
 names_input kind (line.Set k v) named = named

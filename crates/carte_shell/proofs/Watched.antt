@@ -24,9 +24,6 @@ use Rattle.carte_engine.proofs.Raising.{applied_two}
 use Rattle.carte_engine.proofs.Several.{puts_kept}
 use Rattle.carte_shell.specs.Watched.{IsWatchedBehind, IsWatchedIn}
 
-pub unwatched : (s : Stand) (b : Book) (o : Option Watch) → o ≡ None → IsWatchedIn s b o
-unwatched s b o none w is = let both : None ≡ Some w = sym none ∙ is in cc
-
 -- ---- an input is set
 
 same_but : (b c : Book) (k : List ℕ) → c ≡ b → SameBut k b c

@@ -1,5 +1,5 @@
 // A line that sets an input.
-ghost use Rattle.std.specs.Prelude.{◌≡◌, IsTrue, MatchResult};
+ghost use Rattle.std.specs.Prelude.{◌≡◌, false, IfOk, IsTrue, MatchResult};
 ghost use Rattle.carte_name.specs.Kinds.{is_name_of};
 ghost use Rattle.carte_book.specs.Book.{book_view};
 ghost use Rattle.carte_session.specs.declared.end.StepEnd.TheVariants.{NoMemory as OutOfMemory};
@@ -21,9 +21,10 @@ pub(crate) fn set_input(
     value: Value,
 ) -> Result<Reply, StepEnd>
     requires { IsTrue (is_name_of (book_view book.old).kind name.now) }
-    ensures { MatchResult result
+    ensures set { MatchResult result
         (λ reply. SetsInput (book_view book.old) (book_view book.new) name.now value (said reply))
         (λ end. (end ≡ OutOfMemory) × (book_view book.new ≡ book_view book.old)) }
+    ensures stays { IfOk result (λ reply. reply.stays ≡ false) }
 {
     let done = set_line(alloc, name)?;
     match book.set(name, value) {

@@ -1,8 +1,10 @@
-ghost use Rattle.std.specs.Prelude.{◌≡◌, false, None, IfOk, IfSome, IsTrue, MatchResult, OnOk};
+ghost use Rattle.std.specs.Prelude.{◌≡◌, true, false, None, IfOk, IfSome, IsTrue, MatchResult, OnOk};
+ghost use Rattle.std.specs.List.{list_all};
 ghost use Rattle.carte_name.specs.Kinds.{is_name_of};
 ghost use Rattle.carte_book.specs.Book.{Book as SomeBook, book_view};
 ghost use Rattle.carte_mark.specs.Bases.{IsBegun};
 ghost use Rattle.carte_mark.specs.Watching.{SameBut, Watches};
+ghost use Rattle.carte_record.specs.Empty.{is_empty};
 ghost use Rattle.carte_state.specs.Runs.{AreUnmarked, BeginAll};
 ghost use Rattle.carte_state.specs.States.{any_in, kept_in};
 ghost use Rattle.carte_engine.specs.Clearing.{clearing};
@@ -22,7 +24,7 @@ use carte_io::Disk;
 use carte_mark::{Begun, Watch};
 use carte_record::Batch;
 use carte_report::{cleaned_line, stray_line};
-use carte_session::{Machine, StepEnd};
+use carte_session::{Answer, Machine, StepEnd};
 use carte_value::{Name, Names, NoMemory, Value};
 use carte_wave::{Gate, NoGate};
 use carte_words::{Line, read_line};
@@ -59,13 +61,19 @@ impl<D: Disk> Machine<D> for Shell {
         disk: &mut D,
         number: usize,
         line: &[u8],
-    ) -> Result<String, StepEnd> {
+    ) -> Result<Answer, StepEnd> {
         match read_line(alloc, self.book.kind(), line)? {
             Some(line) => match self.obey(rt, alloc, disk, line, &NoGate) {
-                Ok(reply) => Ok(reply.text),
+                Ok(reply) => Ok(Answer {
+                    text: reply.text,
+                    stays: reply.stays,
+                }),
                 Err(end) => Err(end),
             },
-            None => Ok(stray_line(alloc, number)?),
+            None => Ok(Answer {
+                text: stray_line(alloc, number)?,
+                stays: false,
+            }),
         }
     }
 }
@@ -109,6 +117,7 @@ impl Shell {
             (λ reply. Obeys D.tells (scene D.story D.faults (self.old, disk.old)) line (said reply) (scene D.story D.faults (self.new, disk.new)))
             (λ end. Breaks D.tells (scene D.story D.faults (self.old, disk.old)) line end (scene D.story D.faults (self.new, disk.new))) }
         ensures on { OnOk result (self.new.engine.journal.broken ≡ false) }
+        ensures stays { IfOk result (λ reply. reply.stays ≡ true → scene D.story D.faults (self.new, disk.new) ≡ scene D.story D.faults (self.old, disk.old)) }
     {
         match line {
             Line::Set(name, value) => self.set(alloc, &name, value),
@@ -119,7 +128,8 @@ impl Shell {
             Line::Explain(targets) => {
                 self.know_digests(rt, alloc)?;
                 let rebuilder = self.choices.rebuilder;
-                Ok(explanation(alloc, rebuilder, &mut self.engine, &self.book, &targets)?)
+                let reply = explanation(alloc, rebuilder, &mut self.engine, &self.book, &targets)?;
+                Ok(reply.staying(true))
             }
             Line::Clean => self.clean(alloc, disk),
             Line::Nothing => Ok(Reply::plain(String::new(alloc))),
@@ -132,6 +142,7 @@ impl Shell {
         ensures set { MatchResult result
             (λ reply. SetsInput (book_view self.old.book) (book_view self.new.book) name.now value (said reply))
             (λ end. (end ≡ OutOfMemory) × (book_view self.new.book ≡ book_view self.old.book)) }
+        ensures stays { IfOk result (λ reply. reply.stays ≡ false) }
         ensures choices { self.new.choices ≡ self.old.choices }
         ensures engine { self.new.engine ≡ self.old.engine }
     {
@@ -178,10 +189,12 @@ impl Shell {
             (λ reply. Obeys D.tells (scene D.story D.faults (self.old, disk.old)) (build_line targets.now) (said reply) (scene D.story D.faults (self.new, disk.new)))
             (λ end. Breaks D.tells (scene D.story D.faults (self.old, disk.old)) (build_line targets.now) end (scene D.story D.faults (self.new, disk.new))) }
         ensures on { OnOk result (self.new.engine.journal.broken ≡ false) }
+        ensures stays { IfOk result (λ reply. reply.stays ≡ true → scene D.story D.faults (self.new, disk.new) ≡ scene D.story D.faults (self.old, disk.old)) }
     {
         let (batches, reply, watch) = self.worked_out(rt, alloc, targets, gate)?;
+        let stays = bring_nothing(batches.as_slice());
         match self.commit(alloc, disk, batches, watch) {
-            Ok(()) => Ok(reply),
+            Ok(()) => Ok(reply.staying(stays)),
             Err(end) => Err(end),
         }
     }
@@ -296,6 +309,7 @@ impl Shell {
             (λ reply. Obeys D.tells (scene D.story D.faults (self.old, disk.old)) clean_line (said reply) (scene D.story D.faults (self.new, disk.new)))
             (λ end. Breaks D.tells (scene D.story D.faults (self.old, disk.old)) clean_line end (scene D.story D.faults (self.new, disk.new))) }
         ensures on { OnOk result (self.new.engine.journal.broken ≡ false) }
+        ensures stays { IfOk result (λ reply. reply.stays ≡ false) }
     {
         let reply = Reply::plain(cleaned_line(alloc)?);
         self.watch = None;
@@ -304,6 +318,13 @@ impl Shell {
             Err(fault) => Err(stopped(fault)),
         }
     }
+}
+
+// An empty batch isn't committed.
+fn bring_nothing(batches: &[Batch]) -> bool
+    ensures { result ≡ list_all is_empty batches.now }
+{
+    batches.iter().all(|batch| batch.is_empty())
 }
 
 fn know_digests<T: Threads>(

@@ -5,17 +5,7 @@ use Rattle.carte_book.specs.Book.{Book}
 use Rattle.carte_record.specs.Kept.{SomeKept}
 use Rattle.carte_sound.specs.Held.{How}
 use Rattle.carte_sound.specs.Left.{Finishes, keys_of, add, add_all}
-use Rattle.carte_sound.specs.Finished.{IsFinishedAfter, AreFinished}
 use Rattle.carte_sound.proofs.LeftSound.{finished_before}
-
--- a key may be finished behind more
-pub after_more : (h : How) (b : Book) (K : SomeKept) (before more : List (List ℕ)) (k : List ℕ) (ran : Bool) → ((j : List ℕ) → Among before j → Among more j) → IsFinishedAfter h b K before k ran → IsFinishedAfter h b K more k ran
-after_more h b K before more k ran into next = record {
-  is_rule = next.is_rule;
-  clean = next.clean;
-  came = next.came;
-  order = λ followed j among is_rule. into j (next.order followed j among is_rule);
-}
 
 -- the keys that are finished are those of the list and those before it
 pub finished_among : (fs : Finishes) (before : List (List ℕ)) (k : List ℕ) → Among (finished_before fs before) k → Among (keys_of fs) k ⊎ Among before k
@@ -28,11 +18,6 @@ finished_among (f ∷ fs) before k among = elim (finished_among fs (f.0 ∷ befo
   ]
 ]
 
--- one more behind those of the list
-pub finished_end : (h : How) (b : Book) (K : SomeKept) (fs : Finishes) (before : List (List ℕ)) (k : List ℕ) (ran : Bool) → AreFinished h b K before fs → IsFinishedAfter h b K (finished_before fs before) k ran → AreFinished h b K before (fs ++ (k, ran) ∷ [])
-finished_end h b K [] before k ran are next = (next, tt)
-finished_end h b K (f ∷ fs) before k ran are next = (are.0, finished_end h b K fs (f.0 ∷ before) k ran are.1 next)
-
 -- and the other way
 pub among_finished : (fs : Finishes) (before : List (List ℕ)) (k : List ℕ) → Among (keys_of fs) k ⊎ Among before k → Among (finished_before fs before) k
 among_finished [] before k (inl none) = absurd none
@@ -42,9 +27,6 @@ among_finished (f ∷ fs) before k (inl (inr later)) = among_finished fs (f.0 �
 among_finished (f ∷ fs) before k (inr there) = among_finished fs (f.0 ∷ before) k (inr (inr there))
 
 -- in an order that has each rule that is looked into behind the rules among its needs, by the keys of the list
-pub finished_next : (h : How) (b : Book) (K : SomeKept) (fs : Finishes) (k : List ℕ) (ran : Bool) → AreFinished h b K [] fs → IsFinishedAfter h b K (keys_of fs) k ran → AreFinished h b K [] (fs ++ (k, ran) ∷ [])
-finished_next h b K fs k ran are next = finished_end h b K fs [] k ran are (after_more h b K (keys_of fs) (finished_before fs []) k ran (λ j among. among_finished fs [] j (inl among)) next)
-
 pub keys_end : (fs : Finishes) (k : List ℕ) (ran : Bool) → keys_of (fs ++ (k, ran) ∷ []) ≡ keys_of fs ++ k ∷ []
 keys_end [] k ran = refl
 keys_end (f ∷ fs) k ran = ap (λ ks. f.0 ∷ ks) (keys_end fs k ran)

@@ -7,8 +7,7 @@ use Rattle.carte_record.specs.Kept.{SomeKept, nothing_kept}
 use Rattle.carte_record.specs.declared.batch.Batch.{Batch}
 use Rattle.carte_record.specs.declared.start.Start.TheVariants.{Cleared}
 use Rattle.carte_record_one.specs.declared.kept.KeptOne.{KeptOne}
-use Rattle.carte_record.proofs.Empties.{empty_same}
-use Rattle.carte_state.specs.Runs.{BeginAll, applied, applied_to}
+use Rattle.carte_state.specs.Runs.{applied_to}
 use Rattle.carte_state.specs.States.{any_of}
 use Rattle.carte_state.specs.Versions.{AnyKept, Begins, InOne, InTwo, apply_to, two_of}
 
@@ -55,19 +54,3 @@ begun_alike (Some J) K B begins = ap (λ s. carried B (started s K)) begins ∙ 
 pub none_old : (o : Option KeptOne) (K : SomeKept) (B : Batch) → Begins (any_of o K) B → is_empty B ≡ true → o ≡ None
 none_old None K B begins empty = refl
 none_old (Some J) K B begins empty = absurd (not_cleared B empty begins)
-
--- over version 2 batches are what they make of it
-two_same : (empty : Bool) (K L : SomeKept) → (empty ≡ true → L ≡ K) → (if empty then InTwo K else InTwo L) ≡ InTwo L
-two_same true K L same = ap InTwo (sym (same refl))
-two_same false K L same = refl
-
-pub two_apply : (K : SomeKept) (B : Batch) → apply_to B (InTwo K) ≡ InTwo (apply B K)
-two_apply K B = two_same (is_empty B) K (apply B K) (empty_same B K)
-
-pub two_applied : (K : SomeKept) (Bs : List Batch) → applied_to (InTwo K) Bs ≡ InTwo (applied K Bs)
-two_applied K [] = refl
-two_applied K (B ∷ Bs) = ap (λ L. applied_to L Bs) (two_apply K B) ∙ two_applied (apply B K) Bs
-
-pub two_begin : (K : SomeKept) (Bs : List Batch) → BeginAll (InTwo K) Bs
-two_begin K [] = tt
-two_begin K (B ∷ Bs) = tt

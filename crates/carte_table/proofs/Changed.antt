@@ -85,10 +85,6 @@ pub changed_end : {K A : Type 0} (is_of : K → A → Bool) (f : A → A) (xs : 
 changed_end is_of f xs [] k = refl
 changed_end is_of f xs (j ∷ js) k = changed_end is_of f (change_first (is_of j) f xs) js k
 
-pub all_long : {K A : Type 0} (is_of : K → A → Bool) (f : A → A) (xs : List A) (ks : List K) → length (all_changed is_of f xs ks) ≡ length xs
-all_long is_of f xs [] = refl
-all_long is_of f xs (k ∷ ks) = all_long is_of f (change_first (is_of k) f xs) ks ∙ length_changed (is_of k) f xs
-
 -- ---- items that are left out
 
 filter_end : {A : Type 0} (p : A → Bool) (xs : List A) (x : A) → filter p (xs ++ x ∷ []) ≡ (if p x then filter p xs ++ x ∷ [] else filter p xs)

@@ -90,12 +90,6 @@ no_values : (ks : List (List ℕ)) → paired ks [] ≡ []
 no_values [] = refl
 no_values (k ∷ ks) = refl
 
-pub fill_short : (names ks : List (List ℕ)) (vs now : List Value) (es : Answers) → now ≡ [] → es ++ paired ks now ≡ paired names vs → es ≡ paired names vs
-fill_short names ks vs now es none is = sym (append-nil es) ∙ ap (λ a. es ++ a) (sym (no_values ks)) ∙ ap (λ us. es ++ paired ks us) (sym none) ∙ is
-
-pub fill_whole : (names ks : List (List ℕ)) (vs now : List Value) (es : Answers) → ks ≡ [] → es ++ paired ks now ≡ paired names vs → es ≡ paired names vs
-fill_whole names ks vs now es none is = sym (append-nil es) ∙ ap (λ js. es ++ paired js now) (sym none) ∙ is
-
 -- over answers of the truth, what ends without asking ends over the truth
 
 answers_of_values : (t : Truth) (ks : List (List ℕ)) (vs : List Value) (k : List ℕ) (v : Value) → ValuesOf t ks vs → answer_in (paired ks vs) k ≡ Some v → t k ≡ Some v

@@ -1,11 +1,10 @@
 -- What a drive of a machine gives as a job.
-use Rattle.std.proofs.Common.{◌≡◌, ℕ, List, ◌++◌, Option, Result, Ok, Err}
+use Rattle.std.proofs.Common.{ℕ, List, Option, Ok, Err}
 use Rattle.carte_value.specs.Truths.{Truth}
 use Rattle.carte_value.specs.Once.{Answers}
 use Rattle.carte_effect.specs.declared.effect.Halt.{Halt}
 use Rattle.carte_effect.specs.declared.effect.Halt.TheVariants.{Stop, NoMemory}
-use Rattle.carte_effect.specs.declared.outcome.Made.{Made}
-use Rattle.carte_effect.specs.declared.outcome.Made.TheVariants.{Ran, Reused}
+use Rattle.carte_effect.specs.declared.outcome.Made.TheVariants.{Ran}
 use Rattle.carte_effect.specs.Outcomes.{Outcome}
 use Rattle.carte_task.specs.Machines.{State, GoesOn, Drove}
 use Rattle.carte_effect.specs.Jobs.{Gave}

@@ -2,7 +2,6 @@
 use Rattle.std.proofs.Common.{◌≡◌, ℕ, ◌+◌, ◌-◌, ◌<◌, ◌≤◌, Bool, true, false, List, [], ◌∷◌, ◌++◌, Option, Some, None, Result, Ok, Err, length, drop, get_or, suc, add-one, refl, ap, sym, ◌∙◌, subst, arith}
 use Rattle.std.specs.Prelude.{IfOk}
 use Rattle.std.proofs.Math.Seq.{drop-cons}
-use Rattle.std.proofs.Math.ListN.{drop_of_length-le}
 use Rattle.carte_value.specs.declared.value.Value.{Value}
 use Rattle.carte_value.specs.declared.link.Link.{Link}
 use Rattle.carte_value.specs.Truths.{Truth}
@@ -11,22 +10,18 @@ use Rattle.carte_value.specs.Once.{Answers}
 use Rattle.carte_value.specs.Spelling.{digest_of}
 use Rattle.carte_value.proofs.Once.{went_end, answers_end, went_run}
 use Rattle.carte_effect.specs.declared.effect.Halt.{Halt}
-use Rattle.carte_effect.specs.declared.effect.Halt.TheVariants.{Stop, NoMemory}
 use Rattle.carte_task.specs.declared.check.Verdict.{Verdict}
 use Rattle.carte_task.specs.declared.check.Verdict.TheVariants.{Same, Differs}
-use Rattle.carte_effect.specs.Effects.{more, SameStops}
+use Rattle.carte_effect.specs.Effects.{more}
 use Rattle.carte_task.specs.Answered.{Led}
 use Rattle.carte_task.specs.Checking.{Checking}
 use Rattle.carte_task.specs.Compared.{same_digest, Compared}
 use Rattle.carte_task.specs.Checks.{compared, compares, rest_from, Checked, AllSame, FirstOther, Judges, Gives}
-use Rattle.carte_effect.proofs.More.{more_none, more_more}
+use Rattle.carte_effect.proofs.More.{more_more}
 
 -- the check at a place
 abbrev pub from : ℕ → List Link → Asks (Option ℕ)
 from at ls = compares at (drop at ls)
-
-pub led_start : {A : Type 0} (t : Truth) (log : Option Answers) (r : Asks A) → Led t log log r [] r
-led_start t log r = record { known = tt; went = refl; logged = sym (more_none log) }
 
 -- one answer more
 led_more : {A : Type 0} (t : Truth) (log0 log1 log : Option Answers) (r0 : Asks A) (a : Answers) (k : List ℕ) (v : Value) (go : Value → Asks A) → t k ≡ Some v → log ≡ more log1 ((k, v) ∷ []) → Led t log0 log1 r0 a (ask k go) → Led t log0 log r0 (a ++ (k, v) ∷ []) (go v)
@@ -45,22 +40,6 @@ next_led t log0 log1 log r0 a at ls l v b within is value listed same led =
     let here : Led t log0 log1 r0 a (ask l.name (λ w. compared (same_digest l.digest (digest_of w)) at (from (at + 1) ls))) = subst (Led t log0 log1 r0 a) (from_next at ls l within is) led in
     subst (λ c. Led t log0 log r0 (a ++ (l.name, v) ∷ []) (compared c at (from (at + 1) ls))) same (led_more t log0 log1 log r0 a l.name v (λ w. compared (same_digest l.digest (digest_of w)) at (from (at + 1) ls)) value listed here)
 
--- it halts at a link
-pub check_halts : {S : Type 0} (t u : Truth) (own other : List ℕ → S → Type 0) (log0 log1 log : Option Answers) (c d : Checking) (a : Answers) (ls : List Link) (l : Link) (h : Halt S) → u ≡ t → SameStops own other → d.earlier.links ≡ ls → d.at < length ls → l ≡ get_or ls d.at l → Compared u other log1 log l (Err h) → Led t log0 log1 (rest_from c) a (from d.at ls) → Checked t own log0 log c d (Err h)
-check_halts t u own other log0 log1 log c d a ls l NoMemory same stops links within is (fetched, listed) led =
-    (a, subst (λ ms. Led t log0 log (rest_from c) a (from d.at ms)) (sym links) (subst (λ o. Led t log0 o (rest_from c) a (from d.at ls)) (sym listed) led))
-check_halts t u own other log0 log1 log c d a ls l (Stop s) same stops links within is ((none, here), listed) led = (
-  a,
-  subst (λ ms. Led t log0 log (rest_from c) a (from d.at ms)) (sym links) (subst (λ o. Led t log0 o (rest_from c) a (from d.at ls)) (sym listed) led),
-  record {
-    name = l.name;
-    go = λ v. compared (same_digest l.digest (digest_of v)) d.at (from (d.at + 1) ls);
-    is = ap (from d.at) links ∙ from_next d.at ls l within is;
-    none = ap (λ w. w l.name) (sym same) ∙ none;
-    own_stop = stops.1 l.name s here;
-  },
-)
-
 -- a link differs
 pub check_differs : {S : Type 0} (t u : Truth) (own : List ℕ → S → Type 0) (log0 log1 log : Option Answers) (c d : Checking) (at : ℕ) (ls : List Link) (l : Link) (other : List ℕ → S → Type 0) → u ≡ t → at < length ls → l ≡ get_or ls at l → (b : Bool) → b ≡ false → Compared u other log1 log l (Ok b) → ((a : Answers) × Led t log0 log1 (rest_from c) a (from at ls)) → Checked t own log0 log c d (Ok (Differs at))
 check_differs t u own log0 log1 log c d at ls l other same within is b differs (v, value, listed, found) (a, led) =
@@ -70,16 +49,6 @@ check_differs t u own log0 log1 log c d at ls l other same within is b differs (
 pub check_on : {S : Type 0} (t u : Truth) (log0 log1 log : Option Answers) (r0 : Asks (Option ℕ)) (at : ℕ) (ls : List Link) (l : Link) (other : List ℕ → S → Type 0) → u ≡ t → at < length ls → l ≡ get_or ls at l → (b : Bool) → b ≡ true → Compared u other log1 log l (Ok b) → ((a : Answers) × Led t log0 log1 r0 a (from at ls)) → (a : Answers) × Led t log0 log r0 a (from (at + 1) ls)
 check_on t u log0 log1 log r0 at ls l other same within is b still (v, value, listed, found) (a, led) =
     (a ++ (l.name, v) ∷ [], next_led t log0 log1 log r0 a at ls l v true within is (ap (λ w. w l.name) (sym same) ∙ value) listed (found ∙ still) led)
-
--- there is no further link
-check_done : (t : Truth) (log0 log : Option Answers) (r0 : Asks (Option ℕ)) (a : Answers) (at : ℕ) (ls : List Link) → length ls ≤ at → Led t log0 log r0 a (from at ls) → Led t log0 log r0 a (done None)
-check_done t log0 log r0 a at ls all led = subst (Led t log0 log r0 a) (ap (compares at) (drop_of_length-le ls all)) led
-
-pub check_ends : {S : Type 0} (t : Truth) (own : List ℕ → S → Type 0) (log0 log : Option Answers) (c d : Checking) (at : ℕ) (ls : List Link) (o : _) → length ls ≤ at → ((a : Answers) × Led t log0 log (rest_from c) a (from at ls)) → Checked t own log0 log c d (Ok (Same o))
-check_ends t own log0 log c d at ls o all (a, led) = (a, check_done t log0 log (rest_from c) a at ls all led)
-
-pub check_refused : {S : Type 0} (t : Truth) (own : List ℕ → S → Type 0) (log0 log : Option Answers) (c d : Checking) (ls : List Link) → d.earlier.links ≡ ls → ((a : Answers) × Led t log0 log (rest_from c) a (from d.at ls)) → Checked t own log0 log c d (Err NoMemory)
-check_refused t own log0 log c d ls links (a, led) = (a, subst (λ ms. Led t log0 log (rest_from c) a (from d.at ms)) (sym links) led)
 
 -- what a run of the comparing finds
 all_same : (t : Truth) (at : ℕ) (ls : List Link) → run t (compares at ls) ≡ Ok None → AllSame t ls

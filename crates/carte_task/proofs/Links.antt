@@ -1,5 +1,5 @@
 -- Links of answers, one after the other.
-use Rattle.std.proofs.Common.{◌≡◌, ℕ, ◌+◌, ◌<◌, ◌≤◌, List, [], ◌∷◌, ◌++◌, Some, length, take, get_or, refl, ap, sym, ◌∙◌, append_assoc}
+use Rattle.std.proofs.Common.{◌≡◌, ℕ, ◌+◌, ◌<◌, List, [], ◌∷◌, ◌++◌, Some, length, take, get_or, refl, ap, sym, ◌∙◌, append_assoc}
 use Rattle.std.specs.List.{slice_get}
 use Rattle.std.proofs.lemmas.List.{take_more}
 use Rattle.std.proofs.lemmas.Option.{get_or_from_slice_get, slice_get_within}
@@ -8,7 +8,6 @@ use Rattle.carte_value.specs.declared.link.Link.{Link}
 use Rattle.carte_value.specs.Once.{Answers}
 use Rattle.carte_value.specs.Spelling.{digest_of}
 use Rattle.carte_effect.specs.Outcomes.{links_of}
-use Rattle.carte_task.proofs.Shapes.{take_all}
 
 pub links_on : (a b : Answers) → links_of (a ++ b) ≡ links_of a ++ links_of b
 links_on [] b = refl
@@ -22,6 +21,3 @@ links_more a at p base old new within item before put =
 pub links_further : (a : Answers) (at : ℕ) (k : List ℕ) (v : Value) (base old new : List Link) → slice_get a at ≡ Some (k, v) → old ≡ base ++ links_of (take at a) → new ≡ old ++ links_of ((k, v) ∷ []) → new ≡ base ++ links_of (take (at + 1) a)
 links_further a at k v base old new here before put =
     links_more a at (k, v) base old new (slice_get_within a at (k, v) here) (sym (get_or_from_slice_get a at (k, v) (k, v) here)) before put
-
-pub links_all : (a : Answers) (at : ℕ) (base links : List Link) → length a ≤ at → links ≡ base ++ links_of (take at a) → links ≡ base ++ links_of a
-links_all a at base links all is = is ∙ ap (λ b. base ++ links_of b) (take_all a at all)

@@ -8,13 +8,11 @@ use Rattle.carte_tree.specs.Formula.{is_static_tree, refs_of, mentions, steps_me
 use Rattle.carte_task.specs.declared.code.Instr.{Instr}
 use Rattle.carte_task.specs.declared.code.Instr.TheVariants as i
 use Rattle.carte_task.specs.declared.task.Task.{Task}
-use Rattle.carte_task.specs.declared.static_task.StaticTask.{StaticTask}
 use Rattle.carte_value.specs.Asks.{firsts, asked}
 use Rattle.carte_value.specs.Once.{once}
 use Rattle.carte_tree.specs.InTurn.{KnowsAll}
 use Rattle.carte_tree.specs.Meaning.{asks}
 use Rattle.carte_tree.specs.Laws.{StaticRuns}
-use Rattle.carte_task.specs.Statics.{HasParts, IsStaticTaskOf}
 use Rattle.carte_task.specs.Code.{exec}
 use Rattle.carte_task.specs.Coding.{count, choice, code_of, code_of_steps, code_of_args, code_of_arg}
 use Rattle.carte_task.specs.Mentions.{mentioned_by, mentions_in, AsksOnly}
@@ -65,15 +63,6 @@ task_made kind k e t key of_kind code fixed = record {
   computes = ap (λ q. exec q 0 t.code.items []) of_kind ∙ ap (λ cs. exec kind 0 cs []) code ∙ coded kind e;
   mentioned = ap mentions_in code ∙ mentions_coded e;
   fixed = fixed;
-}
-
--- parts of a task of a static formula are a static task of it
-pub static_made : (kind : Kind) (k : List ℕ) (e : Tree) (t : Task) (s : StaticTask) → t.fixed ≡ true → HasParts t s → IsTaskOf kind k e t → IsStaticTaskOf kind k e s
-static_made kind k e t s fixed parts of = record {
-  fixed = sym of.fixed ∙ fixed;
-  key = parts.key ∙ of.key;
-  computes = ap (λ q. exec q 0 s.code.items []) parts.kind ∙ ap (λ cs. exec t.kind 0 cs []) parts.code ∙ of.computes;
-  refs = s.mentioned ∙ ap (λ cs. firsts (mentions_in cs)) parts.code ∙ ap firsts of.mentioned;
 }
 
 -- a static formula's code asks only for what it mentions

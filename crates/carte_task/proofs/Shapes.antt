@@ -8,7 +8,6 @@ use Rattle.std.proofs.Math.ListN.{drop_of_length-le}
 use Rattle.std.specs.List.{list_all}
 use Rattle.carte_tree.specs.Tree.{Tree, call, Args, no_arg, arg, Arg, one, cells, Term, steps_of, args_of}
 use Rattle.carte_tree.specs.Formula.{IsExpr, AreSteps, AreArgs, IsArg, AreCallArgs, IsCallArg}
-use Rattle.carte_tree.specs.declared.expr.Level.{Level}
 use Rattle.carte_tree.specs.Code.{arg_tree, args_tree, rest_steps, tree_of, term_of, pairs_of}
 use Rattle.carte_tree.specs.declared.expr.Expr.{Expr}
 use Rattle.carte_tree.specs.declared.expr.Op.{Op}

@@ -1,5 +1,5 @@
 -- What asks only for names that have answers doesn't stop.
-use Rattle.std.proofs.Common.{◌≡◌, ℕ, Bool, true, false, cond, List, [], ◌∷◌, Option, Some, None, Err, length, refl, ap, sym, ◌∙◌, subst, inl, inr, arith}
+use Rattle.std.proofs.Common.{◌≡◌, ℕ, true, false, cond, List, [], ◌∷◌, Option, Some, None, Err, length, refl, ap, sym, ◌∙◌, subst, inl, inr}
 use Rattle.std.specs.Cmp.Lexicographic.{nat_list_eq_equiv}
 use Rattle.carte_name.specs.declared.kind.Kind.{Kind}
 use Rattle.carte_value.specs.declared.value.Value.{Value}
@@ -14,7 +14,7 @@ use Rattle.carte_effect.specs.Lists.{ValuesOf}
 use Rattle.carte_effect.specs.declared.effect.Halt.TheVariants.{Stop}
 use Rattle.carte_task.specs.declared.code.Instr.{Instr}
 use Rattle.carte_task.specs.declared.progress.Progress.{Progress}
-use Rattle.carte_task.specs.State.{answers_in, rest_in, Proceeds}
+use Rattle.carte_task.specs.State.{rest_in, Proceeds}
 use Rattle.carte_task.proofs.Filling.{nothing_known}
 
 -- there are as many values as names

@@ -1,16 +1,16 @@
 -- A machine that fits asks for its needs alone, ends with its value, or stops at a need and fits on.
-use Rattle.std.proofs.Common.{◌≡◌, ℕ, List, [], ◌∷◌, ◌++◌, Option, Some, None, Ok, refl, ap, sym, ◌∙◌, subst, inl, inr, append-nil, append_assoc}
+use Rattle.std.proofs.Common.{◌≡◌, ℕ, List, [], ◌∷◌, ◌++◌, Option, refl, ap, sym, ◌∙◌, subst, inl, inr, append-nil, append_assoc}
 use Rattle.carte_value.specs.declared.value.Value.{Value}
 use Rattle.carte_value.specs.Truths.{Truth, Extends, Among}
 use Rattle.carte_value.specs.Asks.{run, asked, firsts}
-use Rattle.carte_value.specs.Once.{Answers, Went, once, or_else, and_answers, AnswersOf, names_of}
+use Rattle.carte_value.specs.Once.{Answers, Went, once, and_answers, AnswersOf, names_of}
 use Rattle.carte_value.proofs.Once.{went_on, answers_on, names_on}
 use Rattle.carte_value.proofs.Laws.{and_known, machine_runs, machine_fetches}
 use Rattle.carte_value.proofs.Fetches.{fetches}
 use Rattle.carte_effect.specs.declared.outcome.Made.TheVariants.{Ran, Reused}
-use Rattle.carte_task.specs.Machines.{State, IsEnd}
+use Rattle.carte_task.specs.Machines.{State}
 use Rattle.carte_task.specs.Laws.{IsUnderWay}
-use Rattle.carte_effect.specs.Jobs.{Step, came, stopped, no_memory, AreLinks, StepFits, DriveFits}
+use Rattle.carte_effect.specs.Jobs.{Step, came, stopped, no_memory, StepFits, DriveFits}
 use Rattle.carte_task.specs.MachineJobs.{GoesBy, MachineGives, FitsMachine}
 
 known_more : (t u : Truth) (a : Answers) → Extends t u → AnswersOf t a → AnswersOf u a

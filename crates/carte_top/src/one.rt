@@ -164,7 +164,7 @@ fn request<D: Disk, O: Sink, G: Gate, T: Threads + Sync>(
 fn show<O: Sink>(front: &str, reply: Reply, out: &mut O) -> Status
     ensures { Shows front.now (said reply) (over_sink O.tells O.state out.old out.new) result }
 {
-    let Reply { text, refused } = reply;
+    let Reply { text, refused, .. } = reply;
     match refused {
         Some(reason) => Status::BuildRefused(reason),
         None => print(out, front.as_bytes(), text.as_str().as_bytes()),

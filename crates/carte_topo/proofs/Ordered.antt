@@ -18,30 +18,8 @@ use Rattle.carte_topo.specs.Between.{IsWalk, IsPathFrom, IsBetween, Reached, Rea
 use Rattle.carte_tree.proofs.StaticRuns.{static_fetched}
 use Rattle.carte_topo.proofs.Stopping.{until_among}
 use Rattle.carte_topo.proofs.Ready.{each_among, ready_rule, ready_kept, ready_clean}
-use Rattle.carte_topo.proofs.Marking.{met_apart}
 use Rattle.carte_topo.proofs.Walking.{done_clean}
 use Rattle.carte_topo.proofs.Turning.{IsTurning}
-
--- nothing is met before the first target
-pub at_start : (b : Book) (ts : List (List ℕ)) (seen : Seen) (path : Path) (done : Done) → ((k : List ℕ) → seen k ≡ None) → path ≡ [] → done ≡ [] → IsBetween b ts seen path done
-at_start b ts seen path done unmet none nothing = record {
-  empty = none;
-  walk = λ goal. rw nothing (record {
-    in_order = tt;
-    once = tt;
-    finished = λ k among. absurd among;
-    waits = λ k among. absurd among;
-    passed = λ k among. absurd among;
-    met_rule = λ k stage met. absurd (met_apart seen k k stage (unmet k) met refl);
-    met_only = λ k stage met. absurd (met_apart seen k k stage (unmet k) met refl);
-    stand = tt;
-    linked = tt;
-    path_once = tt;
-    path_open = λ k among. absurd among;
-    path_reached = λ k among. absurd among;
-    from = tt;
-  });
-}
 
 -- at the end of a turning loop
 pub at_rest : (b : Book) (ts : List (List ℕ)) (goal : List ℕ) (seen : Seen) (path : Path) (done : Done) → path ≡ [] → IsWalk b ts goal seen path done → IsBetween b ts seen path done
@@ -190,7 +168,3 @@ ready_more_targets b ts seen' path' done done' i goal at known reached k among =
   | inl before ↦ ready_kept b done done' k reached.more (known k before)
   | inr here ↦ rw here reached.known
 ]
-
-pub none_before : (b : Book) (ts : List (List ℕ)) (done : Done) (k : List ℕ) → Among (take 0 ts) k → IsReady b done k
-none_before b [] done k among = absurd among
-none_before b (t ∷ ts) done k among = absurd among

@@ -1,5 +1,5 @@
 -- What is ready, as more rules are done.
-use Rattle.std.proofs.Common.{◌≡◌, ℕ, zero, suc, ◌+◌, Bool, true, false, cond, ◌||◌, List, [], ◌∷◌, ◌++◌, take, slice_get, Option, Some, None, refl, ap, sym, ◌∙◌, inl, inr, ◌⊎◌, add-one}
+use Rattle.std.proofs.Common.{◌≡◌, ℕ, zero, suc, ◌+◌, Bool, true, false, cond, ◌||◌, List, [], ◌∷◌, ◌++◌, take, slice_get, Option, Some, None, refl, ap, sym, ◌∙◌, inl, inr, ◌⊎◌}
 use Rattle.std.specs.Cmp.Lexicographic.{bytes_decides, nat_list_eq_equiv}
 use Rattle.carte_value.specs.declared.value.Value.{Value}
 use Rattle.carte_name.specs.Names.{name_eq}
@@ -34,9 +34,6 @@ each_more P (j ∷ js) zero k here holds each = (let same : j ≡ k = cc in rw s
 each_more P (j ∷ js) (suc at) k here holds each = (each.0, each_more P js at k here holds each.1)
 
 -- one name more
-pub each_next : (P : List ℕ → Type 0) (ks : List (List ℕ)) (at : ℕ) (k : List ℕ) → slice_get ks at ≡ Some k → P k → Each P (take at ks) → Each P (take (at + 1) ks)
-each_next P ks at k here holds each = rw add-one (each_more P ks at k here holds each)
-
 pub has_among : (done : Done) (k : List ℕ) → has done k ≡ true → Among done k
 has_among [] k h = cc
 has_among (j ∷ js) k h =

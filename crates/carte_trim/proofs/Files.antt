@@ -1,5 +1,5 @@
 -- What a new file keeps, before and while it is written.
-use Rattle.std.proofs.Common.{◌≡◌, ◌⊎◌, ℕ, ◌+◌, ◌-◌, ◌≤◌, true, false, List, [], ◌∷◌, ◌++◌, length, take, refl, ap, sym, ◌∙◌, subst, inl, inr, arith}
+use Rattle.std.proofs.Common.{◌≡◌, ℕ, ◌+◌, ◌-◌, ◌≤◌, true, false, List, [], ◌∷◌, ◌++◌, length, take, refl, ap, sym, ◌∙◌, subst, inl, inr, arith}
 use Rattle.std.specs.Prelude.{if◌then◌else◌, None, Some, Option, is_some, ◌&&◌, ◌==◌, is_none}
 use Rattle.std.specs.Str.{bytes_eq}
 use Rattle.std.proofs.lemmas.Bool.{le-leb}
@@ -104,10 +104,6 @@ folded_placed p q at (body ∷ bodies) folded = (folded.0, folded.1, folded.2, f
 
 makes_placed : (K : AnyKept) (at : ℕ) (bodies : List BodyAt) → Makes bodies K → Makes (placed_at at (bytes_of bodies)) K
 makes_placed K at bodies makes = record { phase = makes.phase; folded = folded_placed Fresh makes.phase at bodies makes.folded; kept = makes.kept }
-
-either_nothing : {A : Type 0} → A ⊎ A → A
-either_nothing (inl a) = a
-either_nothing (inr a) = a
 
 module _ (limit : ℕ) (L : SomeKept) (p : Plan) (is : IsPlan limit L p) where
   abbrev first : List BodyAt

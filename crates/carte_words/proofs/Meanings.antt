@@ -1,12 +1,11 @@
 -- By which words a line is meant, and that it has one meaning at most.
 use Rattle.std.proofs.Common.{ℕ, ◌≡◌, ◌∙◌, List, [], ◌∷◌, Some, codes, refl, ap, ap₂, sym, arith, slice_index}
 use Rattle.carte_name.specs.declared.kind.Kind.{Kind}
-use Rattle.carte_value.specs.declared.value.Value.{Value}
 use Rattle.carte_value.proofs.Readings.{one_reading}
 use Rattle.carte_words.specs.declared.line.Line.{Line}
 use Rattle.carte_words.specs.declared.line.Line.TheVariants.{Set, Build, Explain, Clean, Nothing}
 use Rattle.carte_words.specs.Cuts.{skip, trim_end, without_return, words_in, word_of, behind, NextWord}
-use Rattle.carte_words.specs.Lines.{AreNames, Assigns, Follows, Says, OneMeaning}
+use Rattle.carte_words.specs.Lines.{AreNames, Follows, Says, OneMeaning}
 use Rattle.carte_words.proofs.Commands.{words_next}
 
 -- the first byte of the word that a line is meant by
@@ -29,18 +28,6 @@ begins kind word rest (Set k v) f = ap (λ (w : List ℕ). slice_index w 0) f.0
 pub no_clean : (kind : Kind) (rest word more : List ℕ) → NextWord (skip rest) word more → (l : Line) → ¬ (Follows kind (codes "clean") rest l)
 no_clean kind rest word more n Clean f = let e : word ∷ words_in more ≡ [] = sym (words_next rest word more n) ∙ f.1 in cc
 no_clean kind rest word more n l f = absurd (omega (arith, begins kind (codes "clean") rest l f))
-
-pub no_build : (kind : Kind) (rest : List ℕ) → ((ks : List (List ℕ)) → ¬ (AreNames kind rest ks)) → (l : Line) → ¬ (Follows kind (codes "build") rest l)
-no_build kind rest none (Build ks) f = none ks f.1
-no_build kind rest none l f = absurd (omega (arith, begins kind (codes "build") rest l f))
-
-pub no_explain : (kind : Kind) (rest : List ℕ) → ((ks : List (List ℕ)) → ¬ (AreNames kind rest ks)) → (l : Line) → ¬ (Follows kind (codes "explain") rest l)
-no_explain kind rest none (Explain ks) f = none ks f.1
-no_explain kind rest none l f = absurd (omega (arith, begins kind (codes "explain") rest l f))
-
-pub no_set : (kind : Kind) (rest : List ℕ) → ((k : List ℕ) (v : Value) → ¬ (Assigns kind (skip rest) k v)) → (l : Line) → ¬ (Follows kind (codes "set") rest l)
-no_set kind rest none (Set k v) f = none k v f.1
-no_set kind rest none l f = absurd (omega (arith, begins kind (codes "set") rest l f))
 
 pub no_other : (kind : Kind) (word rest : List ℕ) → ¬ (word ≡ codes "set") → ¬ (word ≡ codes "build") → ¬ (word ≡ codes "explain") → ¬ (word ≡ codes "clean")
     → ¬ (slice_index word 0 ≡ 35) → (l : Line) → ¬ (Follows kind word rest l)

@@ -9,7 +9,7 @@ ghost use Rattle.carte_lexer.specs.Runs.{RunOk};
 use crate::cell::Cell;
 use crate::tokens::{Class, Token};
 use carte_tree::{Func, Op};
-use carte_value::{Name, NameFault, NoMemory, Text};
+use carte_value::{NAME_LIMIT, Name, NameFault, NoMemory, Text};
 use std::alloc::Global;
 
 /// The token that a whole run is.
@@ -43,15 +43,17 @@ fn number_token(run: &str) -> Option<Token>
     }
 }
 
+// The run's bytes were tested as it was met.
 #[inline(always)]
 fn word_token(alloc: Global, run: &str) -> Result<Option<Token>, NoMemory>
+    requires some { 0 < length run.now }
+    requires known { RunOk small run.now }
     ensures { IfOk result (λ o. o ≡ token_of small run.now) }
 {
-    match Name::rule(alloc, run) {
-        Ok(name) => Ok(Some(Token::Word(name))),
-        Err(NameFault::BadName(_)) => Ok(None),
-        Err(NameFault::NoMemory) => Err(NoMemory),
+    if run.len() > NAME_LIMIT {
+        return Ok(None);
     }
+    Ok(Some(Token::Word(Name::tested(alloc, run)?)))
 }
 
 /// A cell or a function, in either case.

@@ -70,6 +70,7 @@ loop-taken-preserved g c =
         c.in_ok-feed.ensures.fed (c.args.machine.now, c.args.disk.now) (g.O.Sink.state c.args.out.now) so.0 so.3,
       );
       on = c.in_ok-feed.ensures.on;
+      known = c.in_ok-feed.ensures.known;
       long = long;
       within = omega (arith, fits);
       few = omega (arith, c.in_ok-feed.ensures.few, c.loop-taken.invariant.few, read_whole_length count 0 [] piece refl fit);

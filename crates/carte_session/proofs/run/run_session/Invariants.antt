@@ -1,5 +1,6 @@
 use Rattle.std.proofs.Common.{◌≡◌, ◌-◌, ◌≤◌, ◌++◌, ℕ, List, length}
 use Rattle.carte_session.specs.Carried.{Progress}
+use Rattle.carte_session.specs.Staying.{AllAgain}
 use Rattle.carte_session.proofs.run.run_session.Given as goal
 
 abbrev pub invariant-loop-taken : goal.invariant-loop-taken
@@ -9,6 +10,7 @@ invariant-loop-taken g l = record {
       × Progress g.M.Machine.answers (l.fn.machine, l.fn.disk) (l.machine, l.disk)
       (record { tells = g.O.Sink.tells; old = g.O.Sink.state l.fn.out; new = g.O.Sink.state l.out }) read l.lines.count l.lines.rest.items;
   on : g.M.Machine.goes_on l.machine;
+  known : AllAgain g.M.Machine.answers (l.machine, l.disk) l.lines.known.lines.items;
   long : length l.piece ≡ 8192;
   within : l.taken ≤ l.limit;
   few : l.lines.count ≤ l.taken;

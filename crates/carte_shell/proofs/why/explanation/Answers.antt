@@ -20,7 +20,7 @@ returns-in_ok-text-in-Ok-clause-told c =
     inl (
       told.0,
       told.1,
-      c.plain.ensures ∙ ap plain told.2,
+      c.plain.ensures.reply ∙ ap plain told.2,
       subst (λ h. Under A b (AllClean b c.args.targets.now × AreWhys h (kept_for A b) b told.0)) same
           (found_why c.kind_of.result A b c.in-Ok.work c.args.targets.now
           (λ H sound distinct. subst (λ h. IsPreview h (kept_for A b) b c.args.targets.now c.in-Ok.work) (sym same) (at_ok c.preview.result c.in-Ok.work _ c.in-Ok.is (c.preview.ensures.served H sound distinct)))

@@ -15,7 +15,7 @@ returns-in-Ok-clause-carried g c =
     let d = over_disk g.D.Disk.tells g.D.Disk.story g.D.Disk.faults c.args.disk.now c.clean.new.disk in
     let engine = c.args.self.now.engine in
     let Bs = clearing engine ∷ [] in (
-      c.plain-reply.ensures ∙ ap plain c.in_ok-cleaned_line.ensures,
+      c.plain-reply.ensures.reply ∙ ap plain c.in_ok-cleaned_line.ensures,
       record {
         choices = refl;
         book = refl;

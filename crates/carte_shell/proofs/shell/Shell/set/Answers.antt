@@ -10,6 +10,6 @@ pub invariant_of-self-2 : goal.invariant_of-self-2
 invariant_of-self-2 c =
     let name = c.args.name.now in
     let new = book_view c.set_input.new.book in
-    let sets = c.in_ok-reply.ensures {u = tt} in
+    let sets = (c.in_ok-reply.ensures {u = tt}).set in
     let but = subst (λ b. SameBut name b new) (ap book_view c.suspected.ensures.book) (sets_but (book_view c.suspected.new.self.book) new name c.args.value sets.result sets.sets) in
     record { watched = subst (λ (s : Stand). IsWatchedIn s new c.in_ok-watch.watch) (sym c.suspected.ensures.engine) (c.in_ok-watch.ensures.suspects new but) }
