@@ -92,9 +92,17 @@ class Lines:
             return b"set " + name.encode() + b" " + self.value()
         return b"clean" if what == "clean" else what.encode() + b" " + self.names()
 
+    def again(self, made):
+        """One of the last lines once more: where nothing has changed since, its reply is known."""
+        self.counts["again"] += 1
+        return self.random.choice(made[-3:])
+
     def script(self, count):
         ends = [b"\n", b"\n", b"\n", b" \n", b"\r\n"]
-        text = b"".join(self.line() + self.random.choice(ends) for _ in range(count))
+        made = []
+        for _ in range(count):
+            made.append(self.again(made) if made and self.random.random() < 0.3 else self.line() + self.random.choice(ends))
+        text = b"".join(made)
         return text.removesuffix(b"\n") if self.random.random() < 0.2 else text
 
 

@@ -8,7 +8,7 @@ use Rattle.carte_session.specs.Carried.{Carried, TakesOne, TakesSome}
 use Rattle.carte_session.specs.declared.end.SessionEnd.{SessionEnd}
 use Rattle.carte_session.specs.declared.end.SessionEnd.TheVariants.{WriteFault}
 use Rattle.carte_session.specs.declared.end.StepEnd.{StepEnd}
-use Rattle.carte_session.specs.Staying.{AllAgain, Learns, Stays}
+use Rattle.carte_session.specs.Staying.{Learns}
 
 pub has_at : {A : Type 0} (xs : List A) (i : ℕ) (x d : A) → i < length xs → x ≡ get_or xs i d → Has xs x
 has_at [] i x d within is = absurd (omega (arith, within))
@@ -43,14 +43,3 @@ pub carried_again : {M T : Type 0} (Answers : M → ℕ → List ℕ → List �
 carried_again Answers Ends m k number line reply (Ok t) again says = (reply, again, says)
 carried_again {T = T} Answers Ends m k number line reply (Err end) again says =
     subst (λ (e : SessionEnd). Carried {T = T} Answers Ends m m k number line (Err e)) (sym says.0) (reply, again, says.1)
-
--- what is known behind a line would be answered again
-pub known_behind : {M : Type 0} (Answers : M → ℕ → List ℕ → List ℕ → M → Type 0) (m m' : M) (line reply : List ℕ) (stays : _) (old new : List (List ℕ × List ℕ))
-    → AllAgain Answers m old → Learns stays old line reply new → (stays ≡ true → Stays Answers m line reply m') → AllAgain Answers m' new
-known_behind Answers m m' line reply stays old new all learns stay a has =
-    let told = learns a has in
-    let both = stay told.0 in
-    elim told.1 [
-      | inl is ↦ λ n. subst (λ b. Answers m' n b.0 b.1 m') (sym is) (both.0 n)
-      | inr was ↦ both.1 a.0 a.1 (all a was)
-    ]

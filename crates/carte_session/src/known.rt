@@ -8,8 +8,11 @@ use carte_value::NoMemory;
 use std::alloc::Global;
 use std::marker::Model;
 
-/// So many lines are known at most: few are asked again and again, and their replies may be long.
+/// So many lines are known at most: few are asked again and again.
 const MOST: usize = 16;
+
+/// A line with more bytes isn't known, nor one with such a reply: what is known stays in memory.
+const LONGEST: usize = 65_536;
 
 /// A line that was answered, and its reply. Contracts see them as a pair.
 #[derive(Drop)]
@@ -99,10 +102,14 @@ impl Known {
         }
     }
 
+    // No room is given to what is long.
     fn put(&mut self, alloc: Global, line: &[u8], reply: &str) -> Result<(), NoMemory>
         ensures put { OnOk result (self.new.lines.items ≡ self.old.lines.items ++ (line.now, reply.now) ∷ []) }
         ensures refused { OnErr result (self.new.lines.items ≡ self.old.lines.items) }
     {
+        if line.len() > LONGEST || reply.len() > LONGEST {
+            return Err(NoMemory);
+        }
         let answered = Answered::of(alloc, line, reply)?;
         self.lines.reserve(1)?;
         self.lines.push_reserved(answered);
