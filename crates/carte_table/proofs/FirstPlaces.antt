@@ -1,6 +1,6 @@
 -- Places of keys in lists.
 use Rattle.std.proofs.Common.{◌≡◌, ℕ, suc, ◌<◌, Bool, true, false, cond, List, [], ◌∷◌, ◌++◌, length, Option, Some, None, refl, ap, sym, ◌∙◌, subst, map, arith}
-use Rattle.std.specs.Prelude.{option_map, slice_get, find, if◌then◌else◌}
+use Rattle.std.specs.Prelude.{option_map, is_some, slice_get, find, if◌then◌else◌}
 use Rattle.std.specs.Option.{option_or}
 use Rattle.carte_table.specs.Places.{first_place, IsFirstPlaces, AddsPlace, ForgetsPlace}
 
@@ -47,6 +47,16 @@ place_misses {A = A} p (x ∷ xs) is = on (p x) (first_place p xs) (place_misses
     on true o before is = cc
     on false None before is = before refl
     on false (Some j) before is = cc
+
+-- there is one just where one is found
+pub place_there : {A : Type 0} (p : A → Bool) (xs : List A) → is_some (first_place p xs) ≡ is_some (find p xs)
+place_there p [] = refl
+place_there {A = A} p (x ∷ xs) = on (p x) (first_place p xs) (place_there p xs)
+  where
+    on : (b : Bool) (o : Option ℕ) → is_some o ≡ is_some (find p xs) → is_some (if b then Some 0 else option_map suc o) ≡ is_some (cond b (Some x) (find p xs))
+    on true o is = refl
+    on false None is = is
+    on false (Some j) is = is
 
 pub map_end : {A B : Type 0} (f : A → B) (xs : List A) (x : A) → map f (xs ++ x ∷ []) ≡ map f xs ++ f x ∷ []
 map_end f [] x = refl

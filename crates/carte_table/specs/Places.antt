@@ -1,5 +1,5 @@
 -- Tables of the places at which a list has a key.
-use Rattle.std.specs.Prelude.{ℕ, suc, Bool, List, [], ◌∷◌, ◌++◌, ◌≡◌, Option, Some, None, option_map, map, if◌then◌else◌}
+use Rattle.std.specs.Prelude.{ℕ, suc, Bool, true, false, List, [], ◌∷◌, ◌++◌, ◌≡◌, Option, Some, None, option_map, is_some, map, if◌then◌else◌}
 use Rattle.std.specs.Option.{option_or}
 use Rattle.carte_table.specs.Changes.{front}
 
@@ -24,6 +24,11 @@ ArePlaces {K = K} is_of xs table = (k : K) → table k ≡ places (is_of k) xs
 -- one key more has a place, where it had none
 abbrev pub AddsPlace : {K : Type 0} → (K → K → Bool) → (K → Option ℕ) → (K → Option ℕ) → K → ℕ → Type 0
 AddsPlace {K = K} eq old new k n = (q : K) → new q ≡ option_or (old q) (if eq k q then Some n else None)
+
+-- a key that had no place has this one, or it had one and all stays
+pub record EntersPlace {K : Type 0} (eq : K → K → Bool) (old new : K → Option ℕ) (k : K) (n : ℕ) (is_new : Bool) : Type 0 where
+  pub put : is_new ≡ true → (old k ≡ None) × AddsPlace eq old new k n
+  pub there : is_new ≡ false → (is_some (old k) ≡ true) × ((q : K) → new q ≡ old q)
 
 -- a key has no place more, where it had this one
 pub record ForgetsPlace {K : Type 0} (eq : K → K → Bool) (old new : K → Option ℕ) (k : K) (n : ℕ) : Type 0 where

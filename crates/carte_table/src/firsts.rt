@@ -10,7 +10,9 @@ ghost use Rattle.carte_value.specs.Lists.{Begins};
 ghost use Rattle.carte_table.specs.Steps.{Replaces, Brings, CanBecome, IsReady};
 
 use crate::keyed::{Keyed, Marked};
-use crate::table::{Table, add, each_once, first, forget, length_with, place, push, set, widen};
+use crate::table::{
+    Table, add, add_place, each_once, first, forget, length_with, place, push, set, widen,
+};
 use crate::{NameTable, Plain};
 use carte_codec::{items_length, with_item, without_item};
 use carte_value::{Name, Names, NoMemory, Seeded};
@@ -204,16 +206,20 @@ impl<T: Keyed + Drop> Firsts<T> {
         Ok(left)
     }
 
-    /// Puts an item behind the others where its key has none here, and else behind those that are left.
+    /// Puts an item behind the others where its key has none here, and else behind those that are left. The key is looked
+    /// up once, since as a state is loaded this is done for each of its entries.
     fn bring(&mut self, item: T, left: &mut Vec<T>) -> Result<(), NoMemory>
         ensures ok { OnOk result (Brings (has_key T.key_of) T.key_of item self.old left.old.items self.new left.new.items) }
         ensures no_memory { OnErr result (self.new ≡ self.old) }
     {
-        if self.find(item.key()).is_some() {
+        let key = item.key().copy(self.alloc)?;
+        if !add_place(&mut self.items, &mut self.places, key)? {
             left.push(item)?;
             return Ok(());
         }
-        self.push(item)
+        self.known = with_item(self.known, &item);
+        self.items.push_reserved(item);
+        Ok(())
     }
 
     /// Takes in what is left of a later list: each item is put in the place of the first one of its key, where there is one.

@@ -11,7 +11,7 @@ ghost use Rattle.std.specs.Option.{option_or};
 ghost use Rattle.carte_value.specs.Lists.{Begins};
 
 use crate::digest_key::DigestKey;
-use crate::table::{Table, add, first, forget, make_place, push, widen};
+use crate::table::{Table, add, add_place, first, forget, make_place, push, widen};
 use carte_codec::{items_length, with_item, without_item};
 use carte_value::{Digest, NoMemory, Seeded, Value};
 use std::alloc::Global;
@@ -185,10 +185,14 @@ impl Store {
         ensures ok { OnOk result ((d : SomeDigest) → first_value self.new d ≡ option_or (first_value self.old d) (if is_value_of d value then Some value else None)) }
         ensures front { Begins self.old self.new }
     {
-        if self.find(&digest).is_some() {
+        make_place(&mut self.digests)?;
+        let key = DigestKey::of(&digest);
+        if !add_place(&mut self.values, &mut self.places, key)? {
             return Ok(());
         }
-        self.push_with(value, digest)?;
+        self.known = with_item(self.known, &value);
+        self.values.push_reserved(value);
+        self.digests.push_reserved(digest);
         Ok(())
     }
 

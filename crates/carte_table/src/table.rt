@@ -1,14 +1,15 @@
 //! Tables from keys to places in a list.
-ghost use Rattle.std.specs.Prelude.{◌≡◌, ◌<◌, ◌^◌, ◌+◌, ◌++◌, ◌∷◌, [], ℕ, Bool, None, Some, IsTrue, ◌↔◌, length, map, find, slice_get, option_copied, is_ok, IfSome, OnOk, OnErr, vec_len, vec_capacity, if◌then◌else◌};
+ghost use Rattle.std.specs.Prelude.{◌≡◌, ◌<◌, ◌^◌, ◌+◌, ◌++◌, ◌∷◌, [], ℕ, Bool, None, Some, IsTrue, ◌↔◌, length, map, find, slice_get, option_copied, is_ok, IfSome, IfOk, OnOk, OnErr, vec_len, vec_capacity, if◌then◌else◌};
 ghost use Rattle.std.specs.HashMap.{get};
 ghost use Rattle.std.specs.List.{IsDistinct};
-ghost use Rattle.carte_table.specs.Places.{first_place, IsFirstPlaces, AddsPlace, ForgetsPlace};
+ghost use Rattle.carte_table.specs.Places.{first_place, IsFirstPlaces, AddsPlace, EntersPlace, ForgetsPlace};
 ghost use Rattle.carte_table.specs.Changes.{change_first};
 ghost use Rattle.carte_codec.specs.Lengths.{IsLengthOf};
 
 use carte_codec::Measured;
 use carte_value::{NoMemory, Seeded};
 use std::collections::HashMap;
+use std::collections::hash_map::Entry;
 use std::hash::Hash;
 
 /// The one name of these tables, so that their hasher can be changed here. It begins with a seed, since names can be chosen
@@ -156,14 +157,55 @@ pub fn push<K: Eq + Hash + Drop, T: Drop>(
     ensures bound { length items.new.items < 2 ^ 32 }
     ensures table { (is_of : K → T → Bool) → ((q : K) → is_of q item ≡ K.eq key q) → IsFirstPlaces is_of items.old.items (get K.eq table.old) → IsFirstPlaces is_of items.new.items (get K.eq table.new) }
 {
+    let at = next_place(items)?;
+    add(table, key, at)?;
+    items.push_reserved(item);
+    Ok(())
+}
+
+/// Puts the place behind the items into the table for a key that has none there, and tells whether it had none: then there
+/// is room for its item. It looks the key up once, and makes room for a new one alone; where there is none, nothing has
+/// changed. An entry is used up on each way, since of one that is let go it isn't known what the table has.
+pub fn add_place<K: Eq + Hash + Drop, T>(
+    items: &mut Vec<T>,
+    table: &mut Table<K, u32>,
+    key: K,
+) -> Result<bool, NoMemory>
+    ensures items { items.new.items ≡ items.old.items }
+    ensures ok { IfOk result (EntersPlace K.eq (get K.eq table.old) (get K.eq table.new) key (length items.old.items)) }
+    ensures room { IfOk result (λ is_new. IsTrue is_new → vec_len items.new < vec_capacity items.new) }
+    ensures bound { IfOk result (λ is_new. IsTrue is_new → length items.old.items + 1 < 2 ^ 32) }
+    ensures no_memory { OnErr result ((q : K) → get K.eq table.new q ≡ get K.eq table.old q) }
+{
+    match table.entry(key) {
+        Ok(Entry::Occupied(entry)) => {
+            let _place = entry.into_mut();
+            Ok(false)
+        }
+        Ok(Entry::Vacant(entry)) => {
+            let Ok(at) = next_place(items) else {
+                let _key = entry.into_key();
+                return Err(NoMemory);
+            };
+            entry.insert(at);
+            Ok(true)
+        }
+        Err(_) => Err(NoMemory),
+    }
+}
+
+/// The place behind the items, with room for one there.
+fn next_place<T>(items: &mut Vec<T>) -> Result<u32, NoMemory>
+    ensures items { items.new.items ≡ items.old.items }
+    ensures ok { OnOk result (vec_len items.new < vec_capacity items.new) }
+    ensures place { IfOk result (λ at. (at ≡ length items.old.items) × (at + 1 < 2 ^ 32)) }
+{
     let at = items.len();
     if at >= MOST {
         return Err(NoMemory);
     }
     make_place(items)?;
-    add(table, key, at as u32)?;
-    items.push_reserved(item);
-    Ok(())
+    Ok(at as u32)
 }
 
 /// Puts the place of a key into the table, where it has none.

@@ -5,5 +5,5 @@ use Rattle.carte_table.proofs.table.push.Goals as goal
 
 pub returns-clause-table : goal.returns-clause-table
 returns-clause-table g c is_of same is k =
-    let end : c.len-at.result ≡ length c.args.items.now.items = search rules in
-    rw (c.push_reserved.ensures.items, c.make_place.ensures.items) (place_added g.K.PartialEq.eq is_of c.args.items.now.items c.args.item c.args.key (get g.K.PartialEq.eq c.args.table.now) (get g.K.PartialEq.eq c.add.new.table) c.len-at.result end same is (c.in_ok-add.ensures {u = tt}).ok k)
+    let end : c.in_ok-at.at ≡ length c.args.items.now.items = search rules in
+    rw (c.push_reserved.ensures.items, c.next_place.ensures.items) (place_added g.K.PartialEq.eq is_of c.args.items.now.items c.args.item c.args.key (get g.K.PartialEq.eq c.args.table.now) (get g.K.PartialEq.eq c.add.new.table) c.in_ok-at.at end same is (c.in_ok-add.ensures {u = tt}).ok k)
