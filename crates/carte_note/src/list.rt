@@ -1,4 +1,4 @@
-ghost use Rattle.std.specs.Prelude.{◌≡◌, ◌<◌, ◌^◌, ◌++◌, ◌∷◌, [], length, slice_get, option_copied, ◌==◌, is_ok, IfOk, OnOk, OnErr, ℕ, List, IsTrue, take, if◌then◌else◌};
+ghost use Rattle.std.specs.Prelude.{◌≡◌, ◌<◌, ◌^◌, ◌++◌, ◌∷◌, [], length, slice_get, option_copied, ◌==◌, is_ok, IfOk, OnOk, OnErr, ℕ, List, IsTrue, take, vec_len, vec_capacity, if◌then◌else◌};
 ghost use Rattle.std.specs.HashMap.{get};
 ghost use Rattle.carte_name.specs.Names.{name_eq};
 ghost use Rattle.carte_table.specs.Places.{AddsPlace};
@@ -15,6 +15,9 @@ use std::marker::Model;
 
 /// The most finished keys that a list has: no book has more rules.
 const MOST: usize = 4294967295;
+
+/// From how many keys on a list grows to four times itself.
+const LONG: usize = 1024;
 
 /// Of each key the place where it stands first.
 type Places = HashMap<Name, u32, Seeded>;
@@ -131,11 +134,25 @@ impl FinishedList {
             return Err(NoMemory);
         }
         let key = finished.made.key().copy(self.alloc)?;
-        self.finished.reserve(1)?;
+        make_place(&mut self.finished)?;
         add(&mut self.places, key, at as u32)?;
         self.finished.push_reserved(finished);
         Ok(())
     }
+}
+
+/// Makes a place for one key more. A long list that is full grows to four times itself and isn't doubled, so that its keys
+/// are copied a third as often: a build has one such list, and room that nothing touches takes no memory.
+fn make_place(finished: &mut Vec<Finished>) -> Result<(), NoMemory>
+    ensures items { finished.new.items ≡ finished.old.items }
+    ensures ok { OnOk result (vec_len finished.new < vec_capacity finished.new) }
+{
+    let len = finished.len();
+    if len >= LONG && len == finished.capacity() {
+        let _room = finished.reserve(len.saturating_mul(3));
+    }
+    finished.reserve(1)?;
+    Ok(())
 }
 
 fn place(places: &Places, key: &Name) -> Option<usize>

@@ -12,6 +12,6 @@ invariant_of-self-2 c =
     let end : c.len-at.result ≡ length c.self.inside.finished.items = search rules in
     let room : length c.push_reserved.new.self.items < 4294967296 = search rules in (
       room,
-      rw (c.push_reserved.ensures.items, c.reserve.ensures.items) (place_added name_eq is_of_key c.self.inside.finished.items c.args.finished c.in_ok-key.key (get name_eq c.self.inside.places) (get name_eq c.add.new.places) c.len-at.result end
+      rw (c.push_reserved.ensures.items, c.make_place.ensures.items) (place_added name_eq is_of_key c.self.inside.finished.items c.args.finished c.in_ok-key.key (get name_eq c.self.inside.places) (get name_eq c.add.new.places) c.len-at.result end
           (λ q. name_eq_sym q (key_of c.args.finished) ∙ sym (ap (λ k. name_eq k q) ((c.in_ok-key.ensures {u = tt}) ∙ c.key.ensures))) c.self.invariant.1 ((c.in_ok-add.ensures {u = tt}).ok)),
     )
