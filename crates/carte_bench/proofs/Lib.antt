@@ -1,4 +1,5 @@
 pub mod Puts
+pub mod Ruled
 mod Slots
 pub mod Cores
 pub mod Turning

@@ -1,4 +1,5 @@
 pub mod Spots
+pub mod Rules
 pub mod Steps
 pub mod Held
 pub mod Keys

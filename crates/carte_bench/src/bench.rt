@@ -1,11 +1,14 @@
 ghost use Rattle.std.specs.Prelude.{◌≡◌, true, Some, None, IsSome, IsTrue, OnOk, OnErr, IfOk};
-ghost use Rattle.carte_book.specs.Book.{book_view};
-ghost use Rattle.carte_bench.specs.Held.{spots_of, book_of, IsAt};
+ghost use Rattle.std.specs.HashMap.{get};
+ghost use Rattle.carte_name.specs.Names.{name_eq};
+ghost use Rattle.carte_book.specs.Book.{book_view, content};
+ghost use Rattle.carte_book.specs.Needs.{IsRule};
 ghost use Rattle.carte_bench.specs.Spots.{PutAt, IsSame, Takes, TakenOut, HasStopped, Renews, job_in, is_ready, place_of, slot_after};
+ghost use Rattle.carte_bench.specs.Rules.{is_rule, AreRules, AreRules-prop};
 ghost use Rattle.carte_bench.specs.declared.slot.Slot.TheVariants as slot;
 
 use crate::{Place, Slot};
-use carte_book::Book;
+use carte_book::{Book, Looked};
 use carte_effect::{Digests, Job, Made, Stuck};
 use carte_value::{Name, NoMemory, Seeded};
 use indexmap::IndexMap;
@@ -20,9 +23,12 @@ pub struct Bench<'b, J> {
     pub(crate) alloc: Global,
     pub(crate) slots: IndexMap<Name, Slot<J>, Seeded>,
     pub(crate) digests: Digests,
+    ghost rules: { AreRules (book_view book.now) (get name_eq slots) } by { AreRules-prop (book_view book.now) (get name_eq slots) },
 }
 
 impl<'b, J: Job + Drop> Bench<'b, J> {
+    ghost use Rattle.carte_bench.specs.Held.{spots_of, book_of, IsAt};
+
     /// A bench on which nothing was demanded. It takes no memory.
     pub fn new(alloc: Global, book: &'b Book) -> Bench<'b, J>
         ensures empty { IsSame (λ q. None) (spots_of result) }
@@ -37,10 +43,34 @@ impl<'b, J: Job + Drop> Bench<'b, J> {
         }
     }
 
+    /// Whether a name is a rule of the book.
+    pub fn has_rule(&self, name: &Name) -> bool
+        ensures { result ≡ is_rule (content (book_of self.now) name.now) }
+    {
+        matches!(self.book.lookup(name), Looked::Rule(_))
+    }
+
     /// Puts a job on the bench, and tells its place there, a hint for its name: a turn whose name has it makes no look-up.
-    /// The job's key is a rule that the bench doesn't know. Where there is no memory the job is dropped.
+    /// The job's key is a rule that the bench doesn't know. Where there is no memory, or the key is no rule of the book, the
+    /// job is dropped.
     pub fn demand(&mut self, job: J) -> Result<usize, NoMemory>
         requires unknown { spots_of self.old (J.name job) ≡ None }
+        ensures demanded { OnOk result (PutAt (spots_of self.old) (spots_of self.new) (J.name job) (slot.Ready job)) }
+        ensures refused { OnErr result (IsSame (spots_of self.old) (spots_of self.new)) }
+        ensures place { IfOk result (IsAt self.new (J.name job)) }
+        ensures book { book_of self.new ≡ book_of self.old }
+    {
+        if self.has_rule(job.key()) {
+            self.demand_rule(job)
+        } else {
+            Err(NoMemory)
+        }
+    }
+
+    /// The same, where it is known that the key is a rule of the book, which isn't asked for it.
+    pub fn demand_rule(&mut self, job: J) -> Result<usize, NoMemory>
+        requires unknown { spots_of self.old (J.name job) ≡ None }
+        requires rule { IsRule (book_of self.old) (J.name job) }
         ensures demanded { OnOk result (PutAt (spots_of self.old) (spots_of self.new) (J.name job) (slot.Ready job)) }
         ensures refused { OnErr result (IsSame (spots_of self.old) (spots_of self.new)) }
         ensures place { IfOk result (IsAt self.new (J.name job)) }

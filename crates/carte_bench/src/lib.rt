@@ -7,6 +7,9 @@
 //! Where nothing can go on, `reason` follows the waits from a target round, or to a name that has nothing, and over jobs
 //! that fit this is the book's reason.
 //!
+//! A look asks the slots first, and the book only of a name that has none: a bench knows that each name with a slot is a
+//! rule of its book, since a job is put on it under a rule's name alone, and most looks of a build are at such names.
+//!
 //! The slots stand in one map in the order of their demands, so each has a dense number from the first day, while
 //! contracts speak of names alone. A demand tells that number, and a name at which a job stops has the next one as its
 //! hint: a turn compares the name there, and hashes only where it is another. A slot keeps the whole outcome, since
