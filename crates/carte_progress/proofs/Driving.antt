@@ -1,5 +1,5 @@
 -- What is known after a drive.
-use Rattle.std.proofs.Common.{◌≡◌, ◌⊎◌, ℕ, Bool, true, false, cond, List, [], ◌∷◌, ◌++◌, Some, None, Result, Ok, Err, refl, ap, sym, ◌∙◌, subst, inl, inr}
+use Rattle.std.proofs.Common.{◌≡◌, ◌⊎◌, ℕ, Bool, true, false, cond, List, [], ◌∷◌, ◌++◌, Some, Result, Ok, Err, refl, ap, sym, ◌∙◌, subst, inl, inr}
 use Rattle.carte_value.specs.Truths.{Truth, Extends, Among, HasValue}
 use Rattle.carte_value.proofs.Members.{same_or_not, among_left, among_right}
 use Rattle.carte_effect.specs.declared.look.Stuck.{Stuck}
@@ -21,7 +21,7 @@ use Rattle.carte_rebuild.specs.Goes.{IsPart, AreThereBefore, GoesOver}
 use Rattle.carte_bench.specs.declared.slot.Slot.{Slot}
 use Rattle.carte_bench.specs.declared.slot.Slot.TheVariants.{Stopped, Out, Done}
 use Rattle.carte_bench.specs.Spots.{Spots, PutAt, is_done, job_in, name_of, slot_after, seen_in}
-use Rattle.carte_bench.specs.Steps.{FitsOf, GivesOf, FitsSlot, IsCore, IsPartOf, step_of}
+use Rattle.carte_bench.specs.Steps.{FitsOf, GivesOf, FitsSlot, IsCore, step_of}
 use Rattle.carte_bench.specs.Turns.{TurnedTo}
 use Rattle.carte_bench.proofs.Cores.{sees_clean, sees_inputs}
 use Rattle.carte_bench.proofs.Puts.{put_here, put_apart}

@@ -11,3 +11,6 @@ pub mod Whys
 pub mod Ending
 pub mod Done
 pub mod Answered
+pub mod Ledgers
+pub mod Goings
+pub mod GivenUp

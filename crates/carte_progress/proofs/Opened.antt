@@ -1,6 +1,6 @@
 -- What stands once a name was demanded, or a path dropped.
-use Rattle.std.specs.Prelude.{is_none}
-use Rattle.std.proofs.Common.{◌≡◌, ℕ, Bool, true, false, List, [], ◌∷◌, Option, Some, None, refl, sym, ◌∙◌, subst, inl, inr, ◌⊎◌}
+use Rattle.std.specs.Prelude.{is_none, IfOk}
+use Rattle.std.proofs.Common.{◌≡◌, ℕ, Bool, true, false, List, [], ◌∷◌, Option, Some, None, Result, Ok, Err, refl, sym, ◌∙◌, subst, inl, inr, ◌⊎◌}
 use Rattle.carte_value.specs.Truths.{Among}
 use Rattle.carte_value.proofs.Members.{same_or_not}
 use Rattle.carte_book.specs.Book.{Item, input, rule, Book, content}
@@ -114,6 +114,10 @@ fresh_rule {J = J} b s n fresh held same = at (s n) refl fresh same
     at None is false apart = λ rule_there. cc
     at (Some x) is true apart = cc
     at (Some x) is false same_there = λ rule_there. (x, is)
+
+pub fresh_told : {J : Type 0} {E : Type 0} (b : Book) (s : Spots J) (n : List ℕ) (r : Result Bool E) → IsRule b n → IfOk r (λ unknown. unknown ≡ is_none (s n)) → IfOk r (IsFreshRule b s n)
+fresh_told b s n (Ok u) held same = fresh_rule b s n u held same
+fresh_told b s n (Err e) held same = tt
 
 -- so is what isn't done at a stop
 pub fresh_stop : {J : Type 0} (b : Book) (s : Spots J) (x : Stuck) (n : List ℕ) (fresh : Bool) → IsStopIn b x → x ≡ NotDone n → fresh ≡ is_none (s n) → IsFreshRule b s n fresh

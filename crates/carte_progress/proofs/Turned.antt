@@ -8,7 +8,7 @@ use Rattle.carte_effect.specs.declared.outcome.Made.{Made}
 use Rattle.carte_effect.specs.Ledger.{Ledger}
 use Rattle.carte_value.specs.declared.value.Value.{Value}
 use Rattle.carte_tree.specs.Tree.{Tree}
-use Rattle.carte_effect.specs.Sights.{Sight, not_done, missing, sight_of, IsStuck}
+use Rattle.carte_effect.specs.Sights.{Sight, not_done, missing, IsStuck}
 use Rattle.carte_book.specs.Book.{Item, input, rule, Book, content}
 use Rattle.carte_book.specs.Edits.{IsInput}
 use Rattle.carte_book.specs.Needs.{IsRule}

@@ -1,3 +1,4 @@
+pub mod Counted
 pub mod Standing
 pub mod Opening
 pub mod Progress

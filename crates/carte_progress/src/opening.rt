@@ -1,5 +1,6 @@
-ghost use Rattle.std.specs.Prelude.{◌≡◌, ◌∷◌, ℕ, List, None, true, is_none, IfOk, OnOk, OnErr};
+ghost use Rattle.std.specs.Prelude.{◌≡◌, ◌∷◌, ℕ, List, None, true, is_none, IsTrue, IfOk, OnOk, OnErr};
 ghost use Rattle.carte_book.specs.Book.{book_view};
+ghost use Rattle.carte_book.specs.Needs.{IsRule};
 ghost use Rattle.carte_record.specs.Kept.{kept_view};
 ghost use Rattle.carte_bench.specs.Held.{spots_of, book_of};
 ghost use Rattle.carte_bench.specs.Spots.{IsSame, name_of};
@@ -15,7 +16,8 @@ use std::alloc::Global;
 use std::collections::VecDeque;
 
 /// Demands a rule that the bench doesn't know and puts it before the path. A path that waits for any other name is dropped:
-/// that one has nothing, or no turn helps it. Where there is no memory, nothing has changed.
+/// that one has nothing, or no turn helps it. The bench is one over this book, and isn't asked for the name again. Where there
+/// is no memory, nothing has changed.
 pub fn open<R: Rebuilder>(
     alloc: Global,
     rebuilder: &R,
@@ -25,6 +27,7 @@ pub fn open<R: Rebuilder>(
     path: &mut VecDeque<Name>,
     name: Name,
 ) -> Result<(), NoMemory>
+    requires same_book { book_of bench.old ≡ book_view book.now }
     ensures book { book_of bench.new ≡ book_of bench.old }
     ensures kept { OnErr result (IsSame (spots_of bench.old) (spots_of bench.new)) }
     ensures path { OnErr result (path.new.items ≡ path.old.items) }
@@ -44,7 +47,8 @@ pub fn open_stop<R: Rebuilder>(
     path: &mut VecDeque<Name>,
     stuck: Stuck,
 ) -> Result<(), NoMemory>
-    requires { IsStopIn (book_view book.now) stuck }
+    requires stop { IsStopIn (book_view book.now) stuck }
+    requires same_book { book_of bench.old ≡ book_view book.now }
     ensures book { book_of bench.new ≡ book_of bench.old }
     ensures kept { OnErr result (IsSame (spots_of bench.old) (spots_of bench.new)) }
     ensures path { OnErr result (path.new.items ≡ path.old.items) }
@@ -70,7 +74,8 @@ fn open_if<R: Rebuilder>(
     name: Name,
     fresh: bool,
 ) -> Result<(), NoMemory>
-    requires { IsFreshRule (book_view book.now) (spots_of bench.old) name fresh }
+    requires fresh { IsFreshRule (book_view book.now) (spots_of bench.old) name fresh }
+    requires rule { IsTrue fresh → IsRule (book_of bench.old) name }
     ensures book { book_of bench.new ≡ book_of bench.old }
     ensures kept { OnErr result (IsSame (spots_of bench.old) (spots_of bench.new)) }
     ensures path { OnErr result (path.new.items ≡ path.old.items) }
@@ -83,7 +88,7 @@ fn open_if<R: Rebuilder>(
     let job = rebuilder.start(alloc, kept, book, &name)?;
     // Room first: what was demanded couldn't be taken back.
     path.reserve(1)?;
-    bench.demand(job)?;
+    bench.demand_rule(job)?;
     path.push_front_reserved(name);
     Ok(())
 }

@@ -12,9 +12,9 @@
 //!
 //! Two layers are proved, both of `carte_progress`. What stands on the bench (each open rule is on the path, or waits for a
 //! name that will never come) holds over any kept information and of any jobs, and gives that a build ends. What is known
-//! of values holds over kept information that is sound, and gives the rest. Here the ledger joins them: each key is started
-//! once, and exactly those that ran have ended. Over whatever is kept, what is done is finished under its own key, so a
-//! build that succeeds has finished each target that is a rule.
+//! of values, and of a ledger by which each key is started once, holds over kept information that is sound, and gives the
+//! rest. Over whatever is kept, what is done is finished under its own key, so a build that succeeds has finished each
+//! target that is a rule.
 //!
 //! Turned down: a set of stuck keys, since a key that was put aside is one that stands on the bench and isn't on the path;
 //! a recursion by needs, which would be as deep as the book; and a reason that the loop builds as it goes.

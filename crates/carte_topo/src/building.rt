@@ -108,7 +108,7 @@ fn treat<R: Rebuilder>(
     ensures advances { Advances R.Job.fits (R.how rebuilder.now) (kept_view kept.now) (book_view book.now) (spots_of bench.old) (spots_of bench.new) work.old work.new name.now result }
 {
     let job = rebuilder.start(alloc, kept, book, name)?;
-    let at = bench.demand(job)?;
+    let at = bench.demand_rule(job)?;
     let key = name.copy(alloc)?.hinted(at);
     let Some(made) = bench.turn(alloc, &key, &mut work.runs)? else {
         return Err(Fault::Stopped);

@@ -9,8 +9,8 @@ use Rattle.carte_sound.specs.Treated.{IsTreated}
 use Rattle.carte_rebuild.specs.declared.work.Work.{Work}
 use Rattle.carte_bench.specs.Spots.{Spots, IsSame}
 use Rattle.carte_bench.specs.Steps.{FitsOf, GivesOf}
-use Rattle.carte_suspend.specs.Going.{IsGoing}
-use Rattle.carte_suspend.proofs.Goings.{going_none}
+use Rattle.carte_progress.specs.Counted.{IsGoing}
+use Rattle.carte_progress.proofs.Goings.{going_none}
 use Rattle.carte_wave.specs.Waves.{State, DemandsEach, Waves, IsByWaves}
 use Rattle.carte_wave.proofs.Going.{WaveLaws, going_waves, going_demands}
 

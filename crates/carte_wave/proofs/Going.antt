@@ -23,9 +23,9 @@ use Rattle.carte_progress.proofs.Alongs.{GoOn, FitAll, along_same}
 use Rattle.carte_progress.proofs.Driving.{along_stopped, along_ended, ran_ended, not_run, stop_treated}
 use Rattle.carte_progress.proofs.Puts.{job_undone, undone_none}
 use Rattle.carte_progress.proofs.Seeing.{seen_put}
-use Rattle.carte_suspend.specs.Going.{IsCounted, IsGoing}
-use Rattle.carte_suspend.proofs.Ledgers.{counted_same, counted_stop, counted_end}
-use Rattle.carte_suspend.proofs.Goings.{going_opens}
+use Rattle.carte_progress.specs.Counted.{IsCounted, IsGoing}
+use Rattle.carte_progress.proofs.Ledgers.{counted_same, counted_stop, counted_end}
+use Rattle.carte_progress.proofs.Goings.{going_opens}
 use Rattle.carte_wave.specs.Laws.{FitsOn}
 use Rattle.carte_wave.specs.Waves.{State, Follows, DrivesKey, DrivesKeys, IsWave, Waves, ended, next, DemandsEach}
 use Rattle.carte_wave.proofs.Sets.{rising_once}

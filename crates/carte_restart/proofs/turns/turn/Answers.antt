@@ -29,8 +29,8 @@ drive-requires-clause-rule g c κs within =
     let there = ready_there (spots_of c.args.bench.now) (spots_of c.args.bench.now c.args.name) c.requires.standing.chain.0 in
     c.requires.standing.stands.rules c.args.name there.0 there.1
 
-pub open_stop-requires-after_bounds : goal.open_stop-requires-after_bounds
-open_stop-requires-after_bounds g c κs within =
+pub open_stop-requires-clause-stop : goal.open_stop-requires-clause-stop
+open_stop-requires-clause-stop g c κs within =
     let b = book_view c.args.book.now in
     let name = g.R.Job.Job.name in
     let started = g.R.Job.Job.started in

@@ -6,14 +6,14 @@ use Rattle.carte_record.specs.Kept.{kept_view}
 use Rattle.carte_sound.specs.Base.{IsBase}
 use Rattle.carte_bench.specs.Held.{spots_of, book_of}
 use Rattle.carte_bench.specs.Waits.{onward}
-use Rattle.carte_suspend.specs.Going.{IsGoing}
+use Rattle.carte_progress.specs.Counted.{IsGoing}
 use Rattle.carte_progress.specs.Progress.{HasDone}
 use Rattle.carte_progress.specs.Reasons.{FirstReason}
 use Rattle.carte_progress.specs.Standing.{IsDemanded}
-use Rattle.carte_suspend.proofs.Goings.{going_none}
+use Rattle.carte_progress.proofs.Goings.{going_none}
 use Rattle.carte_progress.proofs.Done.{done_none, target_known, none_of}
 use Rattle.carte_progress.proofs.Ending.{is_work, targets_clean, targets_reason, each_clean}
-use Rattle.carte_suspend.proofs.Ending.{nothing_given_up, started_once}
+use Rattle.carte_progress.proofs.GivenUp.{nothing_given_up, started_once}
 use Rattle.carte_suspend.proofs.building.build.Goals as goal
 
 pub returns-in-None-clause-ends : goal.returns-in-None-clause-ends

@@ -7,7 +7,7 @@ use Rattle.carte_progress.specs.Opening.{Opens}
 use Rattle.carte_progress.specs.Standing.{IsStanding}
 use Rattle.carte_progress.proofs.Done.{done_opens}
 use Rattle.carte_progress.proofs.Opened.{halted_target, stands_opens, known_opens}
-use Rattle.carte_suspend.proofs.Goings.{going_opens}
+use Rattle.carte_progress.proofs.Goings.{going_opens}
 use Rattle.carte_suspend.proofs.building.treat.Goals as goal
 
 no_names : (ks : List (List ℕ)) → length ks ≡ 0 → ks ≡ []

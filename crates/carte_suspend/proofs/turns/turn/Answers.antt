@@ -8,7 +8,7 @@ use Rattle.carte_bench.specs.Held.{spots_of}
 use Rattle.carte_bench.specs.Spots.{name_of}
 use Rattle.carte_bench.specs.Turns.{TurnedTo}
 use Rattle.carte_progress.specs.Opening.{Opens}
-use Rattle.carte_suspend.specs.Going.{IsGoing}
+use Rattle.carte_progress.specs.Counted.{IsGoing}
 use Rattle.carte_progress.proofs.Standings.{known_put}
 use Rattle.carte_progress.proofs.Opened.{stands_opens, known_opens}
 use Rattle.carte_progress.proofs.Turned.{stands_ended, turn_put, stop_in, stop_waits, turn_halts}
@@ -17,11 +17,11 @@ use Rattle.carte_progress.proofs.Answered.{on_ok, on_ok_by}
 use Rattle.carte_progress.proofs.Done.{done_opens, done_stopped, done_ended}
 use Rattle.carte_progress.proofs.Driving.{stop_treated}
 use Rattle.carte_progress.proofs.Alongs.{Laws}
-use Rattle.carte_suspend.proofs.Goings.{going_opens, going_ended, going_stopped}
+use Rattle.carte_progress.proofs.Goings.{going_opens, going_ended, going_stopped}
 use Rattle.carte_suspend.proofs.turns.turn.Goals as goal
 
-pub open_stop-requires-after_bounds : goal.open_stop-requires-after_bounds
-open_stop-requires-after_bounds g c κs within =
+pub open_stop-requires-clause-stop : goal.open_stop-requires-clause-stop
+open_stop-requires-clause-stop g c κs within =
     let b = book_view c.args.book.now in
     let name = g.R.Job.Job.name in
     let started = g.R.Job.Job.started in

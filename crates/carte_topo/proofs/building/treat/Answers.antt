@@ -21,12 +21,12 @@ returns-in_default-clause-advances g c given ks next so =
     let job = c.in_ok-job.job in
     let start = c.in_ok-job.ensures {u = tt} in
     let fit = g.met.R.Rebuilder.fits r K b given.0 (λ (q : List ℕ). None) k job given.1 start.begun in
-    let put = subst (λ (n : List ℕ). PutAt (spots_of c.args.bench.now) (spots_of c.demand.new.self) n (Ready job)) start.name (c.in_ok-at.ensures {u = tt}).demanded in
+    let put = subst (λ (n : List ℕ). PutAt (spots_of c.args.bench.now) (spots_of c.demand_rule.new.self) n (Ready job)) start.name (c.in_ok-at.ensures {u = tt}).demanded in
     let turned = rw c.in_default.is at (c.in_ok-made.ensures {u = tt}).turned in
     let same : c.hinted-key.result ≡ k = c.hinted-key.ensures ∙ c.in_ok-copy.ensures {u = tt} in
-    let keyed = subst (λ (n : List ℕ). TurnedTo g.R.Job.Job.name g.R.Job.Job.started g.R.Job.Job.gives (book_of c.demand.new.self) (spots_of c.demand.new.self) (spots_of c.turn.new.self) c.args.work.now.runs c.turn.new.runs n (Err turned.0)) same turned.1 in
-    let here = subst (λ (d : Book). TurnedTo g.R.Job.Job.name g.R.Job.Job.started g.R.Job.Job.gives d (spots_of c.demand.new.self) (spots_of c.turn.new.self) c.args.work.now.runs c.turn.new.runs k (Err turned.0)) (c.demand.ensures.book ∙ c.requires.same_book) keyed in
-    no_stop g.R.Job.Job.name g.R.Job.Job.started g.R.Job.Job.gives g.R.Job.Job.fits (g.R.Rebuilder.how r) K b (spots_of c.args.bench.now) (spots_of c.demand.new.self) (spots_of c.turn.new.self) ks k job (may_ask (g.R.Rebuilder.how r) b k) c.args.work.now c.turn.new.runs (g.met.R.Job.Job g.world.𝓛 g.world.𝓜 g.world.𝓡 ((λ s x. x), (λ x. x), (λ x. x), λ x. x)).fits_on next so c.requires.unknown put fit turned.0 here
+    let keyed = subst (λ (n : List ℕ). TurnedTo g.R.Job.Job.name g.R.Job.Job.started g.R.Job.Job.gives (book_of c.demand_rule.new.self) (spots_of c.demand_rule.new.self) (spots_of c.turn.new.self) c.args.work.now.runs c.turn.new.runs n (Err turned.0)) same turned.1 in
+    let here = subst (λ (d : Book). TurnedTo g.R.Job.Job.name g.R.Job.Job.started g.R.Job.Job.gives d (spots_of c.demand_rule.new.self) (spots_of c.turn.new.self) c.args.work.now.runs c.turn.new.runs k (Err turned.0)) (c.demand_rule.ensures.book ∙ c.requires.same_book) keyed in
+    no_stop g.R.Job.Job.name g.R.Job.Job.started g.R.Job.Job.gives g.R.Job.Job.fits (g.R.Rebuilder.how r) K b (spots_of c.args.bench.now) (spots_of c.demand_rule.new.self) (spots_of c.turn.new.self) ks k job (may_ask (g.R.Rebuilder.how r) b k) c.args.work.now c.turn.new.runs (g.met.R.Job.Job g.world.𝓛 g.world.𝓜 g.world.𝓡 ((λ s x. x), (λ x. x), (λ x. x), λ x. x)).fits_on next so c.requires.unknown put fit turned.0 here
 
 pub returns-clause-advances : goal.returns-clause-advances
 returns-clause-advances g c given ks next so =
@@ -37,13 +37,13 @@ returns-clause-advances g c given ks next so =
     let job = c.in_ok-job.job in
     let start = c.in_ok-job.ensures {u = tt} in
     let fit = g.met.R.Rebuilder.fits r K b given.0 (λ (q : List ℕ). None) k job given.1 start.begun in
-    let put = subst (λ (n : List ℕ). PutAt (spots_of c.args.bench.now) (spots_of c.demand.new.self) n (Ready job)) start.name (c.in_ok-at.ensures {u = tt}).demanded in
+    let put = subst (λ (n : List ℕ). PutAt (spots_of c.args.bench.now) (spots_of c.demand_rule.new.self) n (Ready job)) start.name (c.in_ok-at.ensures {u = tt}).demanded in
     let turned = rw c.in-Some.is at (c.in_ok-made.ensures {u = tt}).turned in
     let same : c.hinted-key.result ≡ k = c.hinted-key.ensures ∙ c.in_ok-copy.ensures {u = tt} in
-    let keyed = subst (λ (n : List ℕ). TurnedTo g.R.Job.Job.name g.R.Job.Job.started g.R.Job.Job.gives (book_of c.demand.new.self) (spots_of c.demand.new.self) (spots_of c.turn.new.self) c.args.work.now.runs c.turn.new.runs n (Ok c.in-Some.made)) same turned in
-    let here = subst (λ (d : Book). TurnedTo g.R.Job.Job.name g.R.Job.Job.started g.R.Job.Job.gives d (spots_of c.demand.new.self) (spots_of c.turn.new.self) c.args.work.now.runs c.turn.new.runs k (Ok c.in-Some.made)) (c.demand.ensures.book ∙ c.requires.same_book) keyed in
+    let keyed = subst (λ (n : List ℕ). TurnedTo g.R.Job.Job.name g.R.Job.Job.started g.R.Job.Job.gives (book_of c.demand_rule.new.self) (spots_of c.demand_rule.new.self) (spots_of c.turn.new.self) c.args.work.now.runs c.turn.new.runs n (Ok c.in-Some.made)) same turned in
+    let here = subst (λ (d : Book). TurnedTo g.R.Job.Job.name g.R.Job.Job.started g.R.Job.Job.gives d (spots_of c.demand_rule.new.self) (spots_of c.turn.new.self) c.args.work.now.runs c.turn.new.runs k (Ok c.in-Some.made)) (c.demand_rule.ensures.book ∙ c.requires.same_book) keyed in
     let finished = c.in_ok-finished.ensures {u = tt} in
-    one_more g.R.Job.Job.name g.R.Job.Job.started g.R.Job.Job.gives g.R.Job.Job.fits (g.R.Rebuilder.how r) K b (spots_of c.args.bench.now) (spots_of c.demand.new.self) (spots_of c.turn.new.self) ks k job (may_ask (g.R.Rebuilder.how r) b k) c.args.work.now c.turn.new.runs (g.met.R.Job.Job g.world.𝓛 g.world.𝓜 g.world.𝓡 ((λ s x. x), (λ x. x), (λ x. x), λ x. x)).fits_on next so c.requires.unknown put fit
+    one_more g.R.Job.Job.name g.R.Job.Job.started g.R.Job.Job.gives g.R.Job.Job.fits (g.R.Rebuilder.how r) K b (spots_of c.args.bench.now) (spots_of c.demand_rule.new.self) (spots_of c.turn.new.self) ks k job (may_ask (g.R.Rebuilder.how r) b k) c.args.work.now c.turn.new.runs (g.met.R.Job.Job g.world.𝓛 g.world.𝓜 g.world.𝓡 ((λ s x. x), (λ x. x), (λ x. x), λ x. x)).fits_on next so c.requires.unknown put fit
     (λ part a m q is_part gave. (g.met.R.Rebuilder.goes_on r K b given.0 (λ (n : List ℕ). None) k job part a (came m) q given.1 start.begun (λ i v never. cc) is_part gave).0)
     c.in-Some.made here c.in_ok-finished.finished finished.made finished.right start.idle _ (c.in_ok-push.ensures {u = tt}) refl
 
@@ -58,9 +58,9 @@ returns-clause-keys g c =
     let k = c.args.name.now in
     let job = c.in_ok-job.job in
     let start = c.in_ok-job.ensures {u = tt} in
-    let put = subst (λ (n : List ℕ). PutAt (spots_of c.args.bench.now) (spots_of c.demand.new.self) n (Ready job)) start.name (c.in_ok-at.ensures {u = tt}).demanded in
+    let put = subst (λ (n : List ℕ). PutAt (spots_of c.args.bench.now) (spots_of c.demand_rule.new.self) n (Ready job)) start.name (c.in_ok-at.ensures {u = tt}).demanded in
     let turned = rw c.in-Some.is at (c.in_ok-made.ensures {u = tt}).turned in
     let same : c.hinted-key.result ≡ k = c.hinted-key.ensures ∙ c.in_ok-copy.ensures {u = tt} in
-    let here = subst (λ (n : List ℕ). TurnedTo g.R.Job.Job.name g.R.Job.Job.started g.R.Job.Job.gives (book_of c.demand.new.self) (spots_of c.demand.new.self) (spots_of c.turn.new.self) c.args.work.now.runs c.turn.new.runs n (Ok c.in-Some.made)) same turned in
-    key_more g.R.Job.Job.keyed g.R.Job.Job.name g.R.Job.Job.started g.R.Job.Job.gives (g.met.R.Job.Job g.world.𝓛 g.world.𝓜 g.world.𝓡 ((λ s x. x), (λ x. x), (λ x. x), λ x. x)).keyed_on (book_of c.demand.new.self) (spots_of c.args.bench.now) (spots_of c.demand.new.self) (spots_of c.turn.new.self) c.args.work.now.runs c.turn.new.runs k job c.in-Some.made put
+    let here = subst (λ (n : List ℕ). TurnedTo g.R.Job.Job.name g.R.Job.Job.started g.R.Job.Job.gives (book_of c.demand_rule.new.self) (spots_of c.demand_rule.new.self) (spots_of c.turn.new.self) c.args.work.now.runs c.turn.new.runs n (Ok c.in-Some.made)) same turned in
+    key_more g.R.Job.Job.keyed g.R.Job.Job.name g.R.Job.Job.started g.R.Job.Job.gives (g.met.R.Job.Job g.world.𝓛 g.world.𝓜 g.world.𝓡 ((λ s x. x), (λ x. x), (λ x. x), λ x. x)).keyed_on (book_of c.demand_rule.new.self) (spots_of c.args.bench.now) (spots_of c.demand_rule.new.self) (spots_of c.turn.new.self) c.args.work.now.runs c.turn.new.runs k job c.in-Some.made put
     (g.met.R.Rebuilder.keyed r K b (λ (q : List ℕ). None) k job start.begun) here c.args.work.now.finished _ c.in_ok-finished.finished (c.in_ok-finished.ensures {u = tt}).made (c.in_ok-push.ensures {u = tt})

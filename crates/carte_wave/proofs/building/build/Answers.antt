@@ -10,7 +10,7 @@ use Rattle.carte_progress.specs.Reasons.{FirstReason}
 use Rattle.carte_progress.specs.Standing.{IsDemanded}
 use Rattle.carte_progress.proofs.Done.{target_known, none_of}
 use Rattle.carte_progress.proofs.Ending.{is_work, targets_clean, targets_reason, each_clean}
-use Rattle.carte_suspend.proofs.Ending.{nothing_given_up, started_once}
+use Rattle.carte_progress.proofs.GivenUp.{nothing_given_up, started_once}
 use Rattle.carte_wave.specs.Front.{line_of}
 use Rattle.carte_wave.specs.Waves.{DemandsEach}
 use Rattle.carte_wave.proofs.Builds.{by_waves, going_all}

@@ -1,5 +1,5 @@
 -- What is known of a bench, and of the ledger, after each step of a build.
-use Rattle.std.proofs.Common.{◌≡◌, ℕ, Bool, List, [], Option, Some, None, Result, Ok, Err, refl, sym, subst, inl, inr}
+use Rattle.std.proofs.Common.{◌≡◌, ℕ, Bool, List, [], Some, None, Result, Ok, Err, refl, sym, subst, inl, inr}
 use Rattle.carte_value.specs.Truths.{Truth, Among}
 use Rattle.carte_effect.specs.declared.look.Stuck.{Stuck}
 use Rattle.carte_effect.specs.declared.outcome.Made.{Made}
@@ -18,8 +18,8 @@ use Rattle.carte_progress.specs.Opening.{Opens, EndsKey}
 use Rattle.carte_progress.proofs.Alongs.{Laws, FitAll, along_none, along_opens}
 use Rattle.carte_progress.proofs.Driving.{turn_driven, along_stopped, along_ended, ran_ended, not_run}
 use Rattle.carte_progress.proofs.Turned.{turn_put}
-use Rattle.carte_suspend.specs.Going.{IsCounted, IsGoing}
-use Rattle.carte_suspend.proofs.Ledgers.{counted_same, counted_demand, counted_stop, counted_end}
+use Rattle.carte_progress.specs.Counted.{IsCounted, IsGoing}
+use Rattle.carte_progress.proofs.Ledgers.{counted_same, counted_demand, counted_stop, counted_end}
 
 -- nothing is known of an empty bench but that
 pub going_none : {J : Type 0} (started : J → Bool) (fits : FitsOf J) (begun : Truth → List ℕ → J → Type 0) (h : How) (K : SomeKept) (b : Book) (targets : List (List ℕ)) (s : Spots J) → IsSame (λ q. None) s → IsGoing started fits begun h K b targets s [] (record { starts = []; ends = [] })

@@ -12,13 +12,13 @@ use Rattle.carte_note.specs.declared.finished.Finished.{Finished}
 use Rattle.carte_rebuild.specs.declared.work.Work.{Work}
 use Rattle.carte_rebuild.specs.Ends.{NothingGivenUp, StartedOnce}
 use Rattle.carte_bench.specs.declared.slot.Slot.{Slot}
-use Rattle.carte_bench.specs.Spots.{Spots, is_done, job_in}
+use Rattle.carte_bench.specs.Spots.{Spots, is_done}
 use Rattle.carte_bench.specs.Steps.{FitsOf}
 use Rattle.carte_progress.specs.Standing.{IsStanding, IsDemanded}
 use Rattle.carte_progress.proofs.Ending.{none_left}
 use Rattle.carte_progress.proofs.Listing.{ran_keys}
 use Rattle.carte_progress.proofs.Puts.{job_there}
-use Rattle.carte_suspend.specs.Going.{IsGoing}
+use Rattle.carte_progress.specs.Counted.{IsGoing}
 
 pub nothing_given_up : {J : Type 0} (name : J → List ℕ) (b : Book) (s : Spots J) (standing : IsStanding name b s []) (started : J → Bool) (fits : FitsOf J) (begun : Truth → List ℕ → J → Type 0) (h : How) (K : SomeKept) (targets : List (List ℕ)) (fs : List Finished) (r : Ledger) (going : IsGoing started fits begun h K b targets s fs r) (demanded : (t : List ℕ) → Among targets t → IsRule b t → IsDemanded s t) (w : Work) → w.runs ≡ r → ((t : List ℕ) → Among targets t → IsClean b t) → NothingGivenUp w
 nothing_given_up name b s standing started fits begun h K targets fs r going demanded w runs all = record {

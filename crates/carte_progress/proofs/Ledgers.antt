@@ -13,7 +13,7 @@ use Rattle.carte_bench.specs.declared.slot.Slot.TheVariants.{Ready, Stopped, Don
 use Rattle.carte_bench.specs.Spots.{Spots, PutAt, IsSame, job_in, name_of}
 use Rattle.carte_bench.specs.Turns.{halted}
 use Rattle.carte_bench.proofs.Puts.{put_here, put_apart}
-use Rattle.carte_suspend.specs.Going.{IsRunning, IsCounted}
+use Rattle.carte_progress.specs.Counted.{IsRunning, IsCounted}
 use Rattle.carte_note.specs.Right.{has_run}
 use Rattle.carte_progress.proofs.Listing.{once_end, among_end}
 

@@ -1,3 +1,0 @@
-pub mod Ledgers
-pub mod Goings
-pub mod Ending
