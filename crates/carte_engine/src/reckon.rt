@@ -93,7 +93,7 @@ fn ran(alloc: Global, finished: &FinishedList) -> Result<Ran, NoMemory>
     Ok(Ran::of(each_once(finished, keys)))
 }
 
-// A scheduler finishes no key twice. That isn't asked of it here, since it can be seen.
+// Over what is sound no scheduler finishes a key twice. Over anything else that isn't known, so the list is looked at.
 fn each_once(finished: &FinishedList, keys: Vec<Name>) -> Vec<Name>
     requires { keys.items ≡ ran_in finished.now }
     ensures once { NoneTwice result.items }
