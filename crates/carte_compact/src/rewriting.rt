@@ -1,5 +1,5 @@
 // A rewriting of the file with the live information.
-ghost use Rattle.std.specs.Prelude.{◌≡◌, ◌<◌, ◌^◌, false, ℕ, List, None, IfOk};
+ghost use Rattle.std.specs.Prelude.{◌≡◌, ◌<◌, ◌^◌, false, List, None, IfOk};
 ghost use Rattle.carte_journal.specs.Regions.{IsRewritable, Planned, needs_with, region_end};
 ghost use Rattle.carte_record.specs.declared.batch.Batch.{Batch as SomeBatch};
 ghost use Rattle.carte_state.specs.Around.{over_disk};
@@ -10,7 +10,7 @@ ghost use Rattle.carte_compact.specs.Rewriting.{IsLiveRegion, Rewrites};
 use crate::bodies::live_bodies;
 use crate::lengths::{TraceLengths, length_with, live_length, trace_lengths};
 use carte_io::Disk;
-use carte_journal::{CommitFault, Region};
+use carte_journal::Region;
 use carte_record::Kept;
 use carte_state::{ApplyFault, State};
 use carte_value::NoMemory;
@@ -83,7 +83,7 @@ pub fn rewrite<D: Disk>(alloc: Global, state: &mut State, disk: &mut D) -> Resul
     let region = live_region(alloc, state)?;
     match state.rewrite(disk, &region) {
         Ok(()) => Ok(()),
-        Err(fault) => Err(fault_of(fault)),
+        Err(fault) => Err(ApplyFault::of(fault)),
     }
 }
 
@@ -92,14 +92,4 @@ fn live_region(alloc: Global, state: &State) -> Result<Region, NoMemory>
 {
     let bodies = live_bodies(alloc, state.kept())?;
     state.plan(alloc, &bodies)
-}
-
-fn fault_of(fault: CommitFault) -> ApplyFault
-    ensures disk { fault ≡ CommitFault.DiskFault → result ≡ ApplyFault.DiskFault }
-    ensures full { (needed limit : ℕ) → fault ≡ CommitFault.Full needed limit → result ≡ ApplyFault.Full needed limit }
-{
-    match fault {
-        CommitFault::DiskFault => ApplyFault::DiskFault,
-        CommitFault::Full { needed, limit } => ApplyFault::Full { needed, limit },
-    }
 }

@@ -18,6 +18,19 @@ pub enum ApplyFault {
     NoMemory,
 }
 
+impl ApplyFault {
+    /// What a commit's fault is to a caller of the state.
+    pub fn of(fault: CommitFault) -> ApplyFault
+        ensures disk { fault ≡ CommitFault.DiskFault → result ≡ ApplyFault.DiskFault }
+        ensures full { (needed limit : ℕ) → fault ≡ CommitFault.Full needed limit → result ≡ ApplyFault.Full needed limit }
+    {
+        match fault {
+            CommitFault::DiskFault => ApplyFault::DiskFault,
+            CommitFault::Full { needed, limit } => ApplyFault::Full { needed, limit },
+        }
+    }
+}
+
 impl From<NoMemory> for ApplyFault {
     ghost use Rattle.std.specs.Prelude.{◌≡◌};
     ghost use Rattle.carte_state.specs.declared.fault.ApplyFault.TheVariants.{NoMemory as OutOfMemory};
@@ -26,16 +39,5 @@ impl From<NoMemory> for ApplyFault {
 
     fn from(_: NoMemory) -> ApplyFault {
         ApplyFault::NoMemory
-    }
-}
-
-/// What a commit's fault is to a caller of `apply`.
-pub(crate) fn fault_of(fault: CommitFault) -> ApplyFault
-    ensures disk { fault ≡ CommitFault.DiskFault → result ≡ ApplyFault.DiskFault }
-    ensures full { (needed limit : ℕ) → fault ≡ CommitFault.Full needed limit → result ≡ ApplyFault.Full needed limit }
-{
-    match fault {
-        CommitFault::DiskFault => ApplyFault::DiskFault,
-        CommitFault::Full { needed, limit } => ApplyFault::Full { needed, limit },
     }
 }

@@ -19,7 +19,6 @@ ghost use Rattle.carte_journal.specs.Journals.{broke};
 ghost use Rattle.carte_journal.specs.Regions.{AreShort, IsPlannedOn, IsRegionOf, IsRewritable, bytes_of, calls_to_turn, needs_with, region_end, region_of, rewritten, told_bank};
 
 use crate::ApplyFault;
-use crate::fault::fault_of;
 use crate::made::Made;
 use crate::room::{Sizes, widen};
 use carte_io::Disk;
@@ -253,7 +252,7 @@ impl State {
         self.one = None;
         match self.journal.commit(disk, &frame) {
             Ok(()) => Ok(()),
-            Err(fault) => Err(fault_of(fault)),
+            Err(fault) => Err(ApplyFault::of(fault)),
         }
     }
 

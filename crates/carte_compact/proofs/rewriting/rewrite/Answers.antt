@@ -45,13 +45,13 @@ returns g c =
       | inl over ↦
           let full = c.rewrite.ensures.full over in
           let fault : c.in-Err.fault ≡ commit.Full (region_end p) old.journal.limit = cc (c.in-Err.is, full.0) in
-          rw (c.fault_of.ensures.full (region_end p) old.journal.limit fault)
+          rw (c.of.ensures.full (region_end p) old.journal.limit fault)
           (crammed d old c.rewrite.new.self ordered p live over
           (record { stand = full.1; disk = record { same = full.2; story = ap g.D.Disk.story full.2; faults = ap g.D.Disk.faults full.2 } }))
       | inr room ↦
           let fault : c.in-Err.fault ≡ commit.DiskFault = c.in-Err.ensures.room room in
           let is = c.in-Err.is ∙ ap Err fault in
-          rw (c.fault_of.ensures.disk fault)
+          rw (c.of.ensures.disk fault)
           (broken d old c.rewrite.new.self ordered p live room (λ told on. c.rewrite.ensures.steps told on) (c.rewrite.ensures.fault is)
           c.rewrite.ensures.cause.later (c.rewrite.ensures.cause.failed is) (λ told. c.in-Err.ensures.fewer told))
     ]

@@ -94,7 +94,7 @@ returns g c =
     let room = subst (λ (j : Standing). needed_for j (spelled_batch B) ≤ j.limit) (sym journal_is) c.in_ok-frame.ensures.room in
     let only : c.in-Err.fault ≡ DiskFault = c.in-Err.ensures.room (subst (λ body. needed_for c.self.inside.journal body ≤ c.self.inside.journal.limit) (sym c.in_ok-frame.ensures.frame) room) in
     let broke = c.commit.ensures.fault (c.in-Err.is ∙ ap Err only) in
-    rw (c.fault_of.ensures.disk only) (record {
+    rw (c.of.ensures.disk only) (record {
       comes = record {
         filled = filled;
         room = c.in_ok-frame.ensures.room;
