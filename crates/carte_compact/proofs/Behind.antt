@@ -1,16 +1,16 @@
 -- A rewriting and a batch behind it, as steps.
-use Rattle.std.proofs.Common.{◌≡◌, ◌⊎◌, ℕ, ◌<◌, Bool, true, false, if◌then◌else◌, List, [], ◌∷◌, ◌++◌, ap, ◌∙◌, subst, inl, inr, arith}
+use Rattle.std.proofs.Common.{◌≡◌, ◌⊎◌, ℕ, Bool, true, false, if◌then◌else◌, List, [], ◌∷◌, ◌++◌, ap, ◌∙◌, subst, inl, inr, arith}
 use Rattle.carte_io.specs.Stations.{IsAtOneOf, Step, StepsThrough}
-use Rattle.carte_io.proofs.Acknowledged.{AreMade, steps_leave, steps_then}
+use Rattle.carte_io.proofs.Acknowledged.{steps_leave, steps_then}
 use Rattle.carte_io.proofs.Images.{leaves_more}
 use Rattle.carte_journal.specs.Journals.{calls_of}
-use Rattle.carte_journal.proofs.Commits.{some_calls}
 use Rattle.carte_record.specs.Empty.{is_empty}
 use Rattle.carte_record.specs.Folds.{apply}
 use Rattle.carte_record.specs.Kept.{kept_view}
 use Rattle.carte_state.specs.Folding.{Keeps}
 use Rattle.carte_state.specs.States.{any_in, any_of, step_for}
 use Rattle.carte_state.specs.Versions.{AnyKept, InTwo, two_of}
+use Rattle.carte_state.proofs.Runs.{made_step_for}
 use Rattle.carte_compact.specs.Laws.{KeptThroughout, StationsBehind, StepsBehind}
 use Rattle.carte_compact.specs.Rewriting.{step_again}
 
@@ -23,11 +23,6 @@ kept_throughout s old new ordered steps =
     leaves_more old new (IsAtOneOf (Keeps s.journal.limit) (any_in s) (step_again s)) (Keeps s.journal.limit (any_in s)) (λ image at. one_of_two at)
     (steps_leave (Keeps s.journal.limit) (any_in s) (step_again s) old new ordered steps)
 
--- a batch's step makes some call
-made_if : (empty : Bool) (step : Step AnyKept) → 0 < step.calls → AreMade (if empty then [] else step ∷ [])
-made_if true step some = tt
-made_if false step some = (some, tt)
-
 pub steps_behind : StepsBehind
 steps_behind s t B old mid new renewed applied =
     let K = any_in s in
@@ -36,7 +31,7 @@ steps_behind s t B old mid new renewed applied =
     subst (λ limit. StepsThrough (Keeps limit) K (step_for t.journal K B) mid new) renewed.limit
     (subst (λ M. StepsThrough (Keeps t.journal.limit) M (step_for t.journal M B) mid new) same applied.steps) in
     steps_then (Keeps s.journal.limit) K (step_again s) (step_for t.journal K B) old mid new renewed.steps (omega (arith, renewed.calls)) applied.ordered
-    (made_if (is_empty B) (record { calls = calls_of t.journal; to = InTwo (apply B (two_of K)) }) (omega (arith, some_calls t.journal.fresh))) more
+    (made_step_for t.journal K B) more
 
 at_two : (At : AnyKept → List ℕ → Type 0) (K L : AnyKept) (calls : ℕ) (empty : Bool) (file : List ℕ)
     → At K file ⊎ IsAtOneOf At K (if empty then [] else let step : Step AnyKept = record { calls = calls; to = L } in step ∷ []) file → At K file ⊎ At (if empty then K else L) file

@@ -1,24 +1,21 @@
 -- Stretches of steps, one behind the other.
-use Rattle.std.proofs.Common.{◌≡◌, ◌⊎◌, ℕ, ◌+◌, ◌<◌, ◌≤◌, Bool, true, false, cond, if◌then◌else◌, List, [], ◌∷◌, ◌++◌, Some, None, Result, Ok, Err, sym, ◌∙◌, ap, subst, inl, inr, arith, append-nil}
+use Rattle.std.proofs.Common.{◌≡◌, ◌⊎◌, ℕ, ◌+◌, ◌<◌, ◌≤◌, Bool, true, false, cond, List, [], ◌∷◌, ◌++◌, Some, None, Result, Ok, Err, sym, ◌∙◌, ap, subst, inl, inr, arith, append-nil}
 use Rattle.carte_io.specs.Disk.{CountsUp, Story, moments}
 use Rattle.carte_io.specs.Stations.{Step, StepsThrough, calls_in, last_of}
 use Rattle.carte_io.proofs.Acknowledged.{AreMade, calls_in-append, last_of-append, steps_none, steps_then}
 use Rattle.carte_io.proofs.Images.{leaves_none}
-use Rattle.carte_journal.specs.Journals.{Standing, calls_of}
+use Rattle.carte_journal.specs.Journals.{Standing}
 use Rattle.carte_journal.specs.Regions.{calls_to_turn}
-use Rattle.carte_journal.proofs.Commits.{some_calls}
-use Rattle.carte_record.specs.Empty.{is_empty}
-use Rattle.carte_record.specs.Folds.{apply}
 use Rattle.carte_record.specs.declared.batch.Batch.{Batch}
 use Rattle.carte_state.specs.Applying.{Applies}
 use Rattle.carte_state.specs.Around.{OverDisk}
 use Rattle.carte_state.specs.Folding.{Keeps}
 use Rattle.carte_state.specs.States.{IsKeptOn, Stand, any_in, calls_for, step_for}
-use Rattle.carte_state.specs.Versions.{AnyKept, InTwo, apply_to, two_of}
+use Rattle.carte_state.specs.Versions.{AnyKept, apply_to}
 use Rattle.carte_state.specs.declared.fault.ApplyFault.{ApplyFault}
 use Rattle.carte_state.specs.declared.fault.ApplyFault.TheVariants.{DiskFault, Full, NoMemory}
 use Rattle.carte_state.proofs.Applies.{kept_leaves}
-use Rattle.carte_state.proofs.Runs.{calls_in-steps_of, last_of-steps_of}
+use Rattle.carte_state.proofs.Runs.{calls_in-steps_of, last_of-steps_of, made_step_for}
 use Rattle.carte_compact.specs.Rewriting.{step_again}
 use Rattle.carte_engine.specs.Committing.{HasPassed, behind, step_begun}
 
@@ -75,16 +72,9 @@ again_made s = (elim s.journal.bank as (λ bank. 0 < calls_to_turn bank) [ None 
     turned false = omega arith
 
 module _ (j : Standing) (K : AnyKept) (B : Batch) where
-  made_if : (empty : Bool) (step : Step AnyKept) → 0 < step.calls → AreMade (if empty then [] else step ∷ [])
-  made_if true step some = tt
-  made_if false step some = (some, tt)
-
-  batch_made : AreMade (step_for j K B)
-  batch_made = made_if (is_empty B) (record { calls = calls_of j; to = InTwo (apply B (two_of K)) }) (omega (arith, some_calls j.fresh))
-
   pub begun_made : (result : Result (Unit {0}) ApplyFault) → AreMade (step_begun j K B result)
-  begun_made (Ok done) = batch_made
-  begun_made (Err DiskFault) = batch_made
+  begun_made (Ok done) = made_step_for j K B
+  begun_made (Err DiskFault) = made_step_for j K B
   begun_made (Err (Full needed limit)) = tt
   begun_made (Err NoMemory) = tt
 

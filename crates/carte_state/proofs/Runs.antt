@@ -62,12 +62,12 @@ module _ (j : Standing) (K : AnyKept) (B : Batch) where
   last_of-step_for : last_of K (step_for j K B) ≡ apply_to B K
   last_of-step_for = last_if (is_empty B)
 
-  made_if : (empty : Bool) → AreMade (if empty then [] else let step : Step AnyKept = record { calls = calls_of j; to = InTwo (apply B (two_of K)) } in step ∷ [])
-  made_if true = tt
-  made_if false = (omega (arith, some_calls j.fresh), tt)
+  made_if : (empty : Bool) (step : Step AnyKept) → 0 < step.calls → AreMade (if empty then [] else step ∷ [])
+  made_if true step some = tt
+  made_if false step some = (some, tt)
 
-  made_step_for : AreMade (step_for j K B)
-  made_step_for = made_if (is_empty B)
+  pub made_step_for : AreMade (step_for j K B)
+  made_step_for = made_if (is_empty B) (record { calls = calls_of j; to = InTwo (apply B (two_of K)) }) (omega (arith, some_calls j.fresh))
 
 are_made : {A : Type 0} (bs cs : List (Step A)) → AreMade bs → AreMade cs → AreMade (bs ++ cs)
 are_made [] cs made more = more
