@@ -12,7 +12,7 @@ use Rattle.carte_record.specs.declared.entry.Entry.{Entry}
 use Rattle.carte_record.specs.declared.kept.Kept.{Kept}
 use Rattle.carte_record.specs.declared.way.Way.{Way}
 use Rattle.carte_record.specs.declared.way.Way.TheVariants.{Verifying, Constructive, Deep}
-use Rattle.carte_record.specs.Folds.{apply, batch_traces, carried, is_among, started}
+use Rattle.carte_record.specs.Folds.{applied, apply, batch_traces, carried, is_among, started}
 use Rattle.carte_record.specs.Kept.{kept_traces, kept_view, nothing_kept, staled, traces_in}
 use Rattle.carte_record.specs.Lookups.{entry_in, first_entry, is_entry_of}
 use Rattle.carte_record.specs.Marked.{marked_as}
@@ -20,7 +20,6 @@ use Rattle.carte_record.specs.Growth.{put_in}
 use Rattle.carte_record.proofs.Gone.{dropping_none}
 use Rattle.carte_record.proofs.Growing.{kept_same, no_traces}
 use Rattle.carte_record.proofs.Looked.{find_passes}
-use Rattle.carte_state.specs.Runs.{applied}
 use Rattle.carte_compact.specs.Laws.{LiveIsKept}
 use Rattle.carte_compact.specs.Live.{IsAllOf, chain_for, entry_at, found_at, has_no_keys, has_no_traces, is_bare, is_stale, keys_of, link_at, names_of, stale_at}
 use Rattle.carte_compact.proofs.Bare.{both, no_items}

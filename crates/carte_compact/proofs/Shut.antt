@@ -7,14 +7,14 @@ use Rattle.carte_record.specs.declared.batch.Batch.{Batch}
 use Rattle.carte_record.specs.declared.entry.Entry.{Entry}
 use Rattle.carte_record.specs.declared.kept.Kept.{Kept}
 use Rattle.carte_record.specs.Bodies.{IsBody, IsUnmarked}
-use Rattle.carte_record.specs.Folds.{apply}
+use Rattle.carte_record.specs.Folds.{applied, apply}
 use Rattle.carte_record.specs.Kept.{SomeKept, nothing_kept}
 use Rattle.carte_record.specs.Lookups.{first_entry}
 use Rattle.carte_record.specs.Marked.{marked_as}
 use Rattle.carte_state.specs.Folding.{IsFolded, Makes}
 use Rattle.carte_state.specs.Versions.{Fours, Fresh, InTwo}
 use Rattle.carte_state.specs.declared.any.AnyBatch.TheVariants.{Four}
-use Rattle.carte_state.specs.Runs.{AreUnmarked, applied}
+use Rattle.carte_state.specs.Runs.{AreUnmarked}
 use Rattle.carte_compact.specs.Lengths.{AreBodies, AreShort, bodies_length, region_length}
 use Rattle.carte_compact.specs.Live.{IsLive, entry_at, found_at, put}
 

@@ -5,9 +5,9 @@ use Rattle.carte_io.specs.Stations.{StepsThrough}
 use Rattle.carte_journal.specs.Regions.{calls_to_turn}
 use Rattle.carte_record.specs.declared.batch.Batch.{Batch}
 use Rattle.carte_record.specs.declared.kept.Kept.{Kept}
+use Rattle.carte_record.specs.Folds.{applied}
 use Rattle.carte_record.specs.Kept.{kept_view, nothing_kept}
 use Rattle.carte_state.specs.Folding.{Keeps}
-use Rattle.carte_state.specs.Runs.{applied}
 use Rattle.carte_state.specs.Versions.{apply_to}
 use Rattle.carte_state.specs.States.{Stand, any_in, step_for}
 use Rattle.carte_compact.specs.Due.{is_due}

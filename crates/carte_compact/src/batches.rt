@@ -1,7 +1,8 @@
 // The batches of the live information.
 ghost use Rattle.std.specs.Prelude.{◌≡◌, ◌∷◌, [], IfOk};
+ghost use Rattle.carte_record.specs.Folds.{applied};
 ghost use Rattle.carte_record.specs.Kept.{kept_view, nothing_kept};
-ghost use Rattle.carte_state.specs.Runs.{applied, AreUnmarked};
+ghost use Rattle.carte_state.specs.Runs.{AreUnmarked};
 ghost use Rattle.carte_compact.specs.Live.{IsAllOf, IsLive, IsSomeLive, chain_for, has_no_keys, has_no_traces, is_bare};
 
 use crate::entries::{entries_at, links_at, stale_at};

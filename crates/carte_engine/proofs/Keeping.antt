@@ -3,12 +3,13 @@ use Rattle.std.proofs.Common.{◌≡◌, ℕ, List, [], ◌∷◌, ◌++◌, sym
 use Rattle.carte_book.specs.Book.{Book}
 use Rattle.carte_record.specs.declared.batch.Batch.{Batch}
 use Rattle.carte_record.specs.declared.way.Way.TheVariants.{Verifying, Constructive, Deep}
+use Rattle.carte_record.specs.Folds.{applied}
 use Rattle.carte_record.specs.Kept.{SomeKept}
 use Rattle.carte_sound.specs.Base.{HasDistinctDigests}
 use Rattle.carte_sound.specs.Begun.{Beginning, IsBeginning, begin}
 use Rattle.carte_sound.specs.Held.{How, dirty, tracing}
 use Rattle.carte_sound.specs.LeadsTo.{Chaining, chain_behind, chain_stays}
-use Rattle.carte_sound.specs.Parts.{BringsParts, PartsRestarting, PartsSuspending, applied}
+use Rattle.carte_sound.specs.Parts.{BringsParts, PartsRestarting, PartsSuspending}
 use Rattle.carte_sound.specs.Results.{IsKeptNow}
 use Rattle.carte_sound.specs.Sound.{IsSound}
 use Rattle.carte_sound.specs.Treated.{IsDoneInOrder, IsDoneRestarting, IsDoneSuspending}

@@ -17,13 +17,12 @@ use Rattle.carte_record.specs.declared.entry.Entry.{Entry}
 use Rattle.carte_record.specs.declared.kept.Kept.{Kept}
 use Rattle.carte_record.specs.declared.start.Start.{Start}
 use Rattle.carte_record.specs.declared.start.Start.TheVariants.{GoOn, Cleared}
-use Rattle.carte_record.specs.Folds.{apply, is_among, started, without}
+use Rattle.carte_record.specs.Folds.{applied, apply, is_among, started, without}
 use Rattle.carte_record.specs.Kept.{SomeKept, kept_view, staled}
 use Rattle.carte_record.specs.Lookups.{entry_in}
 use Rattle.carte_sound.specs.Begun.{IsGone}
 use Rattle.carte_sound.specs.Marks as marks
 use Rattle.carte_sound.specs.Marks.{IsChanged, IsMarked, digest_in}
-use Rattle.carte_sound.specs.Parts.{applied}
 use Rattle.carte_mark.specs.Bases.{IsBegun}
 use Rattle.carte_mark.specs.declared.base.Begun.{Begun}
 use Rattle.carte_mark.specs.Marking.{ArePicked}

@@ -2,9 +2,9 @@ ghost use Rattle.std.specs.Prelude.{◌≡◌, ◌↔◌, ℕ, List, true, IfOk,
 ghost use Rattle.std.specs.HashMap.{get};
 ghost use Rattle.carte_name.specs.Names.{name_eq};
 ghost use Rattle.carte_book.specs.Book.{Book as SomeBook, book_view};
+ghost use Rattle.carte_record.specs.Folds.{applied};
 ghost use Rattle.carte_record.specs.Kept.{SomeKept, kept_view};
 ghost use Rattle.carte_sound.specs.Marks.{IsChanged};
-ghost use Rattle.carte_sound.specs.Parts.{applied};
 ghost use Rattle.carte_mark.specs.Bases.{IsBegun};
 ghost use Rattle.carte_mark.specs.Marking.{ArePicked, Pushes};
 ghost use Rattle.carte_mark.specs.Reached.{AreChanged};

@@ -11,13 +11,13 @@ use Rattle.carte_record.specs.declared.way.Way.{Way}
 use Rattle.carte_record.specs.declared.way.Way.TheVariants.{Verifying, Constructive, Deep}
 use Rattle.carte_record.specs.Bodies.{IsUnmarked}
 use Rattle.carte_record.specs.Empty.{brings_no_key, brings_no_trace, goes_on, is_empty}
-use Rattle.carte_record.specs.Folds.{apply, carried, started}
+use Rattle.carte_record.specs.Folds.{applied, apply, carried, started}
 use Rattle.carte_record.specs.Kept.{SomeKept, nothing_kept}
 use Rattle.carte_record.proofs.Growing.{kept_same}
 use Rattle.carte_sound.specs.LeadsTo.{empty_batch}
 use Rattle.carte_sound.specs.Lists.{EachOnce}
 use Rattle.carte_sound.proofs.Emptied.{empty_applied}
-use Rattle.carte_state.specs.Runs.{AreUnmarked, applied}
+use Rattle.carte_state.specs.Runs.{AreUnmarked}
 use Rattle.carte_compact.specs.Live.{IsLive}
 use Rattle.carte_compact.proofs.Bare.{both, no_items}
 use Rattle.carte_migrate.specs.Cleared.{cleared}

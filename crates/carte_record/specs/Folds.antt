@@ -1,4 +1,4 @@
--- What a batch makes of what is kept.
+-- What batches make of what is kept.
 use Rattle.std.specs.Prelude.{ℕ, Bool, ◌||◌, List, [], ◌∷◌, None, option_map, unwrap_or, false, if◌then◌else◌}
 use Rattle.std.specs.Option.{option_or}
 use Rattle.carte_name.specs.Names.{name_eq}
@@ -50,3 +50,8 @@ carried B K = record {
 
 abbrev pub apply : Batch → SomeKept → SomeKept
 apply B K = carried B (started B.start K)
+
+-- one after another
+abbrev pub applied : SomeKept → List Batch → SomeKept
+applied K [] = K
+applied K (B ∷ Bs) = applied (apply B K) Bs

@@ -12,8 +12,8 @@ use Rattle.carte_book.proofs.Clean.{tied_name}
 use Rattle.carte_mark.specs.Watching.{SameBut, Watches}
 use Rattle.carte_mark.specs.declared.watch.Watch.{Watch}
 use Rattle.carte_record.specs.declared.batch.Batch.{Batch}
+use Rattle.carte_record.specs.Folds.{applied}
 use Rattle.carte_record.specs.Kept.{SomeKept}
-use Rattle.carte_sound.specs.Parts.{applied}
 use Rattle.carte_state.specs.Around.{OverDisk}
 use Rattle.carte_state.specs.Runs.{applied_to}
 use Rattle.carte_state.specs.States.{Stand, any_in, any_of, kept_in}

@@ -4,7 +4,7 @@ use Rattle.carte_book.specs.Book.{Book}
 use Rattle.carte_mark.specs.Watching.{Watches}
 use Rattle.carte_mark.specs.declared.watch.Watch.{Watch}
 use Rattle.carte_record.specs.declared.batch.Batch.{Batch}
-use Rattle.carte_sound.specs.Parts.{applied}
+use Rattle.carte_record.specs.Folds.{applied}
 use Rattle.carte_state.specs.States.{Stand, kept_in}
 
 -- a watch, where there is one, watches what is kept beside the book

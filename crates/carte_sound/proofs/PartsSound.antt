@@ -5,7 +5,7 @@ use Rattle.std.proofs.lemmas.List.Concat.{flat_map-append}
 use Rattle.carte_value.specs.Truths.{NoneTwice}
 use Rattle.carte_book.specs.Book.{Book}
 use Rattle.carte_record.specs.declared.batch.Batch.{Batch}
-use Rattle.carte_record.specs.Folds.{apply}
+use Rattle.carte_record.specs.Folds.{applied, apply}
 use Rattle.carte_record.specs.Kept.{SomeKept}
 use Rattle.carte_sound.specs.Base.{HasDistinctDigests, IsBase}
 use Rattle.carte_sound.specs.Begun.{Beginning, begin}
@@ -14,7 +14,7 @@ use Rattle.carte_sound.specs.Finished.{AreFinished}
 use Rattle.carte_sound.specs.Held.{How}
 use Rattle.carte_sound.specs.LeadsTo.{Brings, Chaining, marks_left, traces_made}
 use Rattle.carte_sound.specs.Left.{Finishes, keys_of, left}
-use Rattle.carte_sound.specs.Parts.{AreOfParts, AreParts, AreSized, BringsParts, IsStationOf, applied, full_part, later_chain}
+use Rattle.carte_sound.specs.Parts.{AreOfParts, AreParts, AreSized, BringsParts, IsStationOf, full_part, later_chain}
 use Rattle.carte_sound.specs.Results.{IsKeptNow}
 use Rattle.carte_sound.specs.Sound.{IsSound}
 use Rattle.carte_sound.proofs.Begins.{behind_sound, begun_base, has_last}

@@ -7,13 +7,13 @@ use Rattle.carte_record.specs.declared.batch.Batch.{Batch}
 use Rattle.carte_record.specs.declared.entry.Entry.{Entry}
 use Rattle.carte_record.specs.declared.start.Start.TheVariants.{GoOn}
 use Rattle.carte_record.specs.declared.way.Way.TheVariants.{Verifying, Constructive, Deep}
-use Rattle.carte_record.specs.Folds.{apply}
+use Rattle.carte_record.specs.Folds.{applied, apply}
 use Rattle.carte_record.specs.Kept.{SomeKept}
 use Rattle.carte_sound.specs.Begun.{Beginning, begin, no_change}
 use Rattle.carte_sound.specs.Carries.{Carries}
 use Rattle.carte_sound.specs.Held.{How, dirty, tracing}
 use Rattle.carte_sound.specs.Left.{Finishes, add, add_all, left}
-use Rattle.carte_sound.specs.Parts.{AreOfParts, IsOfPart, applied, later_chain}
+use Rattle.carte_sound.specs.Parts.{AreOfParts, IsOfPart, later_chain}
 use Rattle.carte_sound.proofs.Applied.{difference_applied}
 use Rattle.carte_sound.proofs.Emptied.{unmarked}
 use Rattle.carte_sound.proofs.Rebased.{with_chain}

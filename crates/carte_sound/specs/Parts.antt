@@ -6,7 +6,7 @@ use Rattle.carte_record.specs.declared.batch.Batch.{Batch}
 use Rattle.carte_record.specs.declared.entry.Entry.{Entry}
 use Rattle.carte_record.specs.declared.start.Start.TheVariants.{GoOn}
 use Rattle.carte_record.specs.declared.way.Way.{Way}
-use Rattle.carte_record.specs.Folds.{batch_traces, apply}
+use Rattle.carte_record.specs.Folds.{batch_traces}
 use Rattle.carte_record.specs.Kept.{SomeKept}
 use Rattle.carte_value.specs.Lists.{Has}
 use Rattle.carte_sound.specs.Begun.{Beginning, IsBeginning, begin, no_change}
@@ -77,11 +77,6 @@ PartsSuspending h K b targets Bs = BringsParts h (λ M k. IsDoneSuspending h M b
 
 abbrev pub PartsRestarting : How → SomeKept → Book → List (List ℕ) → List Batch → Type 0
 PartsRestarting h K b targets Bs = BringsParts h (λ M k. IsDoneRestarting h M b targets k) chain_behind K b Bs
-
--- what is kept behind batches
-abbrev pub applied : SomeKept → List Batch → SomeKept
-applied K [] = K
-applied K (B ∷ Bs) = applied (apply B K) Bs
 
 -- a station of a build: what the keys leave that it finished first, and with its chain once all are
 pub record IsStationOf (h : How) (b : Book) (M : SomeKept) (finished : Finishes) (chain : List (List ℕ)) (L : SomeKept) : Type 0 where

@@ -9,7 +9,7 @@ use Rattle.carte_journal.specs.Frames.{BodyAt}
 use Rattle.carte_value.specs.declared.digest.Digest.{Digest}
 use Rattle.carte_value.specs.declared.link.Link.{Link}
 use Rattle.carte_table.specs.Lookups.{first_value, link_in}
-use Rattle.carte_record.specs.Folds.{apply, is_among, started}
+use Rattle.carte_record.specs.Folds.{applied, apply, is_among, started}
 use Rattle.carte_record.specs.Kept.{SomeKept, kept_view, nothing_kept, staled, traces_in}
 use Rattle.carte_record.specs.Lookups.{entry_in}
 use Rattle.carte_record.specs.declared.batch.Batch.{Batch}
@@ -24,7 +24,6 @@ use Rattle.carte_record.specs.Ways.{TraceBy}
 use Rattle.carte_state.specs.Columns.{AreColumns, HasEntriesOf, HasOthersOf, HasVerifyingOf, all_four, are_four, four_in, fours_at, fours_in, fours_of, is_any_four, is_four}
 use Rattle.carte_state.specs.Folding.{IsFolded}
 use Rattle.carte_state.specs.Parts.{AllPairs, AreFound, ReadsPart, bodies_in}
-use Rattle.carte_state.specs.Runs.{applied}
 use Rattle.carte_state.specs.Versions.{Fours, Fresh, IsBatchOf, Phase}
 use Rattle.carte_state.specs.declared.any.AnyBatch.{AnyBatch}
 use Rattle.carte_state.specs.declared.any.AnyBatch.TheVariants.{One, Three, Four}

@@ -8,12 +8,12 @@ use Rattle.carte_io.proofs.Images.{throughout_none}
 use Rattle.carte_journal.specs.Journals.{Standing, calls_of, committed}
 use Rattle.carte_journal.proofs.Commits.{some_calls}
 use Rattle.carte_record.specs.Bodies.{IsUnmarked, spelled_batch}
-use Rattle.carte_record.specs.Folds.{apply}
+use Rattle.carte_record.specs.Folds.{applied, apply}
 use Rattle.carte_record.specs.Kept.{SomeKept}
 use Rattle.carte_record.specs.declared.batch.Batch.{Batch}
 use Rattle.carte_record.specs.Empty.{is_empty}
 use Rattle.carte_state.specs.Folding.{Keeps}
-use Rattle.carte_state.specs.Runs.{AreUnmarked, BeginAll, EndsIn, applied, applied_to, calls_of_all, journal_behind, steps_of}
+use Rattle.carte_state.specs.Runs.{AreUnmarked, BeginAll, EndsIn, applied_to, calls_of_all, journal_behind, steps_of}
 use Rattle.carte_state.specs.States.{IsKeptOn, Stand, any_in, calls_for, journal_after, step_for}
 use Rattle.carte_state.specs.Versions.{AnyKept, Begins, InTwo, apply_to, two_of}
 use Rattle.carte_state.proofs.Applies.{kept_leaves}

@@ -4,8 +4,6 @@ use Rattle.carte_codec.specs.Each.{EachFits}
 use Rattle.carte_io.specs.Stations.{Step}
 use Rattle.carte_journal.specs.Journals.{Standing}
 use Rattle.carte_record.specs.Bodies.{IsUnmarked}
-use Rattle.carte_record.specs.Folds.{apply}
-use Rattle.carte_record.specs.Kept.{SomeKept}
 use Rattle.carte_record.specs.declared.batch.Batch.{Batch}
 use Rattle.carte_state.specs.Versions.{AnyKept, Begins, apply_to}
 use Rattle.carte_state.specs.States.{calls_for, journal_after, step_for}
@@ -20,11 +18,7 @@ abbrev pub BeginAll : AnyKept → List Batch → Type 0
 BeginAll K [] = Unit {0}
 BeginAll K (B ∷ Bs) = Begins K B
 
--- what is kept after them, of version 2 and of either, the journal and the calls
-abbrev pub applied : SomeKept → List Batch → SomeKept
-applied K [] = K
-applied K (B ∷ Bs) = applied (apply B K) Bs
-
+-- what is kept after them, the journal and the calls
 abbrev pub applied_to : AnyKept → List Batch → AnyKept
 applied_to K [] = K
 applied_to K (B ∷ Bs) = applied_to (apply_to B K) Bs

@@ -1,10 +1,10 @@
 // Batches of kind 4, cut into columns that don't touch one another, each put together by a thread of its own.
 ghost use Rattle.std.specs.Prelude.{◌≡◌, ◌<◌, ◌++◌, ◌∷◌, [], true, List, IfOk, OnOk, Some};
 ghost use Rattle.std.specs.List.{list_all};
+ghost use Rattle.carte_record.specs.Folds.{applied};
 ghost use Rattle.carte_record.specs.Kept.{kept_view, nothing_kept};
 ghost use Rattle.carte_record.specs.declared.batch.Batch.{Batch as SomeBatch};
 ghost use Rattle.carte_state.specs.Columns.{AreColumns, all_four, are_four, four_in, fours_at, fours_in, fours_of, is_four};
-ghost use Rattle.carte_state.specs.Runs.{applied};
 
 use crate::any::AnyBatch;
 use crate::parts::Found;

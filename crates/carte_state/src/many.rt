@@ -3,7 +3,8 @@ ghost use Rattle.std.specs.Prelude.{◌≡◌, ◌+◌, ◌↔◌, false, IsTrue
 ghost use Rattle.carte_io.specs.Causes.{HasCauseOf};
 ghost use Rattle.carte_io.specs.Stations.{StepsThrough};
 ghost use Rattle.carte_state.specs.Folding.{Keeps};
-ghost use Rattle.carte_state.specs.Runs.{AreUnmarked, BeginAll, EndsIn, applied, applied_to, calls_of_all, journal_behind, steps_of};
+ghost use Rattle.carte_record.specs.Folds.{applied};
+ghost use Rattle.carte_state.specs.Runs.{AreUnmarked, BeginAll, EndsIn, applied_to, calls_of_all, journal_behind, steps_of};
 ghost use Rattle.carte_state.specs.States.{IsKeptOn, any_in, kept_in};
 
 use crate::{ApplyFault, State};

@@ -18,7 +18,7 @@ use Rattle.carte_record.specs.declared.way.Way.{Way}
 use Rattle.carte_record.specs.declared.way.Way.TheVariants.{Verifying, Constructive, Deep}
 use Rattle.carte_record.specs.declared.start.Start.{Start}
 use Rattle.carte_record.specs.declared.start.Start.TheVariants.{Cleared, GoOn}
-use Rattle.carte_record.specs.Folds.{apply, batch_traces, carried, is_among, started}
+use Rattle.carte_record.specs.Folds.{applied, apply, batch_traces, carried, is_among, started}
 use Rattle.carte_record.specs.Growth.{put_in}
 use Rattle.carte_record.specs.Kept.{SomeKept, kept_view, nothing_kept, staled, traces_in}
 use Rattle.carte_record.specs.Lookups.{entry_in, first_entry, is_entry_of}
@@ -27,7 +27,6 @@ use Rattle.carte_record.specs.Marked.{marked_as}
 use Rattle.carte_record.proofs.Gone.{dropping_none}
 use Rattle.carte_record.proofs.Looked.{digest_eq_is, digest_eq_self, find_passes}
 use Rattle.carte_sound.specs.Lists.{EachOnce}
-use Rattle.carte_state.specs.Runs.{applied}
 use Rattle.carte_compact.specs.Live.{IsLive, IsSomeLive, entry_at, found_at, put}
 use Rattle.carte_compact.proofs.Found.{each_found, unlisted}
 use Rattle.carte_compact.proofs.Living.{is_kept, kept_again}

@@ -1,7 +1,7 @@
 // What is kept, trimmed.
 ghost use Rattle.std.specs.Prelude.{◌≡◌, IfOk};
+ghost use Rattle.carte_record.specs.Folds.{applied};
 ghost use Rattle.carte_record.specs.Kept.{kept_view, nothing_kept};
-ghost use Rattle.carte_state.specs.Runs.{applied};
 ghost use Rattle.carte_trim.specs.Trimmed.{IsNumberOf, IsTrimmed};
 
 use crate::cut::{Counts, cut_all};

@@ -1,5 +1,5 @@
 use Rattle.carte_sound.specs.LeadsTo.{chain_behind, chain_stays}
-use Rattle.carte_sound.specs.Parts.{applied}
+use Rattle.carte_record.specs.Folds.{applied}
 use Rattle.carte_sound.specs.Treated.{IsDoneInOrder, IsDoneRestarting, IsDoneSuspending}
 use Rattle.carte_sound.proofs.Keeping.{ordered_reached, restarted_reached, suspended_reached}
 use Rattle.carte_sound.proofs.Leading.{behind_once}

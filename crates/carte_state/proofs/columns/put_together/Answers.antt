@@ -1,8 +1,8 @@
 use Rattle.std.proofs.Common.{◌∙◌, ap, map-id, sym}
 use Rattle.std.proofs.lemmas.Iterator.Adapters.{YieldsList-from_vec}
 use Rattle.std.proofs.lemmas.Iterator.Consumers.{YieldsList-end}
+use Rattle.carte_record.specs.Folds.{applied}
 use Rattle.carte_record.specs.Kept.{kept_view, nothing_kept}
-use Rattle.carte_state.specs.Runs.{applied}
 use Rattle.carte_state.proofs.Runs.{kept_further}
 use Rattle.carte_state.proofs.columns.put_together.Goals as goal
 

@@ -1,5 +1,6 @@
 use Rattle.std.proofs.Common.{◌≡◌, ◌+◌, false}
-use Rattle.carte_state.specs.Runs.{applied, applied_to, calls_of_all, journal_behind}
+use Rattle.carte_record.specs.Folds.{applied}
+use Rattle.carte_state.specs.Runs.{applied_to, calls_of_all, journal_behind}
 use Rattle.carte_state.specs.States.{IsKeptOn, any_in, kept_in}
 use Rattle.carte_state.proofs.Runs.{SoFar}
 use Rattle.carte_state.proofs.many.apply_all.Given as goal

@@ -1,6 +1,6 @@
 use Rattle.std.proofs.Common.{◌≡◌}
+use Rattle.carte_record.specs.Folds.{applied}
 use Rattle.carte_record.specs.Kept.{kept_view, nothing_kept}
-use Rattle.carte_state.specs.Runs.{applied}
 use Rattle.carte_trim.proofs.trimmed.kept_of.Given as goal
 
 abbrev pub invariant-loop-batch : goal.invariant-loop-batch

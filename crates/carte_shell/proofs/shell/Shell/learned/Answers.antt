@@ -2,8 +2,8 @@ use Rattle.std.proofs.Common.{Result, Ok, Err, sym, ◌∙◌, subst}
 use Rattle.std.specs.Prelude.{IfOk}
 use Rattle.carte_book.specs.Book.{book_view}
 use Rattle.carte_mark.specs.Watching.{Watches}
+use Rattle.carte_record.specs.Folds.{applied}
 use Rattle.carte_record.specs.Kept.{kept_view}
-use Rattle.carte_sound.specs.Parts.{applied}
 use Rattle.carte_shell.proofs.shell.Shell.learned.Goals as goal
 
 if_ok : {A E : Type 0} {P Q : A → Type 0} (r : Result A E) → ((x : A) → P x → Q x) → IfOk r P → IfOk r Q
