@@ -1,10 +1,10 @@
 -- The live information makes of nothing what is kept.
-use Rattle.std.proofs.Common.{◌≡◌, ℕ, Bool, true, false, ◌&&◌, List, [], ◌∷◌, length, Option, Some, None, refl, ap, sym, ◌∙◌, inl, inr}
-use Rattle.std.specs.Prelude.{◌==◌, option_map, unwrap_or}
+use Rattle.std.proofs.Common.{◌≡◌, ℕ, Bool, true, false, ◌&&◌, List, [], ◌∷◌, Option, Some, None, refl, ap, sym, ◌∙◌, inl, inr}
+use Rattle.std.specs.Prelude.{option_map, unwrap_or}
 use Rattle.carte_value.specs.declared.digest.Digest.{Digest}
 use Rattle.carte_value.specs.declared.link.Link.{Link}
 use Rattle.carte_value.specs.Truths.{Among, IsListOf}
-use Rattle.carte_table.specs.Lookups.{digest_in, first_link, first_value, link_in}
+use Rattle.carte_table.specs.Lookups.{digest_in, first_link, link_in}
 use Rattle.carte_table.proofs.Found.{or_none}
 use Rattle.carte_table.proofs.Names.{name_eq_is}
 use Rattle.carte_record.specs.declared.batch.Batch.{Batch}
@@ -17,12 +17,12 @@ use Rattle.carte_record.specs.Kept.{kept_traces, kept_view, nothing_kept, staled
 use Rattle.carte_record.specs.Lookups.{entry_in, first_entry, is_entry_of}
 use Rattle.carte_record.specs.Marked.{marked_as}
 use Rattle.carte_record.specs.Growth.{put_in}
+use Rattle.carte_record.proofs.Empties.{bare_kept}
 use Rattle.carte_record.proofs.Gone.{dropping_none}
-use Rattle.carte_record.proofs.Growing.{kept_same, no_traces}
+use Rattle.carte_record.proofs.Growing.{kept_same}
 use Rattle.carte_record.proofs.Looked.{find_passes}
 use Rattle.carte_compact.specs.Laws.{LiveIsKept}
-use Rattle.carte_compact.specs.Live.{IsAllOf, chain_for, entry_at, found_at, has_no_keys, has_no_traces, is_bare, is_stale, keys_of, link_at, names_of, stale_at}
-use Rattle.carte_compact.proofs.Bare.{both, no_items}
+use Rattle.carte_compact.specs.Live.{IsAllOf, chain_for, entry_at, found_at, is_stale, keys_of, link_at, names_of, stale_at}
 use Rattle.carte_compact.proofs.Found.{among_let, each_found, unlisted}
 use Rattle.carte_compact.proofs.Repeats.{last_traces}
 use Rattle.carte_compact.proofs.Ties.{first_stays}
@@ -106,17 +106,6 @@ module _ (K : Kept) (names keys : List (List ℕ)) (seen : IsListOf (Among (name
 
 -- ---- all of it
 
-bare : (K : Kept) → is_bare K ≡ true → nothing_kept ≡ kept_view K
-bare K is =
-    let whole = both (has_no_keys K) (has_no_traces K) is in
-    let keys = both (length K.seen == 0 && length K.entries == 0) (length K.chain == 0 && length K.values == 0) whole.0 in
-    let named = both (length K.seen == 0) (length K.entries == 0) keys.0 in
-    let held = both (length K.chain == 0) (length K.values == 0) keys.1 in
-    let ways = both (length K.verifying == 0 && length K.constructive == 0) (length K.deep == 0) whole.1 in
-    let two = both (length K.verifying == 0) (length K.constructive == 0) ways.0 in
-    sym (kept_same (kept_view K) nothing_kept (λ k. ap (λ ls. first_link ls k) (no_items K.seen named.0)) (λ k. ap (λ es. first_entry es k) (no_items K.entries named.1))
-    (no_traces K (no_items K.verifying two.0) (no_items K.constructive two.1) (no_items K.deep ways.1)) (no_items K.chain held.0) (λ d. ap (λ vs. first_value vs d) (no_items K.values held.1)))
-
 pub is_kept : LiveIsKept
-is_kept K Bs (inl (none, is)) = ap (applied nothing_kept) is ∙ bare K none
+is_kept K Bs (inl (none, is)) = ap (applied nothing_kept) is ∙ sym (bare_kept K none)
 is_kept K Bs (inr (some, live)) = ap (applied nothing_kept) live.batches ∙ kept_again K live.names live.keys live.seen live.listed live.first live.all

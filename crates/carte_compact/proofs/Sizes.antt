@@ -16,9 +16,10 @@ use Rattle.carte_value.specs.declared.value.Value.{Value}
 use Rattle.carte_codec.specs.Parts.{spelled_count, spelled_link, spelled_list, spelled_option}
 use Rattle.carte_record.specs.declared.batch.Batch.{Batch}
 use Rattle.carte_record.specs.declared.kept.Kept.{Kept}
+use Rattle.carte_record.specs.Empty.{is_bare}
 use Rattle.carte_record.specs.Bodies.{spelled_back, spelled_deep, spelled_entry, spelled_front, spelled_names, spelled_start, spelled_trace}
 use Rattle.carte_compact.specs.Lengths.{back_size, front_size, region_length}
-use Rattle.carte_compact.specs.Live.{IsAllOf, IsLive, found_at, is_bare, keys_of, names_of, put}
+use Rattle.carte_compact.specs.Live.{IsAllOf, IsLive, found_at, keys_of, names_of, put}
 use Rattle.carte_compact.proofs.Found.{found_more}
 
 -- ---- names in order are one list

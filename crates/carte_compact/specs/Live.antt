@@ -1,5 +1,5 @@
 -- The live information: all that is kept, in one batch, without what no longer counts.
-use Rattle.std.specs.Prelude.{ℕ, Bool, true, false, ◌&&◌, ◌≡◌, ◌⊎◌, ◌==◌, List, [], ◌∷◌, length, map, filter, Option, Some, None, option_map}
+use Rattle.std.specs.Prelude.{ℕ, Bool, true, false, ◌≡◌, ◌⊎◌, List, [], ◌∷◌, map, filter, Option, Some, None, option_map}
 use Rattle.std.specs.List.Sorted.{IsPermutation, IsSortedByKey, IsStableByKey}
 use Rattle.carte_name.specs.Names.{name_cmp}
 use Rattle.carte_value.specs.declared.link.Link.{Link}
@@ -12,21 +12,12 @@ use Rattle.carte_record.specs.declared.entry.Entry.{Entry}
 use Rattle.carte_record.specs.declared.kept.Kept.{Kept}
 use Rattle.carte_record.specs.declared.start.Start.TheVariants.{GoOn}
 use Rattle.carte_record.specs.declared.way.Way.TheVariants.{Verifying, Constructive, Deep}
+use Rattle.carte_record.specs.Empty.{is_bare}
 use Rattle.carte_record.specs.Lookups.{first_entry}
 use Rattle.carte_record.specs.Marked.{marked_as}
 use Rattle.carte_record.specs.Latest.{last_ones}
 
 -- ---- what is kept
-
-abbrev pub has_no_keys : Kept → Bool
-has_no_keys K = (length K.seen == 0 && length K.entries == 0) && (length K.chain == 0 && length K.values == 0)
-
-abbrev pub has_no_traces : Kept → Bool
-has_no_traces K = (length K.verifying == 0 && length K.constructive == 0) && length K.deep == 0
-
--- nothing is kept
-abbrev pub is_bare : Kept → Bool
-is_bare K = has_no_keys K && has_no_traces K
 
 abbrev pub keys_of : List Entry → List (List ℕ)
 keys_of = map (λ e. e.key)

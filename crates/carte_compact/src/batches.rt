@@ -3,7 +3,7 @@ ghost use Rattle.std.specs.Prelude.{◌≡◌, ◌∷◌, [], IfOk};
 ghost use Rattle.carte_record.specs.Folds.{applied};
 ghost use Rattle.carte_record.specs.Kept.{kept_view, nothing_kept};
 ghost use Rattle.carte_state.specs.Runs.{AreUnmarked};
-ghost use Rattle.carte_compact.specs.Live.{IsAllOf, IsLive, IsSomeLive, chain_for, has_no_keys, has_no_traces, is_bare};
+ghost use Rattle.carte_compact.specs.Live.{IsAllOf, IsLive, IsSomeLive, chain_for};
 
 use crate::entries::{entries_at, links_at, stale_at};
 use crate::latest::last_ones;
@@ -20,7 +20,7 @@ pub fn live(alloc: Global, kept: &Kept) -> Result<Vec<Batch>, NoMemory>
     ensures kept { IfOk result (λ batches. applied nothing_kept batches.items ≡ kept_view kept.now) }
     ensures unmarked { IfOk result (λ batches. AreUnmarked batches.items) }
 {
-    if is_bare(kept) {
+    if kept.is_bare() {
         return Ok(Vec::new(alloc));
     }
     some_live(alloc, kept)
@@ -41,28 +41,6 @@ fn only(alloc: Global, batch: Batch) -> Result<Vec<Batch>, NoMemory>
     let mut batches = Vec::with_capacity(alloc, 1)?;
     batches.push(batch)?;
     Ok(batches)
-}
-
-/// Whether nothing is kept.
-pub(crate) fn is_bare(kept: &Kept) -> bool
-    ensures { result ≡ is_bare kept.now }
-{
-    has_no_keys(kept) && has_no_traces(kept)
-}
-
-fn has_no_keys(kept: &Kept) -> bool
-    ensures { result ≡ has_no_keys kept.now }
-{
-    kept.seen.is_empty()
-        && kept.entries.is_empty()
-        && kept.chain.is_empty()
-        && kept.values.is_empty()
-}
-
-fn has_no_traces(kept: &Kept) -> bool
-    ensures { result ≡ has_no_traces kept.now }
-{
-    kept.verifying.is_empty() && kept.constructive.is_empty() && kept.deep.is_empty()
 }
 
 // A batch with all that is kept.

@@ -8,7 +8,6 @@ ghost use Rattle.carte_value.specs.Truths.{Among, IsListOf};
 ghost use Rattle.carte_compact.specs.Lengths.{back_size, front_size, region_length};
 ghost use Rattle.carte_compact.specs.Live.{IsLive, chain_for, keys_of, names_of};
 
-use crate::batches::is_bare;
 use carte_record::Kept;
 use carte_table::{All, Compared};
 use carte_value::Names;
@@ -18,7 +17,7 @@ use carte_value::Names;
 pub fn least_length(kept: &Kept) -> u64
     ensures { (Bs : List SomeBatch) → IsLive kept.now Bs → result ≤ region_length Bs }
 {
-    if is_bare(kept) {
+    if kept.is_bare() {
         return 0;
     }
     match least_of(kept) {

@@ -8,7 +8,6 @@ ghost use Rattle.carte_table.specs.Latest.{last_ones};
 ghost use Rattle.carte_compact.specs.Lengths.{AreTraceLengths, back_size, front_size, region_length};
 ghost use Rattle.carte_compact.specs.Live.{IsLive, chain_for, entry_at, found_at, link_at, put, stale_at};
 
-use crate::batches::is_bare;
 use crate::content::Hashed;
 use crate::entries::stale_at;
 use crate::latest::last_first;
@@ -42,7 +41,7 @@ pub(crate) fn length_with(alloc: Global, kept: &Kept, traces: TraceLengths) -> R
     requires { AreTraceLengths kept.now traces.verifying traces.constructive traces.deep }
     ensures { IfOk result (λ n. (Bs : List SomeBatch) → IsLive kept.now Bs → n ≡ region_length Bs) }
 {
-    if is_bare(kept) {
+    if kept.is_bare() {
         return Ok(1);
     }
     let names = seen_names(alloc, &kept.seen)?;

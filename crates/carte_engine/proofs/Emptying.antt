@@ -1,49 +1,25 @@
 -- What the batch that empties a state makes of it.
-use Rattle.std.proofs.Common.{◌≡◌, ℕ, Bool, true, false, not, ◌&&◌, List, [], Option, Some, None, length, is_some, refl, ap, sym, ◌∙◌}
-use Rattle.std.specs.Prelude.{◌==◌, if◌then◌else◌}
+use Rattle.std.proofs.Common.{◌≡◌, Bool, true, false, not, ◌&&◌, List, [], Option, Some, None, is_some, refl, ap, sym, ◌∙◌}
+use Rattle.std.specs.Prelude.{if◌then◌else◌}
 use Rattle.std.proofs.Math.Path.{fun_ext}
-use Rattle.carte_value.specs.declared.link.Link.{Link}
-use Rattle.carte_value.specs.declared.value.Value.{Value}
 use Rattle.carte_record.specs.declared.batch.Batch.{Batch}
-use Rattle.carte_record.specs.declared.entry.Entry.{Entry}
 use Rattle.carte_record.specs.declared.kept.Kept.{Kept}
 use Rattle.carte_record.specs.declared.start.Start.TheVariants.{Cleared}
 use Rattle.carte_record.specs.declared.way.Way.{Way}
 use Rattle.carte_record.specs.declared.way.Way.TheVariants.{Verifying, Constructive, Deep}
-use Rattle.carte_record.specs.Empty.{is_empty}
+use Rattle.carte_record.specs.Empty.{is_bare, is_empty}
 use Rattle.carte_record.specs.Folds.{apply, batch_traces}
-use Rattle.carte_record.specs.Kept.{SomeKept, kept_traces, kept_view, nothing_kept, traces_in}
+use Rattle.carte_record.specs.Kept.{SomeKept, kept_view, nothing_kept, traces_in}
 use Rattle.carte_record.specs.Ways.{TraceBy}
-use Rattle.carte_table.specs.Lookups.{first_link, first_value}
-use Rattle.carte_record.specs.Lookups.{first_entry}
+use Rattle.carte_record.proofs.Empties.{bare_kept}
 use Rattle.carte_sound.specs.LeadsTo.{empty_batch}
 use Rattle.carte_sound.proofs.Emptied.{empty_applied}
-use Rattle.carte_plan.proofs.Lists.{both, empty_is, no_items}
+use Rattle.carte_plan.proofs.Lists.{empty_is}
 use Rattle.carte_record_one.specs.declared.kept.KeptOne.{KeptOne}
 use Rattle.carte_state.specs.States.{Stand, any_in, any_of}
 use Rattle.carte_state.specs.Versions.{Begins, InTwo, apply_to}
-use Rattle.carte_engine.specs.Clearing.{clearing, is_bare, keeps_nothing}
+use Rattle.carte_engine.specs.Clearing.{clearing, keeps_nothing}
 use Rattle.carte_engine.proofs.Raising.{apply_two}
-
--- where no list has an item nothing is kept
-bare_kept : (K : Kept) → is_bare K ≡ true → kept_view K ≡ nothing_kept
-bare_kept K is =
-    let halves = both (length K.chain == 0 && (length K.seen == 0 && length K.entries == 0)) ((length K.verifying == 0 && length K.constructive == 0) && (length K.deep == 0 && length K.values == 0)) is in
-    let first = both (length K.chain == 0) (length K.seen == 0 && length K.entries == 0) halves.0 in
-    let second = both (length K.seen == 0) (length K.entries == 0) first.1 in
-    let backs = both (length K.verifying == 0 && length K.constructive == 0) (length K.deep == 0 && length K.values == 0) halves.1 in
-    let third = both (length K.verifying == 0) (length K.constructive == 0) backs.0 in
-    let fourth = both (length K.deep == 0) (length K.values == 0) backs.1 in
-    ap (λ (ks : List (List ℕ)). record (kept_view K) { chain = ks }) (no_items K.chain first.0)
-    ∙ ap (λ (ls : List Link). record (kept_view K) { chain = []; seen = first_link ls }) (no_items K.seen second.0)
-    ∙ ap (λ (es : List Entry). record (kept_view K) { chain = []; seen = λ k. None; entries = first_entry es }) (no_items K.entries second.1)
-    ∙ ap (λ (vs : List Value). record (kept_view K) { chain = []; seen = λ k. None; entries = λ k. None; stored = first_value vs }) (no_items K.values fourth.1)
-    ∙ ap (λ (f : (w : Way) → List (TraceBy w)). record nothing_kept { traces = λ w k. traces_in w k (f w) [] }) (fun_ext (no_traces (no_items K.verifying third.0) (no_items K.constructive third.1) (no_items K.deep fourth.0)))
-  where
-    no_traces : K.verifying ≡ [] → K.constructive ≡ [] → K.deep ≡ [] → (w : Way) → kept_traces w K ≡ []
-    no_traces v c d Verifying = v
-    no_traces v c d Constructive = c
-    no_traces v c d Deep = d
 
 -- the batch, once the test is known
 abbrev pub cleared_by : Bool → Batch

@@ -1,4 +1,4 @@
--- An empty batch changes nothing.
+-- An empty batch changes nothing, and of lists with no item nothing is kept.
 use Rattle.std.proofs.Common.{◌≡◌, ℕ, Bool, true, false, ◌&&◌, List, [], ◌∷◌, Option, Some, None, refl, ap, ◌∙◌, length, arith}
 use Rattle.std.proofs.lemmas.Bool.{eqb-true}
 use Rattle.std.specs.Prelude.{◌==◌, is_none, option_map, unwrap_or}
@@ -6,16 +6,17 @@ use Rattle.std.specs.Option.{option_or}
 use Rattle.carte_record.specs.declared.start.Start.{Start}
 use Rattle.carte_record.specs.declared.start.Start.TheVariants.{GoOn, Cleared}
 use Rattle.carte_record.specs.declared.batch.Batch.{Batch}
+use Rattle.carte_record.specs.declared.kept.Kept.{Kept}
 use Rattle.carte_record.specs.declared.way.Way.{Way}
 use Rattle.carte_record.specs.declared.way.Way.TheVariants.{Verifying, Constructive, Deep}
-use Rattle.carte_table.specs.Lookups.{first_value, link_in}
-use Rattle.carte_record.specs.Lookups.{entry_in}
-use Rattle.carte_record.specs.Kept.{SomeKept, traces_in, staled}
+use Rattle.carte_table.specs.Lookups.{first_link, first_value, link_in}
+use Rattle.carte_record.specs.Lookups.{entry_in, first_entry}
+use Rattle.carte_record.specs.Kept.{SomeKept, kept_view, nothing_kept, traces_in, staled}
 use Rattle.carte_record.specs.Folds.{apply, started, carried, batch_traces, is_among}
-use Rattle.carte_record.specs.Empty.{goes_on, brings_no_key, brings_no_trace, drops_nothing, EmptyChangesNothing}
+use Rattle.carte_record.specs.Empty.{goes_on, brings_no_key, brings_no_trace, drops_nothing, is_bare, EmptyChangesNothing}
 use Rattle.carte_table.proofs.Found.{or_none}
 use Rattle.carte_record.specs.Growth.{put_in}
-use Rattle.carte_record.proofs.Growing.{kept_same}
+use Rattle.carte_record.proofs.Growing.{kept_same, no_traces}
 use Rattle.carte_record.proofs.Gone.{dropping_none}
 
 pub both : (b c : Bool) → b && c ≡ true → (b ≡ true) × (c ≡ true)
@@ -66,3 +67,15 @@ pub nothing_dropped : (B : Batch) (K : SomeKept) → drops_nothing B ≡ true �
 nothing_dropped B K is =
     let parts = both (goes_on B.start) (length B.gone == 0) is in
     ap (λ s. carried B (started s K)) (start_from B.start parts.0) ∙ dropping_none B K (nil_from B.gone parts.1)
+
+-- where no list has an item
+pub bare_kept : (K : Kept) → is_bare K ≡ true → kept_view K ≡ nothing_kept
+bare_kept K is =
+    let halves = both (length K.chain == 0 && (length K.seen == 0 && length K.entries == 0)) ((length K.verifying == 0 && length K.constructive == 0) && (length K.deep == 0 && length K.values == 0)) is in
+    let head = both (length K.chain == 0) (length K.seen == 0 && length K.entries == 0) halves.0 in
+    let tail = both (length K.verifying == 0 && length K.constructive == 0) (length K.deep == 0 && length K.values == 0) halves.1 in
+    let links = both (length K.seen == 0) (length K.entries == 0) head.1 in
+    let ways = both (length K.verifying == 0) (length K.constructive == 0) tail.0 in
+    let more = both (length K.deep == 0) (length K.values == 0) tail.1 in
+    kept_same (kept_view K) nothing_kept (λ k. ap (λ ls. first_link ls k) (nil_from K.seen links.0)) (λ k. ap (λ es. first_entry es k) (nil_from K.entries links.1))
+    (no_traces K (nil_from K.verifying ways.0) (nil_from K.constructive ways.1) (nil_from K.deep more.0)) (nil_from K.chain head.0) (λ d. ap (λ vs. first_value vs d) (nil_from K.values more.1))

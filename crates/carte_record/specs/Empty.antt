@@ -1,8 +1,9 @@
--- Batches with nothing in them.
+-- Batches with nothing in them, and lists in which nothing is kept.
 use Rattle.std.specs.Prelude.{Bool, true, false, ◌&&◌, ◌==◌, ◌≡◌, length, is_none}
 use Rattle.carte_record.specs.declared.start.Start.{Start}
 use Rattle.carte_record.specs.declared.start.Start.TheVariants.{GoOn, Cleared}
 use Rattle.carte_record.specs.declared.batch.Batch.{Batch}
+use Rattle.carte_record.specs.declared.kept.Kept.{Kept}
 use Rattle.carte_record.specs.Kept.{SomeKept}
 use Rattle.carte_record.specs.Folds.{apply}
 
@@ -26,3 +27,8 @@ EmptyChangesNothing = (B : Batch) (K : SomeKept) → is_empty B ≡ true → app
 -- it begins with all that is kept
 abbrev pub drops_nothing : Batch → Bool
 drops_nothing B = goes_on B.start && length B.gone == 0
+
+-- no list of what is kept has an item
+abbrev pub is_bare : Kept → Bool
+is_bare K = (length K.chain == 0 && (length K.seen == 0 && length K.entries == 0))
+    && ((length K.verifying == 0 && length K.constructive == 0) && (length K.deep == 0 && length K.values == 0))

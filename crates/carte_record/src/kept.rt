@@ -1,4 +1,5 @@
-ghost use Rattle.std.specs.Prelude.{◌≡◌, IfOk};
+ghost use Rattle.std.specs.Prelude.{◌≡◌, ◌&&◌, ◌==◌, IfOk, length};
+ghost use Rattle.carte_record.specs.Empty.{is_bare};
 ghost use Rattle.carte_record.specs.Kept.{kept_view, nothing_kept};
 ghost use Rattle.carte_record.specs.Folds.{with_marks, without};
 ghost use Rattle.carte_record.specs.Marked.{CanBeMarked, lists_marked};
@@ -35,6 +36,26 @@ impl Kept {
             chain: Names::new(alloc),
             values: Store::new(alloc, hasher),
         }
+    }
+
+    /// Whether nothing is kept.
+    pub fn is_bare(&self) -> bool
+        ensures { result ≡ is_bare self.now }
+    {
+        self.has_no_entry() && self.has_no_trace()
+    }
+
+    fn has_no_entry(&self) -> bool
+        ensures { result ≡ (length self.now.chain == 0 && (length self.now.seen == 0 && length self.now.entries == 0)) }
+    {
+        self.chain.is_empty() && (self.seen.is_empty() && self.entries.is_empty())
+    }
+
+    fn has_no_trace(&self) -> bool
+        ensures { result ≡ ((length self.now.verifying == 0 && length self.now.constructive == 0) && (length self.now.deep == 0 && length self.now.values == 0)) }
+    {
+        (self.verifying.is_empty() && self.constructive.is_empty())
+            && (self.deep.is_empty() && self.values.is_empty())
     }
 
     /// What its tables are made with, and those of a batch for it can be.

@@ -12,6 +12,7 @@ use Rattle.carte_record.specs.declared.kept.Kept.{Kept}
 use Rattle.carte_record.specs.declared.start.Start.TheVariants.{Cleared}
 use Rattle.carte_record.specs.declared.way.Way.{Way}
 use Rattle.carte_record.specs.declared.way.Way.TheVariants.{Verifying, Constructive, Deep}
+use Rattle.carte_record.specs.Empty.{is_bare}
 use Rattle.carte_record.specs.Folds.{apply, batch_traces}
 use Rattle.carte_record.specs.Kept.{SomeKept, kept_view, newest, nothing_kept, traces_in}
 use Rattle.carte_record.specs.Ways.{TraceBy, key_by, eq_by}
@@ -23,7 +24,7 @@ use Rattle.carte_sound.proofs.Tests.{name_self, digest_self}
 use Rattle.carte_record_one.specs.declared.kept.KeptOne.{KeptOne}
 use Rattle.carte_state.specs.States.{Stand, any_in, any_of}
 use Rattle.carte_state.specs.Versions.{InTwo, two_of}
-use Rattle.carte_engine.specs.Clearing.{clearing, is_bare}
+use Rattle.carte_engine.specs.Clearing.{clearing}
 use Rattle.carte_top.specs.Found.{IsClearing}
 
 both : (b c : Bool) → b && c ≡ true → (b ≡ true) × (c ≡ true)

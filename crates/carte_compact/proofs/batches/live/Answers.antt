@@ -1,6 +1,6 @@
 use Rattle.std.proofs.Common.{◌≡◌, true, false, [], inl, inr, rules}
 use Rattle.std.proofs.lemmas.Result.{IfOk-weaker}
-use Rattle.carte_compact.specs.Live.{is_bare}
+use Rattle.carte_record.specs.Empty.{is_bare}
 use Rattle.carte_compact.proofs.Living.{is_kept}
 use Rattle.carte_compact.proofs.Shut.{are_unmarked}
 use Rattle.carte_compact.proofs.batches.live.Goals as goal

@@ -1,5 +1,5 @@
 use Rattle.std.proofs.Common.{◌≡◌, false, rules}
-use Rattle.carte_compact.specs.Live.{is_bare}
+use Rattle.carte_record.specs.Empty.{is_bare}
 use Rattle.carte_compact.proofs.Sizes.{at_least}
 use Rattle.carte_compact.proofs.least.least_length.Goals as goal
 

@@ -1,5 +1,6 @@
 use Rattle.std.proofs.Common.{◌≡◌, false, ap, sym, ◌∙◌, rules}
-use Rattle.carte_compact.specs.Live.{is_bare, stale_at}
+use Rattle.carte_record.specs.Empty.{is_bare}
+use Rattle.carte_compact.specs.Live.{stale_at}
 use Rattle.carte_compact.specs.Lengths.{back_size, front_size}
 use Rattle.carte_compact.proofs.Sizes.{from_ok, if_there, in_all}
 use Rattle.carte_compact.proofs.lengths.length_with.Goals as goal
