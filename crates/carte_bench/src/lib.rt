@@ -33,3 +33,4 @@ pub use carte_book::Reason;
 pub use laws::{done_once, ended_has_reason, every_schedule, reason_is, turn_keeps};
 pub use place::Place;
 pub use slot::Slot;
+pub use turn::hashed;

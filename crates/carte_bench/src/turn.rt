@@ -88,8 +88,9 @@ impl<J: Job + Drop> Bench<'_, J> {
     }
 }
 
-// The same, where what was made has its digest.
-fn hashed(driven: Result<Made, Halt<Stuck>>, digests: &mut Digests) -> Result<Made, Halt<Stuck>>
+/// What a drive came to, where what was made has its digest: whoever drives a job takes it here, once, on the thread that
+/// made it.
+pub fn hashed(driven: Result<Made, Halt<Stuck>>, digests: &mut Digests) -> Result<Made, Halt<Stuck>>
     ensures { result ≡ driven }
 {
     match driven {

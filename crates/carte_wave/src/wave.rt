@@ -3,6 +3,7 @@ ghost use Rattle.carte_effect.specs.Jobs.{Gave, Counted};
 ghost use Rattle.carte_effect.specs.Ledger.{no_runs, with_later};
 ghost use Rattle.carte_wave.specs.Drives.{seen_by, stops_by, DrivesOne};
 
+use carte_bench::hashed;
 use carte_effect::{Digests, Halt, Job, Look, Made, Runs, Snapshot, Stuck};
 use carte_value::NoMemory;
 use std::alloc::Global;
@@ -77,17 +78,4 @@ fn drive<J: Job, L: Look>(
     let mut snapshot = Snapshot::with(look, digests);
     let driven = job.drive(alloc, &mut snapshot, runs);
     hashed(driven, digests)
-}
-
-// What was made takes its digest here, on the thread that made it.
-fn hashed(driven: Result<Made, Halt<Stuck>>, digests: &mut Digests) -> Result<Made, Halt<Stuck>>
-    ensures { result ≡ driven }
-{
-    match driven {
-        Ok(mut made) => {
-            made.hash(digests);
-            Ok(made)
-        }
-        Err(halt) => Err(halt),
-    }
 }
