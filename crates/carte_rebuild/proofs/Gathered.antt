@@ -10,7 +10,7 @@ use Rattle.carte_value.specs.declared.digest.Digest.{Digest}
 use Rattle.carte_value.specs.declared.link.Link.{Link}
 use Rattle.carte_name.specs.Names.{name_eq}
 use Rattle.carte_value.specs.Asks.{firsts}
-use Rattle.carte_tree.specs.Firsts.{seen_also, seen_all}
+use Rattle.carte_value.specs.Firsts.{seen_also, seen_all}
 use Rattle.carte_tree.proofs.Once.{firsts_all, seen_both}
 use Rattle.carte_sound.specs.Beneath.{gathered}
 use Rattle.carte_sound.specs.True.{linked_by}

@@ -2,7 +2,7 @@
 use Rattle.std.proofs.Common.{◌≡◌, ℕ, ◌+◌, ◌<◌, length, take, get_or, List, [], ◌∷◌, ◌++◌, ap, sym, ◌∙◌, append-nil}
 use Rattle.std.proofs.lemmas.List.{take_more}
 use Rattle.carte_value.specs.Asks.{firsts}
-use Rattle.carte_tree.specs.Firsts.{seen_all}
+use Rattle.carte_value.specs.Firsts.{seen_all}
 use Rattle.carte_tree.proofs.Once.{firsts_all}
 use Rattle.carte_task.specs.declared.code.Instr.{Instr}
 use Rattle.carte_task.specs.Mentions.{mentioned_by, mentions_in}

@@ -2,7 +2,7 @@
 
 ghost use Rattle.std.specs.Prelude.{◌≡◌, IfOk, OnOk};
 ghost use Rattle.carte_value.specs.Asks.{firsts};
-ghost use Rattle.carte_tree.specs.Firsts.{seen_also, seen_all};
+ghost use Rattle.carte_value.specs.Firsts.{seen_also, seen_all};
 ghost use Rattle.carte_task.specs.Mentions.{mentioned_by, mentions_in};
 
 use crate::code::Instr;

@@ -15,7 +15,7 @@ use Rattle.carte_tree.specs.declared.expr.Expr.{Expr}
 use Rattle.carte_tree.specs.declared.expr.Rest.{Rest}
 use Rattle.carte_tree.specs.declared.expr.Args.{Args}
 use Rattle.carte_tree.specs.declared.expr.Arg.{Arg}
-use Rattle.carte_tree.specs.Firsts.{seen_also, seen_all}
+use Rattle.carte_value.specs.Firsts.{seen_also, seen_all}
 use Rattle.carte_tree.proofs.Parts.{on_ok, chain_is, rest_out, args_out}
 
 filter_end : (p : List ℕ → Bool) (ks : List (List ℕ)) (k : List ℕ) → filter p (ks ++ k ∷ []) ≡ filter p ks ++ (cond (p k) (k ∷ []) [])

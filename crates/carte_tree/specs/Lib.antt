@@ -1,7 +1,6 @@
 pub mod Tree
 pub mod Code
 pub mod Formula
-pub mod Firsts
 pub mod Printed
 pub mod Coercions
 pub mod Numbers

@@ -1,6 +1,6 @@
 ghost use Rattle.std.specs.Prelude.{◌≡◌, IfOk, OnOk};
 ghost use Rattle.carte_value.specs.Areas.{IsArea, cells_of};
-ghost use Rattle.carte_tree.specs.Firsts.{seen_also, seen_all};
+ghost use Rattle.carte_value.specs.Firsts.{seen_also, seen_all};
 ghost use Rattle.carte_tree.specs.Code.{tree_of, chain_tree, rest_steps, args_tree, arg_tree};
 ghost use Rattle.carte_tree.specs.Formula.{IsExpr, AreChainSteps, AreCallArgs, IsCallArg, mentions, steps_mentions, args_mentions, arg_mentions, refs_of};
 

@@ -1,6 +1,8 @@
 pub mod Truths
 pub mod Lists
 pub mod Asks
+pub mod Firsts
+pub mod Numbers
 pub mod Runs
 pub mod Once
 pub mod Areas

@@ -27,6 +27,7 @@ mod asks_law;
 mod digest;
 mod items;
 mod link;
+mod numbering;
 mod printing;
 mod reading;
 mod reading_law;
@@ -44,6 +45,7 @@ pub use carte_name::{Kind, NAME_LIMIT, Name, NameFault, NoMemory, Seeded, cells_
 pub use digest::Digest;
 pub use items::{Items, LIST_LIMIT, Same};
 pub use link::{Link, Links, Names, Values};
+pub use numbering::Numbering;
 pub use printing::quoted;
 pub use reading::read_number;
 pub use reading_law::{one_reading, printed_reads};

@@ -2,7 +2,7 @@ use Rattle.std.proofs.Common.{◌≡◌, ◌≤◌, ◌<◌, length, get_or, ari
 use Rattle.carte_tree.specs.Tree.{args_of}
 use Rattle.carte_tree.specs.Code.{rest_steps, args_trees}
 use Rattle.carte_tree.specs.Formula.{steps_mentions, args_mentions}
-use Rattle.carte_tree.specs.Firsts.{seen_all}
+use Rattle.carte_value.specs.Firsts.{seen_all}
 use Rattle.std.proofs.lemmas.Grind.{common_steps}
 use Rattle.carte_tree.specs.declared.expr.Arg.{the_lemmas}
 use Rattle.carte_tree.proofs.Once.{chain_seen, chain_steps, rest_seen, steps_turn, args_seen, args_turn}

@@ -2,7 +2,7 @@ use Rattle.std.proofs.Common.{◌≡◌, drop}
 use Rattle.carte_tree.specs.Tree.{steps_of, args_of}
 use Rattle.carte_tree.specs.Code.{rest_steps, terms_of, args_trees}
 use Rattle.carte_tree.specs.Formula.{AreChainSteps, AreCallArgs, steps_mentions, args_mentions}
-use Rattle.carte_tree.specs.Firsts.{seen_all}
+use Rattle.carte_value.specs.Firsts.{seen_all}
 use Rattle.carte_topo.proofs.references.+seen.Given as goal
 
 abbrev pub invariant-see_rest-loop-operand : goal.invariant-see_rest-loop-operand

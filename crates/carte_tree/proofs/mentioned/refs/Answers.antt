@@ -1,6 +1,6 @@
 use Rattle.std.proofs.Common.{◌≡◌, [], rules}
 use Rattle.carte_tree.specs.Code.{tree_of}
-use Rattle.carte_tree.specs.Firsts.{seen_all}
+use Rattle.carte_value.specs.Firsts.{seen_all}
 use Rattle.carte_tree.specs.Formula.{mentions}
 use Rattle.carte_tree.proofs.Once.{listed_firsts}
 use Rattle.carte_tree.proofs.mentioned.refs.Goals as goal

@@ -1,5 +1,5 @@
 use Rattle.std.proofs.Common.{◌≡◌, take}
-use Rattle.carte_tree.specs.Firsts.{seen_all}
+use Rattle.carte_value.specs.Firsts.{seen_all}
 use Rattle.carte_tree.proofs.mentioned.see_cells.Given as goal
 
 abbrev pub invariant-loop-name : goal.invariant-loop-name
