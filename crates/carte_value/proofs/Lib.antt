@@ -1,5 +1,6 @@
 pub mod Asks
 pub mod Firsts
+pub mod Numbered
 pub mod Members
 pub mod Agreeing
 pub mod Stops

@@ -17,6 +17,9 @@
 //! Texts are read byte by byte into new memory and only then tried as UTF-8, rather than character by character: the
 //! bytes that are no text are then refused by what a text is, and not by a proof about characters.
 //!
+//! Where names are told apart one after the other, each gets a number, its place among them (`Numbering`): contracts see
+//! the list of the names, so what is kept by number above is still said of names.
+//!
 //! `specs/` also has what the crates above share: truths (what names have as values), computations that ask for the
 //! values of names, and lists of names. Their laws stand in `proofs/`.
 #![tactic(auto)]

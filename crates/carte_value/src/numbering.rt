@@ -1,7 +1,8 @@
 ghost use Rattle.std.specs.Prelude.{◌≡◌, ◌<◌, ◌^◌, [], ◌==◌, length, slice_get, option_copied, Some, IfOk, IfSome, OnOk, OnErr};
 ghost use Rattle.carte_value.specs.Firsts.{seen_also};
 ghost use Rattle.carte_value.specs.Numbers.{number_of};
-ghost use Rattle.carte_value.specs.Truths.{NoneTwice};
+ghost use Rattle.std.specs.List.{IsDistinct};
+ghost use Rattle.carte_name.specs.Names.{name_eq};
 
 use crate::{LIST_LIMIT, Name, Names, NoMemory, Seeded};
 use indexmap::IndexSet;
@@ -10,7 +11,7 @@ use std::marker::Model;
 
 /// Names with numbers: the number of a name is its place among them, counted from 0, and it keeps it. There are at most
 /// 2^32 - 1. Seen as the list of the names, in which none stands twice.
-#[derive(Debug, Drop)]
+#[derive(Drop)]
 pub struct Numbering {
     alloc: Global,
     names: IndexSet<Name, Seeded>,
@@ -77,7 +78,7 @@ impl Numbering {
     /// The names in the order of their numbers.
     pub fn as_slice(&self) -> &[Name]
         ensures names { result.now ≡ self.now }
-        ensures once { NoneTwice self.now }
+        ensures once { IsDistinct name_eq self.now }
     {
         self.names.as_slice()
     }
@@ -90,12 +91,23 @@ impl Numbering {
         ensures refused { OnErr result (self.new ≡ self.old) }
     {
         if self.names.len() >= LIST_LIMIT {
-            return self.find(name).ok_or(NoMemory);
+            return self.given(name);
         }
         let copy = name.copy(self.alloc)?;
         match self.names.insert_full(copy) {
             Ok((at, _)) => Ok(at as u32),
             Err(_) => Err(NoMemory),
+        }
+    }
+
+    // The number of a name where no other may get one.
+    fn given(&self, name: &Name) -> Result<u32, NoMemory>
+        ensures given { IfOk result (λ at. slice_get self.now at ≡ Some name.now) }
+        ensures known { OnOk result (seen_also self.now name.now ≡ self.now) }
+    {
+        match self.find(name) {
+            Some(number) => Ok(number),
+            None => Err(NoMemory),
         }
     }
 
