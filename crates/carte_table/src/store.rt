@@ -11,7 +11,7 @@ ghost use Rattle.std.specs.Option.{option_or};
 ghost use Rattle.carte_value.specs.Lists.{Begins};
 
 use crate::digest_key::DigestKey;
-use crate::table::{Table, add, add_place, first, forget, make_place, push, widen};
+use crate::table::{Table, add, add_place, first, forget, make_place, make_room, push, widen};
 use carte_codec::{items_length, with_item, without_item};
 use carte_value::{Digest, NoMemory, Seeded, Value};
 use std::alloc::Global;
@@ -89,11 +89,8 @@ impl Store {
     pub fn widen(&mut self, more: usize)
         ensures { self.new ≡ self.old }
     {
-        let has_few = self.values.len() < more / 2;
         widen(&mut self.values, &mut self.places, more);
-        if has_few {
-            let _room = self.digests.reserve_exact(more);
-        }
+        make_room(&mut self.digests, more);
     }
 
     /// How many values there are.

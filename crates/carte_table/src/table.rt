@@ -22,14 +22,14 @@ pub const MOST: usize = 4294967295;
 /// From how many items on a list grows by less than doubling.
 const LONG: usize = 1024;
 
-/// Makes room at once for so many more items and their keys, where the list is short beside them: then it takes just what
-/// it needs, and no table is made anew as it grows. A longer one grows as items come, since else each of many small
-/// batches would copy it. Where there is no memory for the room, putting an item behind the others says so.
+/// Makes room at once for so many more items and their keys, where the list is short beside them: then it takes little
+/// more than it needs, and no table is made anew as it grows. A longer one grows as items come, since else each of many
+/// small batches would copy it. Where there is no memory for the room, putting an item behind the others says so.
 pub fn widen<K: Eq + Hash, V, T>(items: &mut Vec<T>, table: &mut Table<K, V>, more: usize)
     ensures items { items.new.items ≡ items.old.items }
     ensures table { (q : K) → get K.eq table.new q ≡ get K.eq table.old q }
 {
-    if items.len() < more / 2 {
+    if wants_room(items, more) {
         let _places = table.reserve(more);
     }
     make_room(items, more);
@@ -39,9 +39,24 @@ pub fn widen<K: Eq + Hash, V, T>(items: &mut Vec<T>, table: &mut Table<K, V>, mo
 pub fn make_room<T>(items: &mut Vec<T>, more: usize)
     ensures { items.new.items ≡ items.old.items }
 {
-    if items.len() < more / 2 {
-        let _room = items.reserve_exact(more);
+    if wants_room(items, more) {
+        let _room = items.reserve_exact(with_spare(more));
     }
+}
+
+/// Whether a list is short beside so many items more, and hasn't room for most of them. How many come is guessed anew behind
+/// each batch, and a list that gets more room is copied with all the room that it had, so little more isn't worth it.
+fn wants_room<T>(items: &Vec<T>, more: usize) -> bool {
+    let room = items.capacity().saturating_sub(items.len());
+    items.len() < more / 2 && room < more - more / 8
+}
+
+/// So many items, and where they are many an eighth more, since they are guessed: room that nothing touches takes no memory.
+fn with_spare(more: usize) -> usize {
+    if more < LONG {
+        return more;
+    }
+    more.saturating_add(more / 8)
 }
 
 /// Makes a place for one more item. A long list that is full grows by a quarter of itself and isn't doubled: what was
