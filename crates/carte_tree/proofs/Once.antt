@@ -1,9 +1,8 @@
 -- Each name once, as names come one after the other.
-use Rattle.std.proofs.Common.{◌≡◌, ℕ, ◌+◌, Some, take, get_or, Bool, true, false, not, cond, ◌||◌, List, [], ◌∷◌, ◌++◌, refl, ap, sym, ◌∙◌, filter, append_assoc, append-nil, ◌<◌, ◌≤◌, length, drop, subst, Result, IfOk, OnOk}
+use Rattle.std.proofs.Common.{◌≡◌, ℕ, ◌+◌, take, get_or, Bool, true, false, not, cond, ◌||◌, List, [], ◌∷◌, ◌++◌, refl, ap, sym, ◌∙◌, filter, append_assoc, append-nil, ◌<◌, ◌≤◌, length, drop, subst, Result, IfOk, OnOk}
 use Rattle.std.proofs.lemmas.Result.{IfOk-weaker}
-use Rattle.std.specs.List.{list_any, slice_get}
+use Rattle.std.specs.List.{list_any}
 use Rattle.std.proofs.lemmas.List.{take_more, drop_all, drop_more}
-use Rattle.std.proofs.lemmas.Option.{get_or_from_slice_get, slice_get_within}
 use Rattle.std.specs.Cmp.Lexicographic.{bytes_decides, nat_list_eq_equiv}
 use Rattle.carte_name.specs.Names.{name_eq}
 use Rattle.carte_value.specs.Asks.{firsts}
@@ -79,13 +78,6 @@ seen_end ks (j ∷ js) k = seen_end (seen_also ks j) js k
 pub seen_more : (xs : List (List ℕ)) (at : ℕ) (k : List ℕ) (start now new : List (List ℕ)) → at < length xs → k ≡ get_or xs at k → now ≡ seen_all start (take at xs) → new ≡ seen_also now k → new ≡ seen_all start (take (at + 1) xs)
 seen_more xs at k start now new within is before after =
     after ∙ ap (λ ks. seen_also ks k) before ∙ sym (seen_end start (take at xs) k) ∙ ap (seen_all start) (ap (λ j. take at xs ++ j ∷ []) is ∙ sym (take_more xs at k within))
-
--- the next key of a set was listed
-pub keys_more : (keys : List (List ℕ)) (at : ℕ) (k name : List ℕ) (now new : List (List ℕ)) → slice_get keys at ≡ Some k → now ≡ take at keys → name ≡ k → new ≡ now ++ name ∷ [] → new ≡ take (at + 1) keys
-keys_more keys at k name now new here before named put =
-    let within = slice_get_within keys at k here in
-    let item : get_or keys at k ≡ k = get_or_from_slice_get keys at k k here in
-    put ∙ ap (λ ks. ks ++ name ∷ []) before ∙ ap (λ j. take at keys ++ j ∷ []) (named ∙ sym item) ∙ sym (take_more keys at k within)
 
 -- some names, and then some more
 pub seen_both : (ks is js : List (List ℕ)) → seen_all ks (is ++ js) ≡ seen_all (seen_all ks is) js

@@ -4,4 +4,4 @@ use Rattle.carte_task.specs.Mentions.{mentions_in}
 use Rattle.carte_task.proofs.mentioned.names_in.Given as goal
 
 abbrev pub invariant-loop-instr : goal.invariant-loop-instr
-invariant-loop-instr l = l.seen.keys ≡ firsts (mentions_in (take l.instr-index l.code))
+invariant-loop-instr l = l.seen ≡ firsts (mentions_in (take l.instr-index l.code))

@@ -7,6 +7,6 @@ use Rattle.carte_tree.proofs.mentioned.refs.Goals as goal
 
 pub returns : goal.returns
 returns c =
-    let none : c.with_hasher-seen.result.keys ≡ [] = search rules in
-    let seen : c.see_expr.new.seen.keys ≡ seen_all c.with_hasher-seen.result.keys (mentions (tree_of c.args.expr.now)) = search rules in
-    listed_firsts c.listed.result c.see_expr.new.seen.keys c.with_hasher-seen.result.keys (mentions (tree_of c.args.expr.now)) none seen c.listed.ensures
+    let none : c.new-seen.result ≡ [] = search rules in
+    let seen : c.see_expr.new.seen ≡ seen_all c.new-seen.result (mentions (tree_of c.args.expr.now)) = search rules in
+    listed_firsts c.list.result c.see_expr.new.seen c.new-seen.result (mentions (tree_of c.args.expr.now)) none seen c.list.ensures

@@ -3,4 +3,4 @@ use Rattle.carte_value.specs.Firsts.{seen_all}
 use Rattle.carte_tree.proofs.mentioned.see_cells.Given as goal
 
 abbrev pub invariant-loop-name : goal.invariant-loop-name
-invariant-loop-name l = l.seen.keys ≡ seen_all l.fn.seen.keys (take l.name-index l.name-items)
+invariant-loop-name l = l.seen ≡ seen_all l.fn.seen (take l.name-index l.name-items)
