@@ -200,3 +200,23 @@ fn want_of_memory_has_its_line(rt: HostRuntime) -> Result<(), Fail> {
     assert_eq!(rt; said, "carte: out of memory\n");
     Ok(())
 }
+
+// A generated book of as many keys as are drawn at most. What is built is kept, and isn't built again.
+const LARGE: &str = "generate none s 7 65536";
+
+#[test]
+fn large_book(rt: HostRuntime) -> Result<(), Fail> {
+    let alloc = rt.alloc();
+    let mut state = Box::new(alloc, MemDisk::of(alloc, &[], &[])?)?;
+    let first = shown(&rt, alloc, LARGE, "", &mut state)?;
+    let again = shown(&rt, alloc, LARGE, "", &mut state)?;
+    for text in [&first, &again] {
+        assert!(rt;
+            text.as_str().starts_with("0\nkeys 65536, inputs 6553\n"),
+            "{}",
+            text
+        );
+    }
+    assert!(rt; again.as_str().contains("\nran 0, "), "{again}");
+    Ok(())
+}
