@@ -1,6 +1,6 @@
 -- Gathering the names that were seen with other digests.
 use Rattle.std.proofs.Common.{◌≡◌, ◌⊎◌, ℕ, suc, ◌+◌, ◌<◌, ◌≤◌, Bool, true, false, not, ◌||◌, cond, List, [], ◌∷◌, length, Option, Some, None, slice_get, find, refl, ap, sym, ◌∙◌, subst, inl, inr, arith}
-use Rattle.indexmap.specs.IndexSet.{insert_key}
+use Rattle.carte_value.specs.Firsts.{seen_also}
 use Rattle.carte_value.specs.declared.digest.Digest.{Digest}
 use Rattle.carte_value.specs.declared.link.Link.{Link}
 use Rattle.carte_name.specs.Names.{name_eq}
@@ -56,7 +56,7 @@ adds_none K b l names test = record { only = λ q among. inl among; stays = λ q
     on false is test first c = untold K b l.name (K.seen l.name) refl (off (has_changed (K.seen l.name) (present b l.name)) test) c
 
 -- and else the name
-pub adds_name : (K : SomeKept) (b : Book) (l : Link) (old new : List (List ℕ)) → has_changed (K.seen l.name) (present b l.name) ≡ true → new ≡ insert_key name_eq old l.name → AddsChanged K b l old new
+pub adds_name : (K : SomeKept) (b : Book) (l : Link) (old new : List (List ℕ)) → has_changed (K.seen l.name) (present b l.name) ≡ true → new ≡ seen_also old l.name → AddsChanged K b l old new
 adds_name K b l old new test is = subst (AddsChanged K b l old) (sym is) (record {
   only = λ q among. elim (put_only old (l.name ∷ []) q among) [
     | inl was ↦ inl was

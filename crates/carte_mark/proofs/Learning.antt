@@ -1,8 +1,7 @@
 -- What is learned of a batch.
 use Rattle.std.proofs.Common.{◌≡◌, ◌⊎◌, ℕ, suc, ◌+◌, ◌<◌, ◌≤◌, Bool, true, false, cond, List, [], ◌∷◌, ◌++◌, length, Option, Some, None, slice_get, refl, ap, sym, ◌∙◌, subst, inl, inr, arith}
 use Rattle.std.specs.Option.{option_or}
-use Rattle.indexmap.specs.IndexSet.{insert_key}
-use Rattle.carte_name.specs.Names.{name_eq}
+use Rattle.carte_value.specs.Firsts.{seen_also}
 use Rattle.carte_value.specs.declared.link.Link.{Link}
 use Rattle.carte_value.specs.Truths.{Among}
 use Rattle.carte_table.specs.Lookups.{digest_in, find_last, is_link_of}
@@ -25,10 +24,10 @@ grows_on ks js is d e f first second = record {
 }
 
 -- a name was suspected
-pub grows_put : (ks js : List (List ℕ)) (d : Users) (k : List ℕ) → js ≡ insert_key name_eq ks k → Grows ks d js d
+pub grows_put : (ks js : List (List ℕ)) (d : Users) (k : List ℕ) → js ≡ seen_also ks k → Grows ks d js d
 grows_put ks js d k is = subst (λ is. Grows ks d is d) (sym is) (record { suspects = λ q among. put_stays ks (k ∷ []) q among; users = λ q j among. among })
 
-pub there_put : (ks js : List (List ℕ)) (k : List ℕ) → js ≡ insert_key name_eq ks k → Among js k
+pub there_put : (ks js : List (List ℕ)) (k : List ℕ) → js ≡ seen_also ks k → Among js k
 there_put ks js k is = subst (λ is. Among is k) (sym is) (put_there ks (k ∷ []) k (inl refl))
 
 -- the last item that passes stands in the list
@@ -59,7 +58,7 @@ SeenBefore ks ls end = (i : ℕ) (l : Link) → i < end → slice_get ls i ≡ S
 pub seen_first : (ks : List (List ℕ)) (ls : List Link) → SeenBefore ks ls 0
 seen_first ks ls i l below there = absurd (omega arith)
 
-pub seen_more : (ks js : List (List ℕ)) (ls : List Link) (at : ℕ) (l : Link) → slice_get ls at ≡ Some l → js ≡ insert_key name_eq ks l.name → SeenBefore ks ls at → SeenBefore js ls (at + 1)
+pub seen_more : (ks js : List (List ℕ)) (ls : List Link) (at : ℕ) (l : Link) → slice_get ls at ≡ Some l → js ≡ seen_also ks l.name → SeenBefore ks ls at → SeenBefore js ls (at + 1)
 seen_more ks js ls at l here is so i m below there = elim (either below) [
   | inl before ↦ subst (λ is. Among is m.name) (sym is) (put_stays ks (l.name ∷ []) m.name (so i m before there))
   | inr now ↦
@@ -87,14 +86,14 @@ pub knows_on : (ks js : List (List ℕ)) (d e : Users) (x : Entry) → Grows ks 
 knows_on ks js d e x grows knows = record { key = grows.suspects x.key knows.key; users = λ q among. grows.users q x.key (knows.users q among) }
 
 -- the entry that is kept has the same needs
-pub knows_same : (K : SomeKept) (ks js : List (List ℕ)) (d : Users) (x : Entry) → js ≡ insert_key name_eq ks x.key → NeedsSame K x → HasUsers K d → KnowsEntry js d x
+pub knows_same : (K : SomeKept) (ks js : List (List ℕ)) (d : Users) (x : Entry) → js ≡ seen_also ks x.key → NeedsSame K x → HasUsers K d → KnowsEntry js d x
 knows_same K ks js d x is (old, kept, same) users = record {
   key = there_put ks js x.key is;
   users = λ q among. users q x.key (old, kept, subst (λ ns. Among ns q) (sym same) among);
 }
 
 -- its needs were put into the table
-pub knows_added : (ks js : List (List ℕ)) (d e : Users) (x : Entry) → js ≡ insert_key name_eq ks x.key → AddsFor d e x.key (Among x.needs) → Grows ks d js e × KnowsEntry js e x
+pub knows_added : (ks js : List (List ℕ)) (d e : Users) (x : Entry) → js ≡ seen_also ks x.key → AddsFor d e x.key (Among x.needs) → Grows ks d js e × KnowsEntry js e x
 knows_added ks js d e x is adds = (
   record { suspects = (grows_put ks js d x.key is).suspects; users = adds.stays },
   record { key = there_put ks js x.key is; users = adds.there },

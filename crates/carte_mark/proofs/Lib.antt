@@ -1,5 +1,6 @@
 pub mod Using
 pub mod Putting
+pub mod Finding
 pub mod Spreading
 pub mod Changing
 pub mod Passing

@@ -1,8 +1,7 @@
 -- Gathering the keys whose entries have other tasks.
 use Rattle.std.proofs.Common.{◌≡◌, ◌⊎◌, ℕ, ◌+◌, ◌<◌, ◌≤◌, Bool, true, false, not, ◌||◌, List, [], ◌∷◌, length, Option, Some, None, slice_get, refl, ap, sym, ◌∙◌, subst, inl, inr, arith}
-use Rattle.indexmap.specs.IndexSet.{insert_key}
+use Rattle.carte_value.specs.Firsts.{seen_also}
 use Rattle.carte_value.specs.declared.digest.Digest.{Digest}
-use Rattle.carte_name.specs.Names.{name_eq}
 use Rattle.carte_value.specs.Truths.{Among}
 use Rattle.carte_book.specs.Book.{Book}
 use Rattle.carte_book.specs.Task.{task_now}
@@ -52,7 +51,7 @@ adds_none K b e task names now test = record {
     on false is test first c = untold K b e.key (K.entries e.key) refl (off (is_other (K.entries e.key) (task_now b e.key)) test) c
 
 -- and else the key
-pub adds_key : (K : SomeKept) (b : Book) (e : Entry) (task : Option Digest) (old new : List (List ℕ)) → task ≡ task_now b e.key → is_other (K.entries e.key) task ≡ true → new ≡ insert_key name_eq old e.key → AddsOther K b e old new
+pub adds_key : (K : SomeKept) (b : Book) (e : Entry) (task : Option Digest) (old new : List (List ℕ)) → task ≡ task_now b e.key → is_other (K.entries e.key) task ≡ true → new ≡ seen_also old e.key → AddsOther K b e old new
 adds_key K b e task old new now test is = subst (AddsOther K b e old) (sym is) (record {
   only = λ q among. elim (put_only old (e.key ∷ []) q among) [
     | inl was ↦ inl was

@@ -1,14 +1,11 @@
 -- Lists of names to which names are put, each once.
-use Rattle.std.proofs.Common.{◌≡◌, ◌↔◌, ◌⊎◌, ℕ, suc, zero, ◌<◌, Bool, true, false, ◌||◌, cond, List, [], ◌∷◌, ◌++◌, length, Some, None, slice_get, ◌+◌, refl, ap, sym, ◌∙◌, subst, inl, inr, arith, Result, Ok, Err}
+use Rattle.std.proofs.Common.{◌≡◌, ◌↔◌, ◌⊎◌, ℕ, suc, zero, ◌<◌, Bool, true, false, ◌||◌, cond, List, [], ◌∷◌, ◌++◌, length, Some, None, slice_get, refl, ap, sym, ◌∙◌, subst, inl, inr, arith}
 use Rattle.std.specs.List.{list_any}
-use Rattle.std.specs.Prelude.{IfOk, OnErr}
-use Rattle.indexmap.specs.IndexSet.{insert_key}
+use Rattle.carte_value.specs.Firsts.{seen_also}
 use Rattle.carte_name.specs.Names.{name_eq}
-use Rattle.carte_value.specs.Lists.{Begins}
 use Rattle.carte_value.specs.Truths.{Among}
 use Rattle.carte_value.proofs.Members.{among_append, among_left, among_right}
 use Rattle.carte_table.proofs.Names.{name_eq_is, name_eq_self}
-use Rattle.carte_table.proofs.Steps.{begins_self}
 use Rattle.carte_mark.specs.Puts.{put_all}
 
 pub any_among : (rs : List (List ℕ)) (k : List ℕ) → list_any (name_eq k) rs ≡ true → Among rs k
@@ -29,20 +26,7 @@ among_any (r ∷ rs) k (inr later) = on (name_eq k r) (among_any rs k later)
     on false is = is
 
 abbrev pub put : List (List ℕ) → List ℕ → List (List ℕ)
-put rs k = insert_key name_eq rs k
-
--- what was there stays in front
-put_begins : (rs new : List (List ℕ)) (k : List ℕ) → new ≡ insert_key name_eq rs k → Begins rs new
-put_begins rs new k is = subst (Begins rs) (sym is) (on (list_any (name_eq k) rs))
-  where
-    on : (t : Bool) → Begins rs (cond t rs (rs ++ k ∷ []))
-    on true = begins_self rs
-    on false = (k ∷ [], refl)
-
--- whatever a set answers to the name
-pub insert_begins : {A E : Type 0} (r : Result A E) (rs new : List (List ℕ)) (k : List ℕ) → IfOk r (λ x. new ≡ insert_key name_eq rs k) → OnErr r (new ≡ rs) → Begins rs new
-insert_begins (Ok x) rs new k is same = put_begins rs new k is
-insert_begins (Err e) rs new k is same = subst (Begins rs) (sym same) (begins_self rs)
+put rs k = seen_also rs k
 
 -- one name
 one_only : (rs : List (List ℕ)) (k j : List ℕ) → Among (put rs k) j → Among rs j ⊎ (j ≡ k)
@@ -109,7 +93,7 @@ put_get rs [] i q is = is
 put_get rs (k ∷ ks) i q is = put_get (put rs k) ks i q (one_get rs k i q is)
 
 -- names that grow at their end
-pub put_end : (rs ks : List (List ℕ)) (k : List ℕ) → put_all rs (ks ++ k ∷ []) ≡ insert_key name_eq (put_all rs ks) k
+pub put_end : (rs ks : List (List ℕ)) (k : List ℕ) → put_all rs (ks ++ k ∷ []) ≡ seen_also (put_all rs ks) k
 put_end rs [] k = refl
 put_end rs (j ∷ js) k = put_end (put rs j) js k
 

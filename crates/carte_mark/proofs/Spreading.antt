@@ -1,7 +1,6 @@
 -- Names, and keys that lead to them, that are put to one another.
 use Rattle.std.proofs.Common.{◌≡◌, ◌⊎◌, ℕ, true, false, List, [], ◌∷◌, ◌++◌, Some, slice_get, refl, sym, ◌∙◌, subst, inl, inr}
-use Rattle.indexmap.specs.IndexSet.{insert_key}
-use Rattle.carte_name.specs.Names.{name_eq}
+use Rattle.carte_value.specs.Firsts.{seen_also}
 use Rattle.carte_value.specs.Truths.{Among}
 use Rattle.carte_value.proofs.Members.{among_append}
 use Rattle.carte_record.specs.declared.entry.Entry.{Entry}
@@ -36,7 +35,7 @@ module _ (K : SomeKept) where
     stays = λ k among. second.stays k (first.stays k among);
   }
 
-  pub spreads_put : (names : List (List ℕ)) (k : List ℕ) → LeadsTo K names k → Spreads K names (insert_key name_eq names k)
+  pub spreads_put : (names : List (List ℕ)) (k : List ℕ) → LeadsTo K names k → Spreads K names (seen_also names k)
   spreads_put names k leads = record {
     only = λ j among. elim (put_only names (k ∷ []) j among) [
       | inl was ↦ inl was
@@ -49,7 +48,7 @@ module _ (K : SomeKept) where
   }
 
   -- a key was put
-  pub puts_key : (old new : List (List ℕ)) (k : List ℕ) → IsUser K old k → new ≡ insert_key name_eq old k → PutsMore K old new true
+  pub puts_key : (old new : List (List ℕ)) (k : List ℕ) → IsUser K old k → new ≡ seen_also old k → PutsMore K old new true
   puts_key old new k user is = record {
     spreads = subst (Spreads K old) (sym is) (spreads_put old k (leads_by old k user.entry user.kept user.meets));
     same = λ no. cc;
@@ -58,7 +57,7 @@ module _ (K : SomeKept) where
   pub closed_there : (names : List (List ℕ)) (k : List ℕ) → Among names k → IsClosedAt K names k
   closed_there names k there e kept meets = there
 
-  pub closed_put : (old new : List (List ℕ)) (k : List ℕ) → new ≡ insert_key name_eq old k → IsClosedAt K new k
+  pub closed_put : (old new : List (List ℕ)) (k : List ℕ) → new ≡ seen_also old k → IsClosedAt K new k
   closed_put old new k is = closed_there new k (subst (λ names. Among names k) (sym is) (put_there old (k ∷ []) k (inl refl)))
 
   -- none was put

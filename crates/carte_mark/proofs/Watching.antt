@@ -4,7 +4,7 @@ use Rattle.std.specs.Prelude.{◌↔◌}
 use Rattle.std.specs.Cmp.Lexicographic.{bytes_decides, pointwise}
 use Rattle.std.proofs.lemmas.Slice.Eq.{slice_eq-Decides}
 use Rattle.std.specs.Option.{option_or}
-use Rattle.indexmap.specs.IndexSet.{insert_key}
+use Rattle.carte_value.specs.Firsts.{seen_also}
 use Rattle.carte_name.specs.Names.{name_eq}
 use Rattle.carte_value.specs.declared.digest.Digest.{Digest}
 use Rattle.carte_value.specs.Truths.{Among, IsListOf}
@@ -88,7 +88,7 @@ watches_left K b ks js d changed so = ((λ q c. among_any js q (changed.each q c
 
 -- ---- an input is set
 
-pub watches_set : (K : SomeKept) (b c : Book) (n : List ℕ) (ks js : List (List ℕ)) (d : Users) → SameBut n b c → js ≡ insert_key name_eq ks n → WatchesBy K b ks d → WatchesBy K c js d
+pub watches_set : (K : SomeKept) (b c : Book) (n : List ℕ) (ks js : List (List ℕ)) (d : Users) → SameBut n b c → js ≡ seen_also ks n → WatchesBy K b ks d → WatchesBy K c js d
 watches_set K b c n ks js d same is so = ((λ q changed. among_any js q (subst (λ is. Among is q) (sym is) (suspected q (name_eq q n) refl changed))), so.1)
   where
     still : (q : List ℕ) → ¬ (q ≡ n) → IsChanged K c q → IsChanged K b q

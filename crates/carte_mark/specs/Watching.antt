@@ -17,7 +17,7 @@ use Rattle.carte_mark.specs.Tables.{HasUsers, NeedsIn, Users, keys_in}
 
 -- the suspected names, and of each name the keys of the table
 abbrev pub suspects_in : Watch → List (List ℕ)
-suspects_in w = w.suspects.keys
+suspects_in w = w.suspects
 
 abbrev pub users_in : Watch → Users
 users_in w = λ q. keys_in (get name_eq w.users q)

@@ -7,10 +7,9 @@ ghost use Rattle.carte_mark.specs.Marking.{Pushes, ArePicked};
 ghost use Rattle.carte_mark.specs.Reached.{AreChanged};
 
 use crate::marking::in_order;
-use crate::set::NameSet;
 use carte_book::{Book, Looked};
 use carte_record::Kept;
-use carte_value::{Name, Names, NoMemory};
+use carte_value::{Name, Names, NoMemory, Numbering};
 use std::alloc::Global;
 
 /// The names, in name order, that were seen and are no inputs, or have an entry and are no rules. They are among those that
@@ -19,9 +18,9 @@ pub(crate) fn gone(
     alloc: Global,
     kept: &Kept,
     book: &Book,
-    changed: &NameSet,
+    changed: &Numbering,
 ) -> Result<Names, NoMemory>
-    ensures { IfOk result (λ gone. AreChanged (kept_view kept.now) (book_view book.now) changed.now.keys → IsListOf (IsGone (kept_view kept.now) (book_view book.now)) gone) }
+    ensures { IfOk result (λ gone. AreChanged (kept_view kept.now) (book_view book.now) changed.now → IsListOf (IsGone (kept_view kept.now) (book_view book.now)) gone) }
 {
     let gone = gone_among(alloc, kept, book, changed)?;
     in_order(alloc, gone)
@@ -31,9 +30,9 @@ fn gone_among(
     alloc: Global,
     kept: &Kept,
     book: &Book,
-    changed: &NameSet,
+    changed: &Numbering,
 ) -> Result<Vec<Name>, NoMemory>
-    ensures { IfOk result (λ gone. ArePicked (IsGone (kept_view kept.now) (book_view book.now)) changed.now.keys gone.items) }
+    ensures { IfOk result (λ gone. ArePicked (IsGone (kept_view kept.now) (book_view book.now)) changed.now gone.items) }
 {
     let mut gone = Vec::new(alloc);
     for name in changed.as_slice() {

@@ -40,7 +40,7 @@ mod watch;
 
 pub use base::{Begun, begin};
 pub use marking::{listed, mark};
-pub use set::{NameSet, holds};
+pub use set::holds;
 pub use tasks::know_tasks;
 pub use walk::put_each;
 pub use watch::Watch;

@@ -9,10 +9,9 @@ ghost use Rattle.carte_mark.specs.Reached.{AreChanged};
 
 use crate::changed::changed;
 use crate::reach::reached;
-use crate::set::NameSet;
 use carte_book::Book;
 use carte_record::{Entries, Kept};
-use carte_value::{Name, Names, NoMemory};
+use carte_value::{Name, Names, NoMemory, Numbering};
 use std::alloc::Global;
 
 /// The keys, in name order, whose entries aren't stale and that have changed or lead to a changed name.
@@ -25,8 +24,8 @@ pub fn mark(alloc: Global, kept: &Kept, book: &Book) -> Result<Names, NoMemory>
 }
 
 /// The same where these names have changed.
-pub(crate) fn marks_over(alloc: Global, kept: &Kept, changed: NameSet) -> Result<Names, NoMemory>
-    ensures { IfOk result (λ marks. (b : SomeBook) → AreChanged (kept_view kept.now) b changed.keys → IsListOf (IsMarked (kept_view kept.now) b) marks) }
+pub(crate) fn marks_over(alloc: Global, kept: &Kept, changed: Numbering) -> Result<Names, NoMemory>
+    ensures { IfOk result (λ marks. (b : SomeBook) → AreChanged (kept_view kept.now) b changed → IsListOf (IsMarked (kept_view kept.now) b) marks) }
 {
     if changed.is_empty() {
         return Ok(Names::new(alloc));
@@ -36,15 +35,15 @@ pub(crate) fn marks_over(alloc: Global, kept: &Kept, changed: NameSet) -> Result
 }
 
 /// The same where these were reached from the changed names.
-pub(crate) fn marks_of(alloc: Global, kept: &Kept, reached: &NameSet) -> Result<Names, NoMemory>
-    ensures { IfOk result (λ marks. (b : SomeBook) (names : List (List ℕ)) → AreChanged (kept_view kept.now) b names → AreReached kept.now names reached.now.keys → IsListOf (IsMarked (kept_view kept.now) b) marks) }
+pub(crate) fn marks_of(alloc: Global, kept: &Kept, reached: &Numbering) -> Result<Names, NoMemory>
+    ensures { IfOk result (λ marks. (b : SomeBook) (names : List (List ℕ)) → AreChanged (kept_view kept.now) b names → AreReached kept.now names reached.now → IsListOf (IsMarked (kept_view kept.now) b) marks) }
 {
     let marks = to_mark(alloc, &kept.entries, reached)?;
     in_order(alloc, marks)
 }
 
-fn to_mark(alloc: Global, entries: &Entries, reached: &NameSet) -> Result<Vec<Name>, NoMemory>
-    ensures { IfOk result (λ marks. ArePicked (IsToMark entries.now) reached.now.keys marks.items) }
+fn to_mark(alloc: Global, entries: &Entries, reached: &Numbering) -> Result<Vec<Name>, NoMemory>
+    ensures { IfOk result (λ marks. ArePicked (IsToMark entries.now) reached.now marks.items) }
 {
     let mut marks = Vec::new(alloc);
     for name in reached.as_slice() {

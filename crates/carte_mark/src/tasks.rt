@@ -6,10 +6,10 @@ ghost use Rattle.carte_record.specs.Lookups.{first_entry};
 ghost use Rattle.carte_sound.specs.Begun.{is_digest};
 ghost use Rattle.carte_mark.specs.Reached.{is_other, tasks_in, AddsOther, PutsOthers};
 
-use crate::set::{NameSet, put};
+use crate::set::put;
 use carte_book::Book;
 use carte_record::{Entries, Entry, Kept};
-use carte_value::{Digest, Name, NoMemory};
+use carte_value::{Digest, Name, NoMemory, Numbering};
 use std::alloc::Global;
 use std::thread::{Threads, join};
 
@@ -102,9 +102,9 @@ pub(crate) fn put_changed_rules(
     alloc: Global,
     kept: &Kept,
     book: &Book,
-    names: &mut NameSet,
+    names: &mut Numbering,
 ) -> Result<(), NoMemory>
-    ensures { OnOk result (PutsOthers (kept_view kept.now) (book_view book.now) names.old.keys names.new.keys) }
+    ensures { OnOk result (PutsOthers (kept_view kept.now) (book_view book.now) names.old names.new) }
 {
     for entry in kept.entries.as_slice() {
         add_changed_rule(alloc, kept, book, entry, names)?;
@@ -118,15 +118,15 @@ fn add_changed_rule(
     kept: &Kept,
     book: &Book,
     entry: &Entry,
-    names: &mut NameSet,
+    names: &mut Numbering,
 ) -> Result<(), NoMemory>
-    ensures { OnOk result (AddsOther (kept_view kept.now) (book_view book.now) entry.now names.old.keys names.new.keys) }
+    ensures { OnOk result (AddsOther (kept_view kept.now) (book_view book.now) entry.now names.old names.new) }
 {
     let task = book.task_digest(alloc, &entry.key)?;
     if is_task(&task, &entry.task) || !is_other(&kept.entries, &entry.key, &task) {
         return Ok(());
     }
-    put(alloc, &entry.key, names)
+    put(&entry.key, names)
 }
 
 pub(crate) fn is_other(entries: &Entries, key: &Name, task: &Option<Digest>) -> bool

@@ -8,17 +8,17 @@ ghost use Rattle.carte_mark.specs.Passes.{AreReached};
 ghost use Rattle.carte_mark.specs.Tables.{HasUsers, PutsUsers, keys_in};
 
 use crate::pass::put_key;
-use crate::set::{NameSet, holds, put};
+use crate::set::{holds, put};
 use crate::users::{Users, users};
 use carte_record::Kept;
-use carte_value::{Name, Names, NoMemory};
+use carte_value::{Name, Names, NoMemory, Numbering};
 use std::alloc::Global;
 
 /// These names and all keys that lead to one of them, over a table of the keys that need each name.
-pub(crate) fn walk(alloc: Global, kept: &Kept, names: NameSet) -> Result<NameSet, NoMemory>
-    ensures { IfOk result (λ reached. AreReached kept.now names.keys reached.keys) }
+pub(crate) fn walk(alloc: Global, kept: &Kept, names: Numbering) -> Result<Numbering, NoMemory>
+    ensures { IfOk result (λ reached. AreReached kept.now names reached) }
 {
-    let users = users(alloc, &kept.entries, *names.hasher())?;
+    let users = users(alloc, &kept.entries, names.hasher())?;
     walk_over(alloc, kept, &users, names)
 }
 
@@ -27,13 +27,13 @@ pub(crate) fn walk_over(
     alloc: Global,
     kept: &Kept,
     users: &Users,
-    names: NameSet,
-) -> Result<NameSet, NoMemory>
-    ensures { IfOk result (λ reached. HasUsers (kept_view kept.now) (λ q. keys_in (get name_eq users.now q)) → AreReached kept.now names.keys reached.keys) }
+    names: Numbering,
+) -> Result<Numbering, NoMemory>
+    ensures { IfOk result (λ reached. HasUsers (kept_view kept.now) (λ q. keys_in (get name_eq users.now q)) → AreReached kept.now names reached) }
 {
     let mut reached = names;
     let mut next = 0;
-    while next < reached.len() {
+    while next < reached.as_slice().len() {
         put_users_at(alloc, kept, users, next, &mut reached)?;
         next += 1;
     }
@@ -45,67 +45,56 @@ fn put_users_at(
     kept: &Kept,
     users: &Users,
     at: usize,
-    reached: &mut NameSet,
+    reached: &mut Numbering,
 ) -> Result<(), NoMemory>
-    requires { at < length reached.old.keys }
-    ensures { OnOk result ((q : List ℕ) → slice_get reached.old.keys at ≡ Some q → PutsUsers (kept_view kept.now) (keys_in (get name_eq users.now q)) reached.old.keys reached.new.keys) }
+    requires { at < length reached.old }
+    ensures { OnOk result ((q : List ℕ) → slice_get reached.old at ≡ Some q → PutsUsers (kept_view kept.now) (keys_in (get name_eq users.now q)) reached.old reached.new) }
 {
-    match reached.get_index(at) {
-        Some(name) => {
-            let name = name.copy(alloc)?;
-            put_users(alloc, kept, users, &name, reached)
-        }
-        None => Ok(()),
-    }
+    let name = reached.as_slice()[at].copy(alloc)?;
+    put_users(kept, users, &name, reached)
 }
 
 fn put_users(
-    alloc: Global,
     kept: &Kept,
     users: &Users,
     name: &Name,
-    reached: &mut NameSet,
+    reached: &mut Numbering,
 ) -> Result<(), NoMemory>
-    ensures { OnOk result (PutsUsers (kept_view kept.now) (keys_in (get name_eq users.now name.now)) reached.old.keys reached.new.keys) }
+    ensures { OnOk result (PutsUsers (kept_view kept.now) (keys_in (get name_eq users.now name.now)) reached.old reached.new) }
 {
     match users.get(name) {
-        Some(keys) => put_those(alloc, kept, keys, reached),
+        Some(keys) => put_those(kept, keys, reached),
         None => Ok(()),
     }
 }
 
 // Those of these keys whose entries need what is there.
-fn put_those(
-    alloc: Global,
-    kept: &Kept,
-    keys: &Names,
-    reached: &mut NameSet,
-) -> Result<(), NoMemory>
-    ensures { OnOk result (PutsUsers (kept_view kept.now) keys.now reached.old.keys reached.new.keys) }
+fn put_those(kept: &Kept, keys: &Names, reached: &mut Numbering) -> Result<(), NoMemory>
+    ensures { OnOk result (PutsUsers (kept_view kept.now) keys.now reached.old reached.new) }
 {
     for key in keys.as_slice() {
-        put_that(alloc, kept, key, reached)?;
+        put_that(kept, key, reached)?;
     }
     Ok(())
 }
 
-fn put_that(alloc: Global, kept: &Kept, key: &Name, reached: &mut NameSet) -> Result<(), NoMemory>
-    ensures { OnOk result (PutsUsers (kept_view kept.now) (key.now ∷ []) reached.old.keys reached.new.keys) }
+fn put_that(kept: &Kept, key: &Name, reached: &mut Numbering) -> Result<(), NoMemory>
+    ensures { OnOk result (PutsUsers (kept_view kept.now) (key.now ∷ []) reached.old reached.new) }
 {
     if holds(reached, key) {
         return Ok(());
     }
-    put_key(alloc, kept, key, reached)?;
+    put_key(kept, key, reached)?;
     Ok(())
 }
 
 /// Puts each of these names into a set, behind the others where it isn't there. Where there is no memory, some may stand there.
-pub fn put_each(alloc: Global, keys: &Names, reached: &mut NameSet) -> Result<(), NoMemory>
-    ensures front { Begins reached.old.keys reached.new.keys }
-    ensures put { OnOk result (reached.new.keys ≡ put_all reached.old.keys keys.now) }
+pub fn put_each(keys: &Names, reached: &mut Numbering) -> Result<(), NoMemory>
+    ensures front { Begins reached.old reached.new }
+    ensures put { OnOk result (reached.new ≡ put_all reached.old keys.now) }
 {
     for key in keys.as_slice() {
-        put(alloc, key, reached)?;
+        put(key, reached)?;
     }
     Ok(())
 }

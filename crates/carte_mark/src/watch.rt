@@ -15,14 +15,14 @@ use crate::base::Begun;
 use crate::changed::{changed, has_changed};
 use crate::gone::gone;
 use crate::marking::{listed, marks_of};
-use crate::set::{NameSet, put};
+use crate::set::put;
 use crate::tasks::is_other;
 use crate::users::{Users, add_all, users};
 use crate::walk::{put_each, walk_over};
 use carte_book::Book;
 use carte_effect::Digests;
 use carte_record::{Batch, Entry, Kept};
-use carte_value::{Name, Names, NoMemory};
+use carte_value::{Name, Names, NoMemory, Numbering};
 use std::alloc::Global;
 
 /// How many comparisons of needs a walk may make for keys that need a name no more.
@@ -32,7 +32,7 @@ const MANY: usize = 1 << 20;
 /// among which are all that have changed, and of each name keys among which are all whose entries need it.
 #[derive(Drop)]
 pub struct Watch {
-    suspects: NameSet,
+    suspects: Numbering,
     users: Users,
     // What a walk may cost for keys that need a name no more.
     worn: usize,
@@ -64,8 +64,8 @@ impl Watch {
         } = self;
         let changed = changed_among(alloc, kept, book, &suspects)?;
         let begun = begun_over(alloc, kept, book, &changed, &users)?;
-        let mut suspects = NameSet::with_hasher(alloc, book.hasher());
-        put_each(alloc, &changed, &mut suspects)?;
+        let mut suspects = Numbering::new(alloc, book.hasher());
+        put_each(&changed, &mut suspects)?;
         let watch = Watch {
             suspects,
             users,
@@ -79,7 +79,7 @@ impl Watch {
         ensures { IfOk result (λ watch. (K : SomeKept) (b c : SomeBook) → SameBut name.now b c → Watches K b self → Watches K c watch) }
     {
         let mut watch = self;
-        put(alloc, name, &mut watch.suspects)?;
+        put(name, &mut watch.suspects)?;
         Ok(watch)
     }
 
@@ -106,15 +106,15 @@ impl Watch {
     fn learn_one(&mut self, alloc: Global, kept: &Kept, batch: &Batch) -> Result<(), NoMemory>
         ensures { OnOk result (Learns (kept_view kept.now) batch.now self.old self.new) }
     {
-        self.learn_seen(alloc, batch)?;
+        self.learn_seen(batch)?;
         self.learn_entries(alloc, kept, batch)
     }
 
-    fn learn_seen(&mut self, alloc: Global, batch: &Batch) -> Result<(), NoMemory>
+    fn learn_seen(&mut self, batch: &Batch) -> Result<(), NoMemory>
         ensures { OnOk result (LearnsSeen batch.now.seen self.old self.new) }
     {
         for link in batch.seen.as_slice() {
-            put(alloc, &link.name, &mut self.suspects)?;
+            put(&link.name, &mut self.suspects)?;
         }
         Ok(())
     }
@@ -131,7 +131,7 @@ impl Watch {
     fn learn_entry(&mut self, alloc: Global, kept: &Kept, entry: &Entry) -> Result<(), NoMemory>
         ensures { OnOk result (LearnsEntry (kept_view kept.now) entry.now self.old self.new) }
     {
-        put(alloc, &entry.key, &mut self.suspects)?;
+        put(&entry.key, &mut self.suspects)?;
         if has_needs(kept, entry) {
             return Ok(());
         }
@@ -163,9 +163,9 @@ fn changed_among(
     alloc: Global,
     kept: &Kept,
     book: &Book,
-    suspects: &NameSet,
+    suspects: &Numbering,
 ) -> Result<Names, NoMemory>
-    ensures { IfOk result (ArePicked (IsChanged (kept_view kept.now) (book_view book.now)) suspects.now.keys) }
+    ensures { IfOk result (ArePicked (IsChanged (kept_view kept.now) (book_view book.now)) suspects.now) }
 {
     let mut digests = Digests::new(alloc, book.hasher());
     let mut names = Vec::new(alloc);
@@ -218,8 +218,8 @@ fn begun_over(
 ) -> Result<Begun, NoMemory>
     ensures { IfOk result (λ begun. AreChanged (kept_view kept.now) (book_view book.now) changed.now → HasUsers (kept_view kept.now) (λ q. keys_in (get name_eq users.now q)) → IsBegun (kept_view kept.now) (book_view book.now) begun) }
 {
-    let mut names = NameSet::with_hasher(alloc, book.hasher());
-    put_each(alloc, changed, &mut names)?;
+    let mut names = Numbering::new(alloc, book.hasher());
+    put_each(changed, &mut names)?;
     let gone = gone(alloc, kept, book, &names)?;
     let reached = walk_over(alloc, kept, users, names)?;
     let marks = marks_of(alloc, kept, &reached)?;

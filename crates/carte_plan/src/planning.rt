@@ -15,11 +15,11 @@ ghost use Rattle.carte_plan.specs.Planned.{HasJust, IsBuilt, PutsChain, opening}
 
 use crate::cutting::{Cut, FULL_PART, in_parts};
 use carte_book::Book;
-use carte_mark::{Begun, NameSet, holds, put_each};
+use carte_mark::{Begun, holds, put_each};
 use carte_note::FinishedList;
 use carte_rebuild::Rebuilder;
 use carte_record::{Batch, Kept};
-use carte_value::{Name, Names, NoMemory, Seeded};
+use carte_value::{Name, Names, NoMemory, Numbering, Seeded};
 use std::alloc::Global;
 
 /// The batches of a build, part by part, at least one: the first has the dropped names and the marks. `base` is what the
@@ -124,22 +124,22 @@ fn marks_left(
 }
 
 // Many names may be dropped, so they are looked up in a set.
-fn set_of(alloc: Global, names: &Names, hasher: Seeded) -> Result<NameSet, NoMemory>
-    ensures { IfOk result (λ set. HasJust set.keys names.now) }
+fn set_of(alloc: Global, names: &Names, hasher: Seeded) -> Result<Numbering, NoMemory>
+    ensures { IfOk result (λ set. HasJust set names.now) }
 {
-    let mut set = NameSet::with_capacity_and_hasher(alloc, names.len(), hasher)?;
-    put_each(alloc, names, &mut set)?;
+    let mut set = Numbering::new(alloc, hasher);
+    put_each(names, &mut set)?;
     Ok(set)
 }
 
 fn left_of(
     alloc: Global,
     marks: &Names,
-    gone: &NameSet,
+    gone: &Numbering,
     finished: &FinishedList,
     count: usize,
 ) -> Result<Names, NoMemory>
-    ensures { IfOk result (λ left. left ≡ marks_left (finishes_of (take count finished.now)) (record { marks = marks.now; gone = gone.now.keys })) }
+    ensures { IfOk result (λ left. left ≡ marks_left (finishes_of (take count finished.now)) (record { marks = marks.now; gone = gone.now })) }
 {
     let mut left = Names::new(alloc);
     for mark in marks.as_slice() {
@@ -150,13 +150,13 @@ fn left_of(
 
 fn add_left(
     alloc: Global,
-    gone: &NameSet,
+    gone: &Numbering,
     finished: &FinishedList,
     count: usize,
     mark: &Name,
     left: &mut Names,
 ) -> Result<(), NoMemory>
-    ensures { OnOk result (left.new ≡ (if not (is_among gone.now.keys mark.now) && is_none (finished_of (take count finished.now) mark.now) then left.old ++ mark.now ∷ [] else left.old)) }
+    ensures { OnOk result (left.new ≡ (if not (is_among gone.now mark.now) && is_none (finished_of (take count finished.now) mark.now) then left.old ++ mark.now ∷ [] else left.old)) }
 {
     if is_among(gone, mark) || finished.find_before(mark, count).is_some() {
         return Ok(());
@@ -164,8 +164,8 @@ fn add_left(
     left.push(mark.copy(alloc)?)
 }
 
-fn is_among(names: &NameSet, name: &Name) -> bool
-    ensures { result ≡ is_among names.now.keys name.now }
+fn is_among(names: &Numbering, name: &Name) -> bool
+    ensures { result ≡ is_among names.now name.now }
 {
     holds(names, name)
 }

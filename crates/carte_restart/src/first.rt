@@ -8,9 +8,9 @@ ghost use Rattle.carte_mark.specs.Puts.{put_all};
 ghost use Rattle.carte_restart.specs.Led.{AreLed, AreNeeded, AreTaken, IsOther, IsRuleAmong, PushesIf, needs_in};
 
 use carte_book::{Book, Looked};
-use carte_mark::{NameSet, listed, put_each};
+use carte_mark::{listed, put_each};
 use carte_record::Kept;
-use carte_value::{Name, Names, NoMemory, Seeded};
+use carte_value::{Name, Names, NoMemory, Numbering, Seeded};
 use std::alloc::Global;
 
 /// The rules that targets lead to by entries: those of the chain in its order, and then the others in name order.
@@ -31,12 +31,17 @@ pub(crate) fn first_list(
 }
 
 /// All names that targets lead to. The set is itself the queue of the names whose needs are to come.
-fn led_to(alloc: Global, kept: &Kept, targets: &Names, hasher: Seeded) -> Result<NameSet, NoMemory>
-    ensures { IfOk result (λ led. AreLed (kept_view kept.now) targets.now led.keys) }
+fn led_to(
+    alloc: Global,
+    kept: &Kept,
+    targets: &Names,
+    hasher: Seeded,
+) -> Result<Numbering, NoMemory>
+    ensures { IfOk result (λ led. AreLed (kept_view kept.now) targets.now led) }
 {
     let mut led = needed(alloc, kept, targets, hasher)?;
     let mut next = 0;
-    while next < led.len() {
+    while next < led.as_slice().len() {
         put_needs_at(alloc, kept, next, &mut led)?;
         next += 1;
     }
@@ -44,45 +49,44 @@ fn led_to(alloc: Global, kept: &Kept, targets: &Names, hasher: Seeded) -> Result
 }
 
 /// The needs that the entries of these keys tell of.
-fn needed(alloc: Global, kept: &Kept, keys: &Names, hasher: Seeded) -> Result<NameSet, NoMemory>
-    ensures { IfOk result (λ names. AreNeeded (kept_view kept.now) keys.now names.keys) }
+fn needed(alloc: Global, kept: &Kept, keys: &Names, hasher: Seeded) -> Result<Numbering, NoMemory>
+    ensures { IfOk result (λ names. AreNeeded (kept_view kept.now) keys.now names) }
 {
-    // Mostly all that has an entry is led to. The pages of room that stays empty are never touched.
-    let mut names = NameSet::with_capacity_and_hasher(alloc, kept.entries.len(), hasher)?;
+    let mut names = Numbering::new(alloc, hasher);
     for key in keys.as_slice() {
-        put_needs(alloc, kept, key, &mut names)?;
+        put_needs(kept, key, &mut names)?;
     }
     Ok(names)
 }
 
-fn put_needs_at(alloc: Global, kept: &Kept, at: usize, names: &mut NameSet) -> Result<(), NoMemory>
-    requires { at < length names.old.keys }
-    ensures { OnOk result ((q : List ℕ) → slice_get names.old.keys at ≡ Some q → names.new.keys ≡ put_all names.old.keys (needs_in (kept_view kept.now) q)) }
+fn put_needs_at(
+    alloc: Global,
+    kept: &Kept,
+    at: usize,
+    names: &mut Numbering,
+) -> Result<(), NoMemory>
+    requires { at < length names.old }
+    ensures { OnOk result ((q : List ℕ) → slice_get names.old at ≡ Some q → names.new ≡ put_all names.old (needs_in (kept_view kept.now) q)) }
 {
-    match names.get_index(at) {
-        Some(key) => {
-            let key = key.copy(alloc)?;
-            put_needs(alloc, kept, &key, names)
-        }
-        None => Ok(()),
-    }
+    let key = names.as_slice()[at].copy(alloc)?;
+    put_needs(kept, &key, names)
 }
 
 // Stale entries and shallow ones tell of needs too.
-fn put_needs(alloc: Global, kept: &Kept, key: &Name, names: &mut NameSet) -> Result<(), NoMemory>
-    ensures { OnOk result (names.new.keys ≡ put_all names.old.keys (needs_in (kept_view kept.now) key.now)) }
+fn put_needs(kept: &Kept, key: &Name, names: &mut Numbering) -> Result<(), NoMemory>
+    ensures { OnOk result (names.new ≡ put_all names.old (needs_in (kept_view kept.now) key.now)) }
 {
     match kept.entries.find(key) {
-        Some(entry) => put_each(alloc, &entry.needs, names),
+        Some(entry) => put_each(&entry.needs, names),
         None => Ok(()),
     }
 }
 
 // Which of the names were taken off the chain, each at its place: none yet.
-fn none_taken(alloc: Global, led: &NameSet) -> Result<Vec<bool>, NoMemory>
-    ensures { IfOk result (λ taken. AreTaken led.now.keys [] taken.items) }
+fn none_taken(alloc: Global, led: &Numbering) -> Result<Vec<bool>, NoMemory>
+    ensures { IfOk result (λ taken. AreTaken led.now [] taken.items) }
 {
-    let count = led.len();
+    let count = led.as_slice().len();
     Ok(vec![in alloc; false; count]?)
 }
 
@@ -91,11 +95,11 @@ fn chained(
     alloc: Global,
     kept: &Kept,
     book: &Book,
-    led: &NameSet,
+    led: &Numbering,
     taken: &mut Vec<bool>,
 ) -> Result<Names, NoMemory>
-    ensures picked { IfOk result (ArePicked (IsRuleAmong (book_view book.now) led.now.keys) (kept_view kept.now).chain) }
-    ensures taken { OnOk result (AreTaken led.now.keys [] taken.old.items → AreTaken led.now.keys (kept_view kept.now).chain taken.new.items) }
+    ensures picked { IfOk result (ArePicked (IsRuleAmong (book_view book.now) led.now) (kept_view kept.now).chain) }
+    ensures taken { OnOk result (AreTaken led.now [] taken.old.items → AreTaken led.now (kept_view kept.now).chain taken.new.items) }
 {
     let mut names = Names::with_room(alloc, kept.chain.len())?;
     for name in kept.chain.as_slice() {
@@ -107,13 +111,13 @@ fn chained(
 fn push_led(
     alloc: Global,
     book: &Book,
-    led: &NameSet,
+    led: &Numbering,
     name: &Name,
     taken: &mut Vec<bool>,
     names: &mut Names,
 ) -> Result<(), NoMemory>
-    ensures pushes { OnOk result (PushesIf (IsRuleAmong (book_view book.now) led.now.keys) names.old names.new name.now) }
-    ensures taken { (ks : List (List ℕ)) → AreTaken led.now.keys ks taken.old.items → AreTaken led.now.keys (ks ++ name.now ∷ []) taken.new.items }
+    ensures pushes { OnOk result (PushesIf (IsRuleAmong (book_view book.now) led.now) names.old names.new name.now) }
+    ensures taken { (ks : List (List ℕ)) → AreTaken led.now ks taken.old.items → AreTaken led.now (ks ++ name.now ∷ []) taken.new.items }
 {
     if take(led, name, taken) && is_rule(book, name) {
         names.push(name.copy(alloc)?)?;
@@ -122,13 +126,13 @@ fn push_led(
 }
 
 // Whether a name is among those that are led to, where it is then taken.
-fn take(led: &NameSet, name: &Name, taken: &mut Vec<bool>) -> bool
-    ensures among { (result ≡ true) ↔ Among led.now.keys name.now }
-    ensures taken { (ks : List (List ℕ)) → AreTaken led.now.keys ks taken.old.items → AreTaken led.now.keys (ks ++ name.now ∷ []) taken.new.items }
+fn take(led: &Numbering, name: &Name, taken: &mut Vec<bool>) -> bool
+    ensures among { (result ≡ true) ↔ Among led.now name.now }
+    ensures taken { (ks : List (List ℕ)) → AreTaken led.now ks taken.old.items → AreTaken led.now (ks ++ name.now ∷ []) taken.new.items }
 {
-    match led.get_index_of(name) {
+    match led.find(name) {
         Some(at) => {
-            put_true(taken, at);
+            put_true(taken, at as usize);
             true
         }
         None => false,

@@ -11,5 +11,5 @@ on_ok (Err e) f p = p
 
 pub returns : goal.returns
 returns c =
-    on_ok c.put.result (adds_name (kept_view c.args.kept.now) (book_view c.args.book.now) c.args.link.now c.args.names.now.keys c.put.new.names.keys
+    on_ok c.put.result (adds_name (kept_view c.args.kept.now) (book_view c.args.book.now) c.args.link.now c.args.names.now c.put.new.names
     (sym c.has_changed.ensures ∙ c.if-not-has_changed.false)) c.put.ensures.put

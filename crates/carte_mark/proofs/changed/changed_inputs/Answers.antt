@@ -6,7 +6,7 @@ use Rattle.carte_mark.proofs.Changing.{AreChangedBefore, changed_first, changed_
 use Rattle.carte_mark.proofs.changed.changed_inputs.Goals as goal
 
 pub loop-link-init : goal.loop-link-init
-loop-link-init c = changed_first (kept_view c.args.kept.now) (book_view c.args.book.now) c.as_slice-link-items.result.now c.with_hasher-names.result.keys (search rules)
+loop-link-init c = changed_first (kept_view c.args.kept.now) (book_view c.args.book.now) c.as_slice-link-items.result.now c.new-names.result c.new-names.ensures
 
 pub loop-link-preserved : goal.loop-link-preserved
 loop-link-preserved c =
@@ -14,7 +14,7 @@ loop-link-preserved c =
     let at = c.loop-link.link-index in
     let below : at < length links = search rules in
     let here = slice_get_read links (length links) at c.link-item.result refl below c.link-item.is in
-    changed_more (kept_view c.args.kept.now) (book_view c.args.book.now) links at c.link-item.result c.loop-link.names.keys c.add_changed.new.names.keys here c.loop-link.invariant (c.in_ok-add_changed.ensures {u = tt})
+    changed_more (kept_view c.args.kept.now) (book_view c.args.book.now) links at c.link-item.result c.loop-link.names c.add_changed.new.names here c.loop-link.invariant (c.in_ok-add_changed.ensures {u = tt})
 
 pub returns : goal.returns
 returns c =
@@ -24,5 +24,5 @@ returns c =
     let at = c.loop-link.link-index in
     let past : length links ≤ at = search rules in
     let is = c.as_slice-link-items.ensures in
-    let so = subst (λ ls. AreChangedBefore K b ls at c.loop-link.names.keys) is c.loop-link.invariant in
-    changed_all c.args.kept.now b at c.loop-link.names.keys (subst (λ ls. length ls ≤ at) is past) so
+    let so = subst (λ ls. AreChangedBefore K b ls at c.loop-link.names) is c.loop-link.invariant in
+    changed_all c.args.kept.now b at c.loop-link.names (subst (λ ls. length ls ≤ at) is past) so

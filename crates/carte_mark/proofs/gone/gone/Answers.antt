@@ -14,4 +14,4 @@ returns c =
     let K = kept_view c.args.kept.now in
     let b = book_view c.args.book.now in
     let picked = c.in_ok-gone.gone.items in
-    if_ok c.in_order.result (λ names l changed. all_gone K b c.args.changed.now.keys picked names (c.in_ok-gone.ensures {u = tt}) l changed) c.in_order.ensures
+    if_ok c.in_order.result (λ names l changed. all_gone K b c.args.changed.now picked names (c.in_ok-gone.ensures {u = tt}) l changed) c.in_order.ensures

@@ -26,5 +26,5 @@ returns c =
     let names = c.as_slice-name-items.result.now in
     let at = c.loop-name.name-index in
     let past : length names ≤ at = search rules in
-    let all = take_whole at names past ∙ c.as_slice-name-items.ensures.keys in
+    let all = take_whole at names past ∙ c.as_slice-name-items.ensures.names in
     subst (λ ns. ArePicked (IsGone (kept_view c.args.kept.now) (book_view c.args.book.now)) ns c.loop-name.gone.items) all c.loop-name.invariant

@@ -10,4 +10,4 @@ if_ok (Err e) f p = p
 pub returns : goal.returns
 returns c =
     let ms = c.in_ok-marks.marks.items in
-    if_ok c.in_order.result (λ names l b before are reached. all_marked c.args.kept.now b before c.args.reached.now.keys are reached ms names (c.in_ok-marks.ensures {u = tt}) l) c.in_order.ensures
+    if_ok c.in_order.result (λ names l b before are reached. all_marked c.args.kept.now b before c.args.reached.now are reached ms names (c.in_ok-marks.ensures {u = tt}) l) c.in_order.ensures

@@ -12,9 +12,9 @@ if_ok (Err e) f p = p
 
 pub returns-then-is_empty : goal.returns-then-is_empty
 returns-then-is_empty c =
-    let changed = c.args.changed.keys in
+    let changed = c.args.changed in
     let zero : length changed ≡ 0 = search rules in
     λ b are. subst (IsListOf (IsMarked (kept_view c.args.kept.now) b)) (sym c.new.ensures) (none_marked c.args.kept.now b changed are (no_names changed zero))
 
 pub returns : goal.returns
-returns c = if_ok c.marks_of.result (λ names marks b are. marks b c.args.changed.keys are (c.in_ok-reached.ensures {u = tt})) c.marks_of.ensures
+returns c = if_ok c.marks_of.result (λ names marks b are. marks b c.args.changed are (c.in_ok-reached.ensures {u = tt})) c.marks_of.ensures

@@ -23,5 +23,5 @@ returns c =
     let names = c.as_slice-name-items.result.now in
     let at = c.loop-name.name-index in
     let past : length names ≤ at = search rules in
-    let all = take_whole at names past ∙ c.as_slice-name-items.ensures.keys in
+    let all = take_whole at names past ∙ c.as_slice-name-items.ensures.names in
     subst (λ ns. ArePicked (IsToMark c.args.entries.now) ns c.loop-name.marks.items) all c.loop-name.invariant

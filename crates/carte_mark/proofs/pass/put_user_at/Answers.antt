@@ -9,4 +9,4 @@ on_ok (Err e) f p = p
 
 pub returns-in-Some-clause-closed : goal.returns-in-Some-clause-closed
 returns-in-Some-clause-closed c =
-    on_ok c.put_user.result (closed_same c.args.kept.now c.put_user.new.names.keys c.args.at c.in-Some.entry.now (sym c.get.ensures ∙ ap option_copied c.in-Some.is)) c.put_user.ensures.closed
+    on_ok c.put_user.result (closed_same c.args.kept.now c.put_user.new.names c.args.at c.in-Some.entry.now (sym c.get.ensures ∙ ap option_copied c.in-Some.is)) c.put_user.ensures.closed

@@ -10,13 +10,13 @@ if_ok (Ok x) f p = f x p
 if_ok (Err e) f p = p
 
 pub loop-init : goal.loop-init
-loop-init c = spreads_self (kept_view c.args.kept.now) c.args.names.keys
+loop-init c = spreads_self (kept_view c.args.kept.now) c.args.names
 
 pub loop-preserved : goal.loop-preserved
-loop-preserved c = spreads_on (kept_view c.args.kept.now) c.args.names.keys c.loop.reached.keys c.round.new.names.keys c.loop.invariant ((c.in_ok-done.ensures {u = tt}).spreads)
+loop-preserved c = spreads_on (kept_view c.args.kept.now) c.args.names c.loop.reached c.round.new.names c.loop.invariant ((c.in_ok-done.ensures {u = tt}).spreads)
 
 pub returns-then-done : goal.returns-then-done
-returns-then-done c = reached_done c.args.kept.now c.args.names.keys c.loop.reached.keys c.round.new.names.keys c.in_ok-done.done c.loop.invariant (c.in_ok-done.ensures {u = tt}) c.if-done.true
+returns-then-done c = reached_done c.args.kept.now c.args.names c.loop.reached c.round.new.names c.in_ok-done.done c.loop.invariant (c.in_ok-done.ensures {u = tt}) c.if-done.true
 
 pub returns : goal.returns
-returns c = if_ok c.walk.result (λ all are. reached_on c.args.kept.now c.args.names.keys c.loop.reached.keys all.keys c.loop.invariant are) c.walk.ensures
+returns c = if_ok c.walk.result (λ all are. reached_on c.args.kept.now c.args.names c.loop.reached all c.loop.invariant are) c.walk.ensures

@@ -3,4 +3,4 @@ use Rattle.carte_mark.specs.Reached.{Spreads}
 use Rattle.carte_mark.proofs.reach.reached.Given as goal
 
 abbrev pub invariant-loop : goal.invariant-loop
-invariant-loop l = Spreads (kept_view l.kept) l.fn.names.keys l.reached.keys
+invariant-loop l = Spreads (kept_view l.kept) l.fn.names l.reached

@@ -11,5 +11,5 @@ on_ok (Err e) f p = p
 
 pub returns : goal.returns
 returns c =
-    on_ok c.put.result (adds_key (kept_view c.args.kept.now) (book_view c.args.book.now) c.args.entry.now c.in_ok-task.task c.args.names.now.keys c.put.new.names.keys
+    on_ok c.put.result (adds_key (kept_view c.args.kept.now) (book_view c.args.book.now) c.args.entry.now c.in_ok-task.task c.args.names.now c.put.new.names
     (c.in_ok-task.ensures {u = tt}) (sym c.is_other.ensures ∙ c.if-not-is_other.false)) c.put.ensures.put

@@ -4,4 +4,4 @@ use Rattle.carte_mark.proofs.OtherTasks.{AreOthersBefore}
 use Rattle.carte_mark.proofs.tasks.put_changed_rules.Given as goal
 
 abbrev pub invariant-loop-entry : goal.invariant-loop-entry
-invariant-loop-entry l = AreOthersBefore (kept_view l.kept) (book_view l.book) l.entry-items l.entry-index l.initial.names.keys l.names.keys
+invariant-loop-entry l = AreOthersBefore (kept_view l.kept) (book_view l.book) l.entry-items l.entry-index l.initial.names l.names

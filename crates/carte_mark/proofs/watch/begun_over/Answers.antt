@@ -7,5 +7,5 @@ use Rattle.carte_mark.proofs.watch.begun_over.Goals as goal
 pub returns : goal.returns
 returns c changed users =
     let ns = c.args.changed.now in
-    let put = (c.in_ok-put_each.ensures {u = tt}).put ∙ ap (λ ks. put_all ks ns) c.with_hasher-names.ensures.empty in
-    begun_by c.args.kept.now (book_view c.args.book.now) ns c.put_each.new.reached.keys c.in_ok-reached.reached.keys _ _ put (c.in_ok-gone.ensures {u = tt}) (c.in_ok-reached.ensures {u = tt}) (c.in_ok-marks.ensures {u = tt}) changed users
+    let put = (c.in_ok-put_each.ensures {u = tt}).put ∙ ap (λ ks. put_all ks ns) c.new-names.ensures in
+    begun_by c.args.kept.now (book_view c.args.book.now) ns c.put_each.new.reached c.in_ok-reached.reached _ _ put (c.in_ok-gone.ensures {u = tt}) (c.in_ok-reached.ensures {u = tt}) (c.in_ok-marks.ensures {u = tt}) changed users

@@ -32,6 +32,6 @@ returns c =
     let names = c.as_slice-name-items.result.now in
     let at = c.loop-name.name-index in
     let past : length names ≤ at = search rules in
-    let all = take_whole at names past ∙ c.as_slice-name-items.ensures.keys in
+    let all = take_whole at names past ∙ c.as_slice-name-items.ensures.names in
     let picked = subst (λ ns. ArePicked P ns c.loop-name.names.items) all c.loop-name.invariant in
-    if_ok c.listed.result (λ listed is. subst (ArePicked P c.args.suspects.now.keys) (sym is) picked) c.listed.ensures
+    if_ok c.listed.result (λ listed is. subst (ArePicked P c.args.suspects.now) (sym is) picked) c.listed.ensures

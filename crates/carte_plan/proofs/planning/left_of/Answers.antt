@@ -15,7 +15,7 @@ loop-mark-preserved c =
     let below : at < length marks = search rules in
     let more = take_more marks at c.mark-item.result below ∙ ap (λ x. take at marks ++ x ∷ []) (sym c.mark-item.is) in
     let fs = take c.args.count c.args.finished.now in
-    let gone = c.args.gone.now.keys in
+    let gone = c.args.gone.now in
     (c.in_ok-add_left.ensures {u = tt})
     ∙ (left_more fs gone (take at marks) c.loop-mark.left c.mark-item.result (not (is_among gone c.mark-item.result) && is_none (finished_of fs c.mark-item.result)) refl c.loop-mark.invariant
     ∙ ap (λ ms. marks_left (finishes_of fs) (record { marks = ms; gone = gone })) (sym more))

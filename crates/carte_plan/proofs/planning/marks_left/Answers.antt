@@ -8,5 +8,5 @@ pub returns : goal.returns
 returns c =
     let x = c.args.begun.now in
     if_ok c.left_of.result
-    (λ left is. is ∙ same_left (finishes_of (take c.args.count c.args.finished.now)) x.marks c.in_ok-gone.gone.keys x.gone (c.in_ok-gone.ensures {u = tt}))
+    (λ left is. is ∙ same_left (finishes_of (take c.args.count c.args.finished.now)) x.marks c.in_ok-gone.gone x.gone (c.in_ok-gone.ensures {u = tt}))
     c.left_of.ensures

@@ -9,7 +9,7 @@ use Rattle.carte_restart.proofs.first.chained.Goals as goal
 
 pub loop-name-preserved : goal.loop-name-preserved
 loop-name-preserved c =
-    let P = IsRuleAmong (book_view c.args.book.now) c.args.led.now.keys in
+    let P = IsRuleAmong (book_view c.args.book.now) c.args.led.now in
     let names = c.as_slice-name-items.result.now in
     let at = c.loop-name.name-index in
     let below : at < length names = search rules in
@@ -18,17 +18,17 @@ loop-name-preserved c =
     let ok = c.in_ok-push_led.ensures {u = tt} in
     record {
       picked = subst (λ ks. ArePicked P ks c.push_led.new.names) (sym more) (picked_more P (take at names) c.loop-name.names c.push_led.new.names c.name-item.result before.picked ok.pushes);
-      taken = λ none. subst (λ ks. AreTaken c.args.led.now.keys ks c.push_led.new.taken.items) (sym more) (ok.taken (take at names) (before.taken none));
+      taken = λ none. subst (λ ks. AreTaken c.args.led.now ks c.push_led.new.taken.items) (sym more) (ok.taken (take at names) (before.taken none));
     }
 
 pub returns-clause-picked : goal.returns-clause-picked
 returns-clause-picked c =
     let names = c.as_slice-name-items.result.now in
     let past : length names ≤ c.loop-name.name-index = search rules in
-    subst (λ ks. ArePicked (IsRuleAmong (book_view c.args.book.now) c.args.led.now.keys) ks c.loop-name.names) (take_whole c.loop-name.name-index names past ∙ c.as_slice-name-items.ensures) c.loop-name.invariant.picked
+    subst (λ ks. ArePicked (IsRuleAmong (book_view c.args.book.now) c.args.led.now) ks c.loop-name.names) (take_whole c.loop-name.name-index names past ∙ c.as_slice-name-items.ensures) c.loop-name.invariant.picked
 
 pub returns-clause-taken : goal.returns-clause-taken
 returns-clause-taken c none =
     let names = c.as_slice-name-items.result.now in
     let past : length names ≤ c.loop-name.name-index = search rules in
-    subst (λ ks. AreTaken c.args.led.now.keys ks c.loop-name.taken.items) (take_whole c.loop-name.name-index names past ∙ c.as_slice-name-items.ensures) (c.loop-name.invariant.taken none)
+    subst (λ ks. AreTaken c.args.led.now ks c.loop-name.taken.items) (take_whole c.loop-name.name-index names past ∙ c.as_slice-name-items.ensures) (c.loop-name.invariant.taken none)

@@ -6,6 +6,6 @@ use Rattle.carte_restart.proofs.first.chained.Given as goal
 
 abbrev pub invariant-loop-name : goal.invariant-loop-name
 invariant-loop-name l = record {
-  picked : ArePicked (IsRuleAmong (book_view l.book) l.led.keys) (take l.name-index l.name-items) l.names;
-  taken : AreTaken l.led.keys [] l.fn.taken.items → AreTaken l.led.keys (take l.name-index l.name-items) l.taken.items;
+  picked : ArePicked (IsRuleAmong (book_view l.book) l.led) (take l.name-index l.name-items) l.names;
+  taken : AreTaken l.led [] l.fn.taken.items → AreTaken l.led (take l.name-index l.name-items) l.taken.items;
 }

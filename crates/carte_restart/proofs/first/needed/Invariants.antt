@@ -4,4 +4,4 @@ use Rattle.carte_restart.specs.Led.{AreNeeded}
 use Rattle.carte_restart.proofs.first.needed.Given as goal
 
 abbrev pub invariant-loop-key : goal.invariant-loop-key
-invariant-loop-key l = AreNeeded (kept_view l.kept) (take l.key-index l.key-items) l.names.keys
+invariant-loop-key l = AreNeeded (kept_view l.kept) (take l.key-index l.key-items) l.names

@@ -14,8 +14,8 @@ returns c =
     let d = users_in c.args.self in
     let ns = c.in_ok-changed.changed in
     let picked = c.in_ok-changed.ensures {u = tt} in
-    let js = c.put_each.new.reached.keys in
-    let put = (c.in_ok-put_each.ensures {u = tt}).put ∙ ap (λ is. put_all is ns) c.with_hasher-suspects.ensures.empty in
+    let js = c.put_each.new.reached in
+    let put = (c.in_ok-put_each.ensures {u = tt}).put ∙ ap (λ is. put_all is ns) c.new-suspects.ensures in
     record {
       begun = λ so. (c.in_ok-begun.ensures {u = tt}) (are_changed K b ks ns d picked so) (users_of K b ks d so);
       watches = λ so. watches_left K b ks js d (changed_put K b ns js put (are_changed K b ks ns d picked so)) so;

@@ -4,7 +4,6 @@ use Rattle.carte_record.specs.Folds.{applied}
 use Rattle.carte_record.specs.Kept.{kept_view}
 use Rattle.carte_table.proofs.Fronts.{take_whole}
 use Rattle.carte_mark.specs.Watching.{Watches, suspects_in, users_in}
-use Rattle.carte_mark.specs.declared.watch.Watch.{Watch}
 use Rattle.carte_mark.proofs.Learning.{KnowsAll, all_more, grows_on, grows_self, users_on}
 use Rattle.carte_mark.proofs.Watching.{users_of, watches_all, watches_on}
 use Rattle.carte_mark.proofs.watch.Watch.learn.Goals as goal

@@ -16,7 +16,7 @@ pub returns-then-has_needs : goal.returns-then-has_needs
 returns-then-has_needs c =
     let ks = suspects_in c.args.self.now in
     let d = users_in c.args.self.now in
-    let js = c.put.new.names.keys in
+    let js = c.put.new.names in
     let e = c.args.entry.now in
     let put = (c.in_ok-put.ensures {u = tt}).put in
     (grows_put ks js d e.key put, (λ users. knows_same (kept_view c.args.kept.now) ks js d e put (c.has_needs.ensures c.if-has_needs.true) users))
@@ -25,7 +25,7 @@ pub returns : goal.returns
 returns c =
     let ks = suspects_in c.args.self.now in
     let d = users_in c.args.self.now in
-    let js = c.put.new.names.keys in
+    let js = c.put.new.names in
     let e = c.args.entry.now in
     let put = (c.in_ok-put.ensures {u = tt}).put in
     let new = λ (q : List ℕ). keys_in (get name_eq c.add_all.new.users q) in

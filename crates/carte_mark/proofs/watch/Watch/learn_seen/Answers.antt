@@ -15,7 +15,7 @@ loop-link-preserved c =
     let here = slice_get_read links (length links) at c.link-item.result refl below c.link-item.is in
     let first = c.args.self.now in
     let old = c.loop-link.self in
-    let js = c.put.new.names.keys in
+    let js = c.put.new.names in
     let put = (c.in_ok-put.ensures {u = tt}).put in (
       grows_on (suspects_in first) (suspects_in old) js (users_in first) (users_in old) (users_in old) c.loop-link.invariant.0 (grows_put (suspects_in old) js (users_in old) c.link-item.result.name put),
       seen_more (suspects_in old) js links at c.link-item.result here put c.loop-link.invariant.1,

@@ -3,4 +3,4 @@ use Rattle.carte_mark.proofs.Watching.{watches_set}
 use Rattle.carte_mark.proofs.watch.Watch.suspect.Goals as goal
 
 pub returns : goal.returns
-returns c K b d same so = watches_set K b d c.args.name.now (suspects_in c.args.self) c.put.new.names.keys (users_in c.args.self) same (c.in_ok-put.ensures {u = tt}).put so
+returns c K b d same so = watches_set K b d c.args.name.now (suspects_in c.args.self) c.put.new.names (users_in c.args.self) same (c.in_ok-put.ensures {u = tt}).put so
