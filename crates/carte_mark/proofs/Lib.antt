@@ -1,6 +1,7 @@
 pub mod Using
 pub mod Putting
 pub mod Finding
+pub mod ByNumber
 pub mod Spreading
 pub mod Changing
 pub mod Passing

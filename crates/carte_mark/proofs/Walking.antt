@@ -30,12 +30,12 @@ module _ (K : SomeKept) where
           subst (Among new) (sym same) (closed needs.0 (subst (λ i. K.entries i ≡ Some needs.0) same needs.1) (record { name = q; needed = needs.2; among = puts.spreads.stays q was }))
       each j q (inr nowhere) needs was = absurd nowhere
 
-  -- one key more
-  pub puts_further : (ks old mid new : List (List ℕ)) (k : List ℕ) → PutsUsers K ks old mid → PutsUsers K (k ∷ []) mid new → PutsUsers K (ks ++ k ∷ []) old new
-  puts_further ks old mid new k first second = record {
+  -- more keys
+  pub puts_further : (ks js old mid new : List (List ℕ)) → PutsUsers K ks old mid → PutsUsers K js mid new → PutsUsers K (ks ++ js) old new
+  puts_further ks js old mid new first second = record {
     front = begins_on old mid new first.front second.front;
     spreads = spreads_on K old mid new first.spreads second.spreads;
-    each = λ j q among needs was. elim (among_append ks (k ∷ []) j among) [
+    each = λ j q among needs was. elim (among_append ks js j among) [
       | inl before ↦ second.spreads.stays j (first.each j q before needs was)
       | inr here ↦ second.each j q here needs (first.spreads.stays q was)
     ];

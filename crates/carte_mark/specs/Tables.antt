@@ -1,9 +1,10 @@
 -- Tables of the keys that need a name.
-use Rattle.std.specs.Prelude.{ℕ, ◌≡◌, ◌⊎◌, List, [], ◌∷◌, ◌++◌, Option, Some, None, if◌then◌else◌}
+use Rattle.std.specs.Prelude.{ℕ, ◌≡◌, ◌<◌, ◌≤◌, ◌⊎◌, List, [], ◌∷◌, ◌++◌, Option, Some, None, get_or, length, slice_get, if◌then◌else◌}
 use Rattle.carte_name.specs.Names.{name_eq}
 use Rattle.carte_value.specs.Truths.{Among}
 use Rattle.carte_record.specs.declared.entry.Entry.{Entry}
-use Rattle.carte_value.specs.Lists.{Begins}
+use Rattle.carte_value.specs.Lists.{Begins, Has}
+use Rattle.carte_value.specs.Numbers.{number_of}
 use Rattle.carte_record.specs.Kept.{SomeKept}
 use Rattle.carte_record.specs.Lookups.{first_entry}
 use Rattle.carte_mark.specs.Reached.{Spreads}
@@ -12,9 +13,40 @@ use Rattle.carte_mark.specs.Reached.{Spreads}
 abbrev pub Users : Type 0
 Users = List ℕ → List (List ℕ)
 
-abbrev pub keys_in : Option (List (List ℕ)) → List (List ℕ)
-keys_in None = []
-keys_in (Some ks) = ks
+-- such a table of numbers: names in the order of their numbers, and at the number of a name those of the keys
+pub record Numbered : Type 0 where
+  pub names : List (List ℕ)
+  pub users : List (List ℕ)
+
+abbrev pub no_users : Numbered
+no_users = record { names = []; users = [] }
+
+abbrev pub named : Option (List ℕ) → List (List ℕ)
+named None = []
+named (Some k) = k ∷ []
+
+-- the names of numbers
+abbrev pub names_at : List (List ℕ) → List ℕ → List (List ℕ)
+names_at ks [] = []
+names_at ks (n ∷ ns) = named (slice_get ks n) ++ names_at ks ns
+
+abbrev pub numbers_at : List (List ℕ) → Option ℕ → List ℕ
+numbers_at us None = []
+numbers_at us (Some n) = get_or us n []
+
+-- what the table stands for
+abbrev pub users_by : Numbered → Users
+users_by t q = names_at t.names (numbers_at t.users (number_of t.names q))
+
+-- names have the lists, and the numbers
+pub record AreWithin (t : Numbered) : Type 0 where
+  pub lists : length t.users ≤ length t.names
+  pub numbers : (i m : ℕ) → Has (get_or t.users i []) m → m < length t.names
+
+-- empty lists more, and not beyond so many
+pub record Fills (count : ℕ) (old new : List (List ℕ)) : Type 0 where
+  pub same : (i : ℕ) → get_or new i [] ≡ get_or old i []
+  pub few : length old ≤ count → length new ≤ count
 
 -- the key's entry names it as a need
 abbrev pub Needs : List Entry → List ℕ → List ℕ → Type 0

@@ -1,6 +1,5 @@
 -- What is known between two builds.
 use Rattle.std.specs.Prelude.{ℕ, ◌≡◌, Bool, true, List, Option, Some, None}
-use Rattle.std.specs.HashMap.{get}
 use Rattle.std.specs.List.{list_any}
 use Rattle.carte_name.specs.Names.{name_eq}
 use Rattle.carte_value.specs.declared.link.Link.{Link}
@@ -13,14 +12,14 @@ use Rattle.carte_record.specs.Kept.{SomeKept}
 use Rattle.carte_record.specs.Lookups.{entry_in}
 use Rattle.carte_sound.specs.Marks.{IsChanged}
 use Rattle.carte_mark.specs.declared.watch.Watch.{Watch}
-use Rattle.carte_mark.specs.Tables.{HasUsers, NeedsIn, Users, keys_in}
+use Rattle.carte_mark.specs.Tables.{HasUsers, NeedsIn, Users, users_by}
 
 -- the suspected names, and of each name the keys of the table
 abbrev pub suspects_in : Watch → List (List ℕ)
 suspects_in w = w.suspects
 
 abbrev pub users_in : Watch → Users
-users_in w = λ q. keys_in (get name_eq w.users q)
+users_in w = users_by w.users
 
 -- the name is in the list, as a test says it
 abbrev pub is_in : List (List ℕ) → List ℕ → Bool

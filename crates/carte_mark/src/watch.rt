@@ -1,6 +1,4 @@
 ghost use Rattle.std.specs.Prelude.{◌≡◌, ◌↔◌, ℕ, List, true, IfOk, OnOk};
-ghost use Rattle.std.specs.HashMap.{get};
-ghost use Rattle.carte_name.specs.Names.{name_eq};
 ghost use Rattle.carte_book.specs.Book.{Book as SomeBook, book_view};
 ghost use Rattle.carte_record.specs.Folds.{applied};
 ghost use Rattle.carte_record.specs.Kept.{SomeKept, kept_view};
@@ -8,7 +6,7 @@ ghost use Rattle.carte_sound.specs.Marks.{IsChanged};
 ghost use Rattle.carte_mark.specs.Bases.{IsBegun};
 ghost use Rattle.carte_mark.specs.Marking.{ArePicked, Pushes};
 ghost use Rattle.carte_mark.specs.Reached.{AreChanged};
-ghost use Rattle.carte_mark.specs.Tables.{HasUsers, keys_in};
+ghost use Rattle.carte_mark.specs.Tables.{HasUsers, users_by};
 ghost use Rattle.carte_mark.specs.Watching.{IsWatched, Learns, LearnsEntries, LearnsEntry, LearnsSeen, NeedsSame, SameBut, Watches};
 
 use crate::base::Begun;
@@ -17,7 +15,7 @@ use crate::gone::gone;
 use crate::marking::{listed, marks_of};
 use crate::set::put;
 use crate::tasks::is_other;
-use crate::users::{Users, add_all, users};
+use crate::users::{Users, add_all, table};
 use crate::walk::{put_each, walk_over};
 use carte_book::Book;
 use carte_effect::Digests;
@@ -44,7 +42,7 @@ impl Watch {
         ensures { IfOk result (Watches (kept_view kept.now) (book_view book.now)) }
     {
         let suspects = changed(alloc, kept, book)?;
-        let users = users(alloc, &kept.entries, book.hasher())?;
+        let users = table(alloc, &kept.entries, book.hasher())?;
         Ok(Watch {
             suspects,
             users,
@@ -216,12 +214,12 @@ fn begun_over(
     changed: &Names,
     users: &Users,
 ) -> Result<Begun, NoMemory>
-    ensures { IfOk result (λ begun. AreChanged (kept_view kept.now) (book_view book.now) changed.now → HasUsers (kept_view kept.now) (λ q. keys_in (get name_eq users.now q)) → IsBegun (kept_view kept.now) (book_view book.now) begun) }
+    ensures { IfOk result (λ begun. AreChanged (kept_view kept.now) (book_view book.now) changed.now → HasUsers (kept_view kept.now) (users_by users.now) → IsBegun (kept_view kept.now) (book_view book.now) begun) }
 {
     let mut names = Numbering::new(alloc, book.hasher());
     put_each(changed, &mut names)?;
     let gone = gone(alloc, kept, book, &names)?;
-    let reached = walk_over(alloc, kept, users, names)?;
+    let reached = walk_over(kept, users, names)?;
     let marks = marks_of(alloc, kept, &reached)?;
     Ok(Begun { marks, gone })
 }

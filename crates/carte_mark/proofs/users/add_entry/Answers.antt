@@ -1,7 +1,5 @@
-use Rattle.std.proofs.Common.{ℕ, List, Result, Ok, Err, OnOk, sym, ◌∙◌, ap, option_copied}
-use Rattle.std.specs.HashMap.{get}
-use Rattle.carte_name.specs.Names.{name_eq}
-use Rattle.carte_mark.specs.Tables.{keys_in}
+use Rattle.std.proofs.Common.{Result, Ok, Err, OnOk, sym, ◌∙◌, ap, option_copied}
+use Rattle.carte_mark.specs.Tables.{users_by}
 use Rattle.carte_mark.proofs.Using.{adds_found, adds_nothing}
 use Rattle.carte_mark.proofs.users.add_entry.Goals as goal
 
@@ -11,9 +9,9 @@ on_ok (Err e) f p = p
 
 pub returns-in-Some : goal.returns-in-Some
 returns-in-Some c =
-    let old = λ (q : List ℕ). keys_in (get name_eq c.args.users.now q) in
-    let new = λ (q : List ℕ). keys_in (get name_eq c.add_all.new.users q) in
+    let old = users_by c.args.users.now in
+    let new = users_by c.add_all.new.users in
     on_ok c.add_all.result (adds_found c.args.entries.now old new c.args.key.now c.in-Some.entry.now (sym c.find.ensures ∙ ap option_copied c.in-Some.is)) c.add_all.ensures
 
 pub returns-in-None : goal.returns-in-None
-returns-in-None c = adds_nothing c.args.entries.now (λ (q : List ℕ). keys_in (get name_eq c.args.users.now q)) c.args.key.now (sym c.find.ensures ∙ ap option_copied c.in-None.is)
+returns-in-None c = adds_nothing c.args.entries.now (users_by c.args.users.now) c.args.key.now (sym c.find.ensures ∙ ap option_copied c.in-None.is)

@@ -1,29 +1,33 @@
-use Rattle.std.proofs.Common.{◌<◌, ◌≤◌, [], ◌∷◌, ◌++◌, length, take, ap, sym, ◌∙◌, subst, rules}
+use Rattle.std.proofs.Common.{◌<◌, ◌≤◌, [], ◌∷◌, length, get_or, take, ap, sym, ◌∙◌, subst, rules}
 use Rattle.std.proofs.lemmas.List.{take_more}
 use Rattle.carte_record.specs.Kept.{kept_view}
 use Rattle.carte_table.proofs.Fronts.{take_whole}
-use Rattle.carte_mark.specs.Tables.{PutsUsers}
+use Rattle.carte_mark.specs.Tables.{PutsUsers, names_at}
+use Rattle.carte_mark.proofs.ByNumber.{names_on}
 use Rattle.carte_mark.proofs.Walking.{puts_nothing, puts_further}
 use Rattle.carte_mark.proofs.walk.put_those.Goals as goal
 
-pub loop-key-init : goal.loop-key-init
-loop-key-init c = puts_nothing (kept_view c.args.kept.now) c.args.reached.now
+pub loop-number-init : goal.loop-number-init
+loop-number-init c = puts_nothing (kept_view c.args.kept.now) c.args.reached.now
 
-pub loop-key-preserved : goal.loop-key-preserved
-loop-key-preserved c =
+pub loop-number-preserved : goal.loop-number-preserved
+loop-number-preserved c =
     let K = kept_view c.args.kept.now in
-    let keys = c.as_slice-key-items.result.now in
-    let at = c.loop-key.key-index in
-    let below : at < length keys = search rules in
-    let more = take_more keys at c.key-item.result below ∙ ap (λ x. take at keys ++ x ∷ []) (sym c.key-item.is) in
+    let ks = c.args.users.now.names in
+    let numbers = c.args.numbers.now in
+    let at = c.loop-number.number-index in
+    let below : at < length numbers = search rules in
+    let number = get_or numbers at 0 in
+    let more = take_more numbers at 0 below in
     let old = c.args.reached.now in
-    let new = c.put_that.new.reached in
-    subst (λ ks. PutsUsers K ks old new) (sym more) (puts_further K (take at keys) old c.loop-key.reached new c.key-item.result c.loop-key.invariant (c.in_ok-put_that.ensures {u = tt}))
+    let new = c.put_numbered.new.reached in
+    let on = ap (names_at ks) more ∙ names_on ks (take at numbers) (number ∷ []) in
+    subst (λ js. PutsUsers K js old new) (sym on)
+    (puts_further K (names_at ks (take at numbers)) (names_at ks (number ∷ [])) old c.loop-number.reached new c.loop-number.invariant (c.in_ok-put_numbered.ensures {u = tt}))
 
 pub returns : goal.returns
 returns c =
-    let keys = c.as_slice-key-items.result.now in
-    let at = c.loop-key.key-index in
-    let past : length keys ≤ at = search rules in
-    let all = take_whole at keys past ∙ c.as_slice-key-items.ensures in
-    subst (λ ks. PutsUsers (kept_view c.args.kept.now) ks c.args.reached.now c.loop-key.reached) all c.loop-key.invariant
+    let numbers = c.args.numbers.now in
+    let at = c.loop-number.number-index in
+    let past : length numbers ≤ at = search rules in
+    subst (λ ns. PutsUsers (kept_view c.args.kept.now) (names_at c.args.users.now.names ns) c.args.reached.now c.loop-number.reached) (take_whole at numbers past) c.loop-number.invariant

@@ -1,8 +1,6 @@
-use Rattle.std.proofs.Common.{ℕ, List, Result, Ok, Err}
-use Rattle.std.specs.HashMap.{get}
+use Rattle.std.proofs.Common.{Result, Ok, Err}
 use Rattle.std.specs.Prelude.{IfOk}
-use Rattle.carte_name.specs.Names.{name_eq}
-use Rattle.carte_mark.specs.Tables.{keys_in}
+use Rattle.carte_mark.specs.Tables.{users_by}
 use Rattle.carte_mark.proofs.Reaching.{has_users}
 use Rattle.carte_mark.proofs.walk.walk.Goals as goal
 
@@ -12,5 +10,5 @@ if_ok (Err e) f p = p
 
 pub returns : goal.returns
 returns c =
-    let d = λ (q : List ℕ). keys_in (get name_eq c.in_ok-users.users q) in
+    let d = users_by c.in_ok-users.users in
     if_ok c.walk_over.result (λ reached are. are (has_users c.args.kept.now d (c.in_ok-users.ensures {u = tt}))) c.walk_over.ensures

@@ -1,17 +1,15 @@
-use Rattle.std.proofs.Common.{◌<◌, ◌≤◌, ℕ, List, length, rules, arith}
-use Rattle.std.specs.HashMap.{get}
-use Rattle.carte_name.specs.Names.{name_eq}
-use Rattle.carte_mark.specs.Tables.{keys_in}
+use Rattle.std.proofs.Common.{◌<◌, ◌≤◌, length, rules, arith}
+use Rattle.carte_mark.specs.Tables.{users_by}
 use Rattle.carte_mark.proofs.Putting.{get_there}
 use Rattle.carte_mark.proofs.Reaching.{reaching_first, reaching_next, reached_all, reached_few}
 use Rattle.carte_mark.proofs.walk.walk_over.Goals as goal
 
 pub loop-next-init : goal.loop-next-init
-loop-next-init c = reaching_first c.args.kept.now (λ (q : List ℕ). keys_in (get name_eq c.args.users.now q)) c.args.names
+loop-next-init c = reaching_first c.args.kept.now (users_by c.args.users.now) c.args.names
 
 pub loop-next-smaller : goal.loop-next-smaller
 loop-next-smaller c =
-    let d = λ (q : List ℕ). keys_in (get name_eq c.args.users.now q) in
+    let d = users_by c.args.users.now in
     let few = reached_few c.args.kept.now d c.args.names c.loop-next.reached c.loop-next.next c.as_slice.ensures.once c.loop-next.invariant in
     let below : c.loop-next.next < length c.loop-next.reached = search rules in
     omega arith
@@ -19,7 +17,7 @@ loop-next-smaller c =
 pub loop-next-preserved : goal.loop-next-preserved
 loop-next-preserved c =
     let K = c.args.kept.now in
-    let d = λ (q : List ℕ). keys_in (get name_eq c.args.users.now q) in
+    let d = users_by c.args.users.now in
     let rs = c.loop-next.reached in
     let below : c.loop-next.next < length rs = search rules in
     let there = get_there rs c.loop-next.next below in
@@ -27,6 +25,6 @@ loop-next-preserved c =
 
 pub returns : goal.returns
 returns c users =
-    let d = λ (q : List ℕ). keys_in (get name_eq c.args.users.now q) in
+    let d = users_by c.args.users.now in
     let past : length c.loop-next.reached ≤ c.loop-next.next = search rules in
     reached_all c.args.kept.now d c.args.names c.loop-next.reached c.loop-next.next users past c.loop-next.invariant

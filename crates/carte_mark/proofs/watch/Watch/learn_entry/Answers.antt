@@ -1,9 +1,7 @@
-use Rattle.std.proofs.Common.{ℕ, List, Result, Ok, Err}
-use Rattle.std.specs.HashMap.{get}
+use Rattle.std.proofs.Common.{Result, Ok, Err}
 use Rattle.std.specs.Prelude.{OnOk}
-use Rattle.carte_name.specs.Names.{name_eq}
 use Rattle.carte_record.specs.Kept.{kept_view}
-use Rattle.carte_mark.specs.Tables.{keys_in}
+use Rattle.carte_mark.specs.Tables.{users_by}
 use Rattle.carte_mark.specs.Watching.{suspects_in, users_in}
 use Rattle.carte_mark.proofs.Learning.{grows_put, knows_added, knows_same}
 use Rattle.carte_mark.proofs.watch.Watch.learn_entry.Goals as goal
@@ -28,5 +26,5 @@ returns c =
     let js = c.put.new.names in
     let e = c.args.entry.now in
     let put = (c.in_ok-put.ensures {u = tt}).put in
-    let new = λ (q : List ℕ). keys_in (get name_eq c.add_all.new.users q) in
+    let new = users_by c.add_all.new.users in
     on_ok c.add_all.result (λ adds. let known = knows_added ks js d new e put adds in (known.0, (λ users. known.1))) c.add_all.ensures
