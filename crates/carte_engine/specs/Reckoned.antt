@@ -57,6 +57,7 @@ pub record IsReckoned (b : Book) (targets : List (List ℕ)) (w : Work) (built :
   pub ran : IsListOf (Among (ran_in w.finished)) built.ran
   pub reused : built.reused ≡ length w.finished - length built.ran
   pub given_up : built.given_up ≡ left_open w.runs
+  pub finished : built.finished ≡ w.finished
   pub runs : built.runs ≡ w.runs
 
 -- An answer with values is reckoned from work, whatever is kept: of each target that isn't an input a key was finished, and its value is told.

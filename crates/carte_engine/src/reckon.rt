@@ -38,6 +38,7 @@ pub(crate) fn reckon(
         ran,
         given_up: work.runs.given_up(),
         reused,
+        finished: work.finished,
         runs: work.runs,
     })
 }

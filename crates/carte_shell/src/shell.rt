@@ -19,7 +19,7 @@ use crate::stops::{build_reply, stopped};
 use crate::why::explanation;
 use crate::{Choices, Reply};
 use carte_book::Book;
-use carte_engine::{Engine, Plan};
+use carte_engine::{Built, Engine, Plan};
 use carte_io::Disk;
 use carte_mark::{Begun, Watch};
 use carte_record::Batch;
@@ -41,6 +41,9 @@ pub struct Shell {
     pub(crate) engine: Engine,
     watch: Option<Watch>,
     has_built: bool,
+    // What the last build made. To let it go takes as long as to look at each of its keys, and a process with one build
+    // ends before that; the next build lets it go first.
+    made: Option<Built>,
     ghost watched: { IsWatchedIn engine (book_view book) watch },
 }
 
@@ -96,6 +99,7 @@ impl Shell {
             engine,
             watch: None,
             has_built: false,
+            made: None,
         }
     }
 
@@ -215,6 +219,7 @@ impl Shell {
         ensures book { self.new.book ≡ self.old.book }
         ensures engine { self.new.engine ≡ self.old.engine }
     {
+        self.made = None;
         let known = self.begin(alloc)?;
         let Plan { batches, answer } = plan(
             rt,
@@ -226,7 +231,8 @@ impl Shell {
             targets,
             gate,
         )?;
-        let reply = build_reply(alloc, self.choices.list, targets, answer)?;
+        let (reply, made) = build_reply(alloc, self.choices.list, targets, answer)?;
+        self.made = made;
         let watch = self.learned(alloc, batches.as_slice())?;
         Ok((batches, reply, watch))
     }

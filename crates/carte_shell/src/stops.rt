@@ -5,19 +5,20 @@ ghost use Rattle.carte_shell.specs.Replies.{build_reply, said};
 ghost use Rattle.carte_shell.specs.Stopping.{fault_of};
 
 use crate::Reply;
-use carte_engine::{Answer, ApplyFault, Ran};
+use carte_engine::{Answer, ApplyFault, Built, Ran};
 use carte_report::reply;
 use carte_session::StepEnd;
 use carte_value::{Names, NoMemory};
 use std::alloc::Global;
 
+/// The reply of a build, and what the build has made, where it has.
 pub(crate) fn build_reply(
     alloc: Global,
     list: bool,
     targets: &Names,
     answer: Answer,
-) -> Result<Reply, NoMemory>
-    ensures { IfOk result (λ reply. said reply ≡ build_reply list targets.now answer) }
+) -> Result<(Reply, Option<Built>), NoMemory>
+    ensures { IfOk result (λ r. said r.0 ≡ build_reply list targets.now answer) }
 {
     match answer {
         Answer::Built(built) => {
@@ -31,9 +32,9 @@ pub(crate) fn build_reply(
                 built.given_up,
                 built.reused,
             )?;
-            Ok(Reply::plain(text))
+            Ok((Reply::plain(text), Some(built)))
         }
-        Answer::Refused(reason, _) => Reply::refusal(alloc, reason),
+        Answer::Refused(reason, _) => Ok((Reply::refusal(alloc, reason)?, None)),
     }
 }
 
