@@ -60,7 +60,7 @@ pub record IsReckoned (b : Book) (targets : List (List ℕ)) (w : Work) (built :
   pub finished : built.finished ≡ w.finished
   pub runs : built.runs ≡ w.runs
 
--- An answer with values is reckoned from work, whatever is kept: of each target that isn't an input a key was finished, and its value is told.
+-- An answer with values is reckoned from work whose finished keys it shows, whatever is kept: of each target that isn't an input a key was finished, and its value is told.
 abbrev pub TellsFinished : Book → List (List ℕ) → Answer → Type 0
 TellsFinished b targets (answer.Built built) = (w : Work) × HasTargets b targets (All w) × IsReckoned b targets w built
 TellsFinished b targets (answer.Refused reason runs) = Unit {0}
