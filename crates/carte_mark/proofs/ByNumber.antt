@@ -7,7 +7,7 @@ use Rattle.carte_value.specs.Firsts.{seen_also}
 use Rattle.carte_value.specs.Lists.{Begins, Has}
 use Rattle.carte_value.specs.Numbers.{number_of}
 use Rattle.carte_value.specs.Truths.{Among, NoneTwice}
-use Rattle.carte_mark.proofs.NumberedV.{numbered_there}
+use Rattle.carte_value.proofs.Numbered.{numbered_there}
 use Rattle.carte_table.proofs.Names.{name_eq_is, name_eq_self}
 use Rattle.carte_table.proofs.Steps.{begins_self}
 use Rattle.carte_mark.specs.Tables.{AddsKey, AreWithin, Fills, Numbered, named, names_at, numbers_at, users_by}
