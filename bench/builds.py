@@ -1,15 +1,23 @@
 #!/usr/bin/env python3
-"""Measures incremental builds against a plain Rust program: builds.py PROGRAM [KEYS..]
+"""Holds incremental builds to bounds beside a plain Rust program: builds.py PROGRAM [KEYS..] [--rounds N] [--quick]
 
-Both read the same generated book and keep the same state file with the same syncs (plain_builds.rs). Six builds in a
-row: from nothing; the same again; after an edit of three inputs; after an edit of an input on which about half of the
-reached keys depend; this again; after an edit of one rule whose value stays. Of each: instructions and allocations a key of the book, counted by callgrind, user and system time
-and the greatest memory in runs of their own, each beside the plain program's. Both programs must print the same values
-and counts and leave the same bytes. The script ends with 1 where a bound isn't kept: with 65,536 keys at most 3 times the plain program's
-instructions and at most 64 MB (96 from the fourth build on), at most 8 allocations a key, at most 1.1 times the instructions
-a key of 8,192 keys, and in the last build at most 1.1 times those of the one before, where nothing changed. BOUND=4 sets the first. Other words: --rebuilder NAME and --scheduler NAME are handed to the program.
+Both read the same generated book, of 8,192 and then of 65,536 keys or of KEYS, and keep the same state file with the same syncs
+(plain_builds.rs). Six builds in a row: from nothing; the same again; after an edit of three inputs; after an edit of an input on which
+about half of the reached keys depend; this again; after an edit of one rule whose value stays. Of each, for both programs:
+instructions, allocations and misses of a cache of 2 MB (last-level misses of data, read and written), counted and simulated by
+callgrind; the greatest memory of a run of its own; and the least user and system time together of N runs (15) of each program, taken
+in turn. Both must print the same values and counts in each run, and leave the same bytes.
+
+Each build prints a line, and behind all stands a table of the bounds: what was measured, what it may be at most, and bold where that
+isn't kept. With 65,536 keys all are held. With other numbers those are that have a meaning there: of allocations, of the instructions
+a key beside those of the first book, and of the instructions of the last build beside the one before, where nothing changed. With one
+book nothing is held beside the first. The script ends with how many bounds are kept, and with 1 where one isn't. With --quick no cache
+is simulated, and N is 3 unless --rounds says it. Other words: --rebuilder NAME and --scheduler NAME are handed to the program, whose
+replies and states may then be others than the plain program's.
 """
+import argparse
 import filecmp
+import math
 import os
 import pathlib
 import re
@@ -22,8 +30,21 @@ BENCH = pathlib.Path(__file__).resolve().parent
 sys.path.insert(0, str(BENCH))
 from generated import generated  # noqa: E402
 
-SEED = 1
-ALLOCATIONS, GROWTH, MEGABYTES = 8, 1.1, {"from nothing": 64, "nothing changed": 64, "3 inputs changed": 64, "half of the keys": 96, "half again": 96, "one rule edited": 96}
+SEED, WHOLE = 1, 65_536
+BUILDS = ("from nothing", "nothing changed", "3 inputs changed", "half of the keys", "half again", "one rule edited")
+# What each measure may be at most in each of these builds. The last three are held with any number of keys, the others with WHOLE.
+BOUNDS = {
+    "instructions, times plain": (1.75, 2.1, 2.1, 2.1, None, None),
+    "user and system time, times plain": (2.5, 3.0, 3.0, 2.5, None, None),
+    "greatest memory, MB": (40, 36, 36, 56, 96, 96),
+    "misses of the cache, times plain": (2.5, 2.5, 2.5, 2.5, 2.5, 2.5),
+    "time a key, times the first book": (1.6, 1.6, 1.6, 1.6, 1.6, 1.6),
+    "instructions a key, times the first book": (1.1, 1.1, 1.1, 1.1, 1.1, 1.1),
+    "allocations a key": (4, 4, 4, 4, 4, 4),
+    "instructions, times the build before": (None, None, None, None, None, 1.1),
+}
+ANYWHERE = list(BOUNDS)[-3:]
+CACHE = ("--cache-sim=yes", "--D1=49152,12,64", "--LL=2097152,16,64")
 ALLOCATING = re.compile(r"cfn=\((\d+)\)(?: (.*))?$|calls=(\d+) ")
 
 
@@ -87,11 +108,18 @@ def choose(book, target):
     return [name for _, name in counts[:3]], half[1]
 
 
+def collected(words, folder, *options):
+    """What a program says, and what callgrind counts, by the names of its events. Its profile is left in the folder."""
+    done = subprocess.run(["valgrind", "--tool=callgrind", *options, f"--callgrind-out-file={folder}/callgrind", *words],
+                          capture_output=True, text=True)
+    names, counts = (re.search(rf"^==\d+== {what} *: (.*)$", done.stderr, re.M)[1].split() for what in ("Events", "Collected"))
+    return done.stdout, {name: int(count) for name, count in zip(names, counts)}
+
+
 def instructions(words, folder):
     """What a program says, and its instructions. Its profile is left in the folder."""
-    done = subprocess.run(["valgrind", "--tool=callgrind", f"--callgrind-out-file={folder}/callgrind", *words],
-                          capture_output=True, text=True)
-    return done.stdout, int(re.search(r"Collected : (\d+)", done.stderr)[1])
+    said, counts = collected(words, folder)
+    return said, counts["Ir"]
 
 
 def allocations(profile):
@@ -117,29 +145,49 @@ def run_bare(words):
     return float(user) + float(system), int(memory)
 
 
+def run_timed(words):
+    """How it ended, what it said, and its user and system time in milliseconds."""
+    with tempfile.TemporaryFile("w+") as out:
+        child = os.posix_spawn(words[0], words, os.environ, file_actions=[(os.POSIX_SPAWN_DUP2, out.fileno(), 1)])
+        _, status, usage = os.wait4(child, 0)
+        out.seek(0)
+        return status, out.read(), 1000 * (usage.ru_utime + usage.ru_stime)
+
+
+def copied(state, path):
+    """The path, where then stands a copy of the state, or nothing as there."""
+    pathlib.Path(path).unlink(missing_ok=True)
+    if os.path.exists(state):
+        shutil.copyfile(state, path)
+    return path
+
+
 def fresh(folder, state):
     """Two copies of a state, one for counting and one for timing."""
-    pair = []
-    for name in ("counted", "timed"):
-        path = f"{folder}/{name}"
-        if os.path.exists(state):
-            shutil.copyfile(state, path)
-        elif os.path.exists(path):
-            os.remove(path)
-        pair.append(path)
-    return pair
+    return [copied(state, f"{folder}/{name}") for name in ("counted", "timed")]
 
 
 class Build:
     """One build by one program: what it said, and what it cost."""
 
-    def __init__(self, words, state, folder):
-        counted, timed = fresh(folder, state)
-        self.said, self.instructions = instructions(words(counted), folder)
+    def __init__(self, words, state, folder, options):
+        self.words, self.state, self.counted, self.timed = words, state, f"{state}.counted", f"{state}.timed"
+        self.said, counts = collected(words(copied(state, self.counted)), folder, *options)
+        self.instructions, self.misses = counts["Ir"], counts.get("DLmr", 0) + counts.get("DLmw", 0)
         self.allocations = allocations(f"{folder}/callgrind")
-        self.seconds, self.kilobytes = run_bare(words(timed))
-        shutil.copyfile(counted, state)
-        self.state = os.path.getsize(state)
+        self.megabytes = run_bare(words(copied(state, self.timed)))[1] / 1000
+        self.milliseconds, self.is_steady = math.inf, bool(self.said)
+
+    def take_turn(self):
+        """One run more, of which the time counts where it is the least."""
+        status, said, milliseconds = run_timed(self.words(copied(self.state, self.timed)))
+        self.is_steady &= status == 0 and said == self.said
+        self.milliseconds = min(self.milliseconds, milliseconds)
+
+    def leave(self):
+        """The state is then as the build leaves it."""
+        os.replace(self.counted, self.state)
+        self.bytes = os.path.getsize(self.state)
 
 
 def turned(book, target):
@@ -157,57 +205,121 @@ def books_of(keys, target):
     few, half = choose(text, target)
     edited_few = edited(text, {name: 1 for name in few})
     edited_half = edited(edited_few, {half: 1})
-    return zip(MEGABYTES, (text, text, edited_few, edited_half, edited_half, turned(edited_half, target)))
+    return zip(BUILDS, (text, text, edited_few, edited_half, edited_half, turned(edited_half, target)))
 
 
-def is_past(bound, *values):
-    return "" if max(values) <= bound else f", ABOVE {bound}"
-
-
-def told(keys, name, carte, plain, bounds):
-    """One build as text. Bounds that aren't kept stand in capitals."""
-    ratio, each = carte.instructions / plain.instructions, carte.allocations / keys
-    megabytes = carte.kilobytes / 1000
-    most, bounds = (MEGABYTES[name], bounds) if keys == 65_536 else (1e9, 1e9)
+def told(keys, name, carte, plain):
+    """One build as text."""
+    missed = f"{carte.misses / keys:.1f} and {plain.misses / keys:.1f} misses a key; " if plain.misses else ""
     return (f"{keys} keys, {name}: {carte.said.splitlines()[-1] if carte.said else 'nothing said'}; "
-            f"{carte.instructions / keys:.0f} and {plain.instructions / keys:.0f} instructions a key, ratio {ratio:.2f}{is_past(bounds, ratio)}; "
-            f"{each:.1f} and {plain.allocations / keys:.1f} allocations a key{is_past(ALLOCATIONS, each)}; "
-            f"{carte.seconds:.2f} and {plain.seconds:.2f} s; {megabytes:.1f} and {plain.kilobytes / 1000:.1f} MB{is_past(most, megabytes)}; "
-            f"states of {carte.state} and {plain.state} bytes")
+            f"{carte.instructions / keys:.0f} and {plain.instructions / keys:.0f} instructions a key, "
+            f"ratio {carte.instructions / plain.instructions:.2f}; "
+            f"{carte.allocations / keys:.1f} and {plain.allocations / keys:.1f} allocations a key; {missed}"
+            f"{carte.milliseconds:.1f} and {plain.milliseconds:.1f} ms; {carte.megabytes:.1f} and {plain.megabytes:.1f} MB; "
+            f"states of {carte.bytes} and {plain.bytes} bytes")
 
 
-def measure(program, extra, plain, keys, folder, bound):
-    """The instructions of the six builds, and whether all that is wanted of them by themselves holds."""
+def measure(wanted, plain, keys, folder):
+    """The six builds by either program, and in how many of them what they said or left isn't as it should be."""
     target, book = f"k{keys - 1}", f"{folder}/book.toml"
     states = [f"{folder}/{name}.{keys}.state" for name in ("carte", "plain")]
-    costs, kept = [], True
+    pairs, differing = [], 0
+    open(states[1], "ab").close()
     for name, text in books_of(keys, target):
         pathlib.Path(book).write_text(text)
-        carte = Build(lambda path: [program, "build", book, path, target, *extra], states[0], folder)
-        open(states[1], "ab").close()
-        other = Build(lambda path: [plain, book, path, target], states[1], folder)
-        line = told(keys, name, carte, other, bound)
-        same = bool(extra) or carte.said == other.said and filecmp.cmp(*states, shallow=False)
-        print(line + ("" if same else "; THE REPLIES OR THE STATES DIFFER"), flush=True)
-        kept &= same and "ABOVE" not in line
-        costs.append(carte.instructions / keys)
-    ratio = costs[-1] / costs[-2]
-    print(f"{keys} keys: one rule edited to nothing changed: {ratio:.3f}{is_past(GROWTH, ratio)}", flush=True)
-    return costs, kept and ratio <= GROWTH
+        carte = Build(lambda path: [wanted.program, "build", book, path, target, *wanted.extra], states[0], folder, wanted.options)
+        other = Build(lambda path: [plain, book, path, target], states[1], folder, wanted.options)
+        for _ in range(wanted.rounds):
+            carte.take_turn()
+            other.take_turn()
+        carte.leave()
+        other.leave()
+        same = bool(wanted.extra) or carte.said == other.said and filecmp.cmp(*states, shallow=False)
+        same &= carte.is_steady and other.is_steady
+        print(told(keys, name, carte, other) + ("" if same else "; THE REPLIES OR THE STATES DIFFER"), flush=True)
+        pairs.append((carte, other))
+        differing += not same
+    return pairs, differing
 
 
-def main(program, *words):
-    extra = [word for at, word in enumerate(words) if word.startswith("--") or (at and words[at - 1].startswith("--"))]
-    keys = [int(word) for word in words if word.isdigit()] or [8_192, 65_536]
-    bound = float(os.environ.get("BOUND", "3"))
+def ratios(pairs, what):
+    return [getattr(one, what) / getattr(other, what) for one, other in pairs]
+
+
+def growth(keys, pairs, first_keys, first_pairs, what):
+    """What a key costs the program in each build, beside what one of the first book does."""
+    beside = [(one, first) for (one, _), (first, _) in zip(pairs, first_pairs)]
+    return [ratio * first_keys / keys for ratio in ratios(beside, what)]
+
+
+def measures(keys, pairs, first):
+    """What each measure is in each build. What wasn't measured isn't there."""
+    ours = [carte for carte, _ in pairs]
+    found = {
+        "instructions, times plain": ratios(pairs, "instructions"),
+        "user and system time, times plain": ratios(pairs, "milliseconds"),
+        "greatest memory, MB": [it.megabytes for it in ours],
+        "allocations a key": [it.allocations / keys for it in ours],
+        "instructions, times the build before": [None] * (len(ours) - 1) + [ours[-1].instructions / ours[-2].instructions],
+    }
+    if ours[0].misses:
+        found["misses of the cache, times plain"] = ratios(pairs, "misses")
+    if first[0] != keys:
+        found["time a key, times the first book"] = growth(keys, pairs, *first, "milliseconds")
+        found["instructions a key, times the first book"] = growth(keys, pairs, *first, "instructions")
+    return found
+
+
+def is_past(value, bound):
+    return bound is not None and value > bound
+
+
+def cell(value, bound):
+    """A cell of the table. What isn't held stands there without a bound."""
+    text = ("" if value is None else f"{value:.2f}") + ("" if bound is None else f" (at most {bound:g})")
+    return f"**{text}**" if is_past(value, bound) else text
+
+
+def rows_of(keys, found):
+    """The rows of the bounds that are held with so many keys: a label, and values with their bounds."""
+    held = [it for it in BOUNDS if it in found and (keys == WHOLE or it in ANYWHERE)]
+    return [(f"{keys:,} keys: {it}", list(zip(found[it], BOUNDS[it]))) for it in held]
+
+
+def asked(words):
+    said = argparse.ArgumentParser(usage=__doc__)
+    said.add_argument("program", type=os.path.abspath)
+    said.add_argument("keys", nargs="*", type=int)
+    said.add_argument("--rounds", type=int)
+    said.add_argument("--quick", action="store_true")
+    said.add_argument("--rebuilder")
+    said.add_argument("--scheduler")
+    said = said.parse_intermixed_args(words)
+    said.rounds = said.rounds or (3 if said.quick else 15)
+    said.options = () if said.quick else CACHE
+    chosen = {"--rebuilder": said.rebuilder, "--scheduler": said.scheduler}
+    said.extra = [word for name, value in chosen.items() if value for word in (name, value)]
+    return said
+
+
+def main(words):
+    wanted, books, rows, differing = asked(words), [], [], 0
     with tempfile.TemporaryDirectory() as folder:
         plain = f"{folder}/plain"
         subprocess.run(["rustc", "-O", "--edition", "2021", "-o", plain, BENCH / "plain_builds.rs"], check=True)
-        all_costs, all_kept = zip(*(measure(os.path.abspath(program), extra, plain, count, folder, bound) for count in keys))
-    growth = [large / small for small, large in zip(all_costs[0], all_costs[-1])]
-    print(f"a key of {keys[-1]} beside one of {keys[0]}: {', '.join(f'{ratio:.2f}' for ratio in growth)}{is_past(GROWTH, *growth)}")
-    return 0 if all(all_kept) and max(growth) <= GROWTH else 1
+        for keys in wanted.keys or [8_192, WHOLE]:
+            pairs, differs = measure(wanted, plain, keys, folder)
+            books.append((keys, pairs))
+            rows += rows_of(keys, measures(keys, pairs, books[0]))
+            differing += differs
+    print(f"\n| | {' | '.join(BUILDS)} |\n|{'---|' * (len(BUILDS) + 1)}")
+    for label, cells in rows:
+        print(f"| {label} | {' | '.join(cell(*it) for it in cells)} |")
+    held = [it for _, cells in rows for it in cells if it[1] is not None]
+    past = sum(is_past(*it) for it in held)
+    print(f"\n{len(held) - past} of {len(held)} bounds are kept" + (f"; THE REPLIES OR THE STATES OF {differing} BUILDS DIFFER" if differing else ""))
+    return 1 if past or differing else 0
 
 
 if __name__ == "__main__":
-    sys.exit(main(*sys.argv[1:]))
+    sys.exit(main(sys.argv[1:]))
