@@ -4,8 +4,18 @@ use Rattle.carte_state.specs.States.{Stand}
 use Rattle.carte_shell.specs.Watched.{IsWatchedBehind, IsWatchedIn}
 use Rattle.carte_shell.proofs.shell.Shell.worked_out.Goals as goal
 
-pub invariant_of-self : goal.invariant_of-self
-invariant_of-self g c =
+pub invariant_of-self-2 : goal.invariant_of-self-2
+invariant_of-self-2 g c =
+    let begun = c.begin.new.self in
+    record { watched = subst (λ (s : Stand). IsWatchedIn s (book_view begun.book) begun.watch) (sym c.plan.ensures.kept) begun.watched }
+
+pub invariant_of-self-in-Break-branch-2 : goal.invariant_of-self-in-Break-branch-2
+invariant_of-self-in-Break-branch-2 g c =
+    let begun = c.begin.new.self in
+    record { watched = subst (λ (s : Stand). IsWatchedIn s (book_view begun.book) begun.watch) (sym c.plan.ensures.kept) begun.watched }
+
+pub invariant_of-self-in-Break-branch-3 : goal.invariant_of-self-in-Break-branch-3
+invariant_of-self-in-Break-branch-3 g c =
     let begun = c.begin.new.self in
     record { watched = subst (λ (s : Stand). IsWatchedIn s (book_view begun.book) begun.watch) (sym c.plan.ensures.kept) begun.watched }
 
