@@ -165,7 +165,19 @@ fn runs_show_what_they_did(rt: HostRuntime) -> Result<(), Fail> {
         let text = shown_over(&rt, rt.alloc(), words, book, state)?;
         assert_eq!(rt; text.as_str(), *want, "{words} of {book}");
     }
+    assert_eq!(rt;
+        without_memory(rt.alloc())?.as_str(),
+        "9\ncarte: out of memory\n"
+    );
     Ok(())
+}
+
+/// What is shown where there is no memory for the words themselves.
+fn without_memory(alloc: Global) -> Result<String, Fail> {
+    let mut err = MemSink::new(alloc, 4096, &[])?;
+    let status = out_of_memory(&mut err);
+    let said = str::from_utf8(err.bytes())?;
+    Ok(format!(in alloc; "{}\n{said}", status.code())?)
 }
 
 const SCRIPT: &str =
@@ -188,16 +200,6 @@ const REPLIES: &str =
 fn a_session_answers_its_lines(rt: HostRuntime) -> Result<(), Fail> {
     let text = session(&rt, rt.alloc())?;
     assert_eq!(rt; text.as_str(), REPLIES);
-    Ok(())
-}
-
-#[test]
-fn want_of_memory_has_its_line(rt: HostRuntime) -> Result<(), Fail> {
-    let mut err = MemSink::new(rt.alloc(), 4096, &[])?;
-    let status = out_of_memory(&mut err);
-    assert_eq!(rt; status.code(), 9);
-    let said = str::from_utf8(err.bytes())?;
-    assert_eq!(rt; said, "carte: out of memory\n");
     Ok(())
 }
 
