@@ -47,6 +47,14 @@ got m k = get-from_entries nat_list_cmp_total (entries_view m.entries) k ∙ vie
 pub item_found : (b : CodeBook) (k : List ℕ) → get (book_view b).items k ≡ option_map item_view (hash.get name_eq b.items k)
 item_found b k = got b.items k
 
+viewed_some : (o : Option CodeItem) → is_some o ≡ is_some (option_map item_view o)
+viewed_some None = refl
+viewed_some (Some x) = refl
+
+-- the map finds something exactly where the book holds it
+pub has_found : (b : CodeBook) (k : List ℕ) → is_some (hash.get name_eq b.items k) ≡ is_some (get (book_view b).items k)
+has_found b k = viewed_some (hash.get name_eq b.items k) ∙ ap is_some (sym (item_found b k))
+
 turned : (b : Bool) (x : CodeItem) (o : Option CodeItem) → option_map item_view (cond b (Some x) o) ≡ cond b (Some (item_view x)) (option_map item_view o)
 turned true x o = refl
 turned false x o = refl

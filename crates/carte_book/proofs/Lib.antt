@@ -4,6 +4,7 @@ pub mod Books
 pub mod RuleNames
 pub mod Fitting
 pub mod Ordered
+pub mod Placed
 pub mod Listed
 pub mod Digests
 pub mod Orders

@@ -13,4 +13,5 @@ pub mod Task
 pub mod Known
 pub mod Stuck
 pub mod Order
+pub mod Places
 pub mod Drafts

@@ -41,6 +41,7 @@ mod key_text;
 mod laws;
 mod needs;
 mod order;
+mod places;
 mod reason;
 mod task;
 

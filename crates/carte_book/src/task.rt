@@ -1,14 +1,11 @@
 ghost use Rattle.std.specs.Prelude.{◌≡◌, Some, IfOk};
-ghost use Rattle.indexmap.specs.IndexMap.{get, hasher_of};
-ghost use Rattle.carte_name.specs.Names.{name_eq};
 ghost use Rattle.carte_name.specs.declared.kind.Kind.{Kind as SomeKind};
 ghost use Rattle.carte_tree.specs.Code.{tree_of};
 ghost use Rattle.carte_tree.specs.Formula.{IsExpr};
-ghost use Rattle.carte_book.specs.Book.{book_view, hasher_in, item_view, entries_view, formula_of};
-ghost use Rattle.carte_book.specs.Fits.{FitsRule, FitsItem, Fits};
+ghost use Rattle.carte_book.specs.Book.{book_view, item_view, formula_of};
+ghost use Rattle.carte_book.specs.Fits.{FitsRule, FitsItem};
 ghost use Rattle.carte_book.specs.Task.{task_code, task_digest_of, task_held, task_now};
 
-use crate::book::Items;
 use crate::{Book, Item, Rule};
 use carte_tree::{Expr, print_expr};
 use carte_value::{Digest, Kind, Name, NoMemory};
@@ -40,37 +37,14 @@ impl Book {
         }
     }
 
-    /// Keeps what the task's digest of a name was worked out to be: from then on it is known, while the rule stands. It does
-    /// nothing where the name is no rule. It takes no memory.
-    pub fn learn_task(&mut self, name: &Name, task: Option<Digest>)
-        requires { task ≡ task_now (book_view self.old) name.now }
-        ensures book { book_view self.new ≡ book_view self.old }
-        ensures hasher { hasher_in self.new ≡ hasher_in self.old }
-    {
-        let is_new = learn_at(&mut self.items, name, task);
-        self.known_tasks = self.known_tasks.saturating_add(usize::from(is_new));
-    }
-
     /// Of so many rules, or of more, the digest of the task is known. It takes no memory.
     pub fn known_tasks(&self) -> usize {
         self.known_tasks
     }
 }
 
-// Keeps the digest of the task at a name, by one look, and tells whether it wasn't known yet.
-fn learn_at(items: &mut Items, name: &Name, task: Option<Digest>) -> bool
-    ensures fits { (q : SomeKind) → Fits q items.old.entries → task ≡ task_held q (get name_eq items.old name.now) → Fits q items.new.entries }
-    ensures view { entries_view items.new.entries ≡ entries_view items.old.entries }
-    ensures hasher { hasher_of items.new ≡ hasher_of items.old }
-{
-    match items.get_mut(name) {
-        Some(item) => item.learn(task),
-        None => false,
-    }
-}
-
 impl Item {
-    fn learn(&mut self, task: Option<Digest>) -> bool
+    pub(crate) fn learn(&mut self, task: Option<Digest>) -> bool
         ensures fits { (q : SomeKind) → FitsItem q self.old → task ≡ task_held q (Some self.old) → FitsItem q self.new }
         ensures view { item_view self.new ≡ item_view self.old }
     {
@@ -83,7 +57,12 @@ impl Item {
 
 impl Rule {
     // The digest of its task, which is no work where it is known.
-    fn digest(&self, alloc: Global, room: &mut Vec<u8>, kind: Kind) -> Result<Digest, NoMemory>
+    pub(crate) fn digest(
+        &self,
+        alloc: Global,
+        room: &mut Vec<u8>,
+        kind: Kind,
+    ) -> Result<Digest, NoMemory>
         requires { FitsRule kind self.now }
         ensures { IfOk result (λ d. d ≡ task_digest_of kind (formula_of self.now)) }
     {

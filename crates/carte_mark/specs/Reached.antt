@@ -3,7 +3,9 @@ use Rattle.std.specs.Prelude.{ℕ, ◌≡◌, ◌⊎◌, Bool, false, not, List,
 use Rattle.carte_value.specs.declared.digest.Digest.{Digest}
 use Rattle.carte_value.specs.declared.link.Link.{Link}
 use Rattle.carte_value.specs.Truths.{Among}
+use Rattle.carte_book.specs.declared.book.Book.{Book as CodeBook}
 use Rattle.carte_book.specs.Book.{Book}
+use Rattle.carte_book.specs.Places.{task_at}
 use Rattle.carte_record.specs.Kept.{SomeKept}
 use Rattle.carte_record.specs.declared.entry.Entry.{Entry}
 use Rattle.carte_book.specs.Task.{task_now}
@@ -20,9 +22,9 @@ abbrev pub is_other : Option Entry → Option Digest → Bool
 is_other None t = false
 is_other (Some e) t = not (is_digest t e.task)
 
--- the digests of the tasks of these entries' keys
-abbrev pub tasks_in : Book → List Entry → List (Option Digest)
-tasks_in b es = map (λ e. task_now b e.key) es
+-- the digests of the tasks of what stands at these places of a book
+abbrev pub tasks_at : CodeBook → List ℕ → List (Option Digest)
+tasks_at b ps = map (task_at b) ps
 
 -- it was seen with a digest that it hasn't now
 pub record IsSeenChanged (K : SomeKept) (b : Book) (k : List ℕ) : Type 0 where

@@ -1,10 +1,10 @@
-ghost use Rattle.std.specs.Prelude.{◌≡◌, ◌++◌, ◌∷◌, [], IfOk, OnOk};
+ghost use Rattle.std.specs.Prelude.{◌≡◌, ℕ, ◌++◌, ◌∷◌, [], IfOk, OnOk};
 ghost use Rattle.carte_book.specs.Book.{book_view};
-ghost use Rattle.carte_book.specs.Task.{task_now};
+ghost use Rattle.carte_book.specs.Places.{task_at};
 ghost use Rattle.carte_record.specs.Kept.{kept_view};
 ghost use Rattle.carte_record.specs.Lookups.{first_entry};
 ghost use Rattle.carte_sound.specs.Begun.{is_digest};
-ghost use Rattle.carte_mark.specs.Reached.{is_other, tasks_in, AddsOther, PutsOthers};
+ghost use Rattle.carte_mark.specs.Reached.{is_other, tasks_at, AddsOther, PutsOthers};
 
 use crate::set::put;
 use carte_book::Book;
@@ -28,11 +28,11 @@ pub fn know_tasks<T: Threads>(
 ) -> Result<(), NoMemory>
     ensures { book_view book.new ≡ book_view book.old }
 {
-    let all = entries.as_slice();
-    if book.known_tasks() >= all.len() {
+    if book.known_tasks() >= entries.len() {
         return Ok(());
     }
-    let (front, back) = all.split_at(all.len() / 2);
+    let places = places_of(alloc, entries.as_slice(), book)?;
+    let (front, back) = places.split_at(places.len() / 2);
     let (fronts, backs) = tasks_of_both(rt, alloc, front, back, book);
     let (fronts, backs) = (fronts?, backs?);
     learn_each(front, fronts.as_slice(), book);
@@ -40,18 +40,42 @@ pub fn know_tasks<T: Threads>(
     Ok(())
 }
 
+// The places in the book of the entries' keys, in the book's order: so their formulas are fetched as they stand in memory, and
+// not in the order in which a build met them.
+fn places_of(alloc: Global, entries: &[Entry], book: &Book) -> Result<Vec<usize>, NoMemory> {
+    let mut wanted = vec![in alloc; false; book.keys() as usize]?;
+    for entry in entries {
+        want(book, &entry.key, &mut wanted);
+    }
+    let mut places = Vec::with_capacity(alloc, entries.len())?;
+    for at in 0..wanted.len() {
+        if wanted[at] {
+            places.push(at)?;
+        }
+    }
+    Ok(places)
+}
+
+fn want(book: &Book, key: &Name, wanted: &mut [bool]) {
+    if let Some(at) = book.place(key) {
+        if let Some(is_wanted) = wanted.get_mut(at) {
+            *is_wanted = true;
+        }
+    }
+}
+
 fn tasks_of_both<T: Threads>(
     rt: &T,
     alloc: Global,
-    front: &[Entry],
-    back: &[Entry],
+    front: &[usize],
+    back: &[usize],
     book: &Book,
 ) -> (
     Result<Vec<Option<Digest>>, NoMemory>,
     Result<Vec<Option<Digest>>, NoMemory>,
 )
-    ensures front { IfOk result.0 (λ tasks. tasks.items ≡ tasks_in (book_view book.now) front.now) }
-    ensures back { IfOk result.1 (λ tasks. tasks.items ≡ tasks_in (book_view book.now) back.now) }
+    ensures front { IfOk result.0 (λ tasks. tasks.items ≡ tasks_at book.now front.now) }
+    ensures back { IfOk result.1 (λ tasks. tasks.items ≡ tasks_at book.now back.now) }
 {
     if back.len() < WORTH / 2 {
         return (tasks_of(alloc, front, book), tasks_of(alloc, back, book));
@@ -63,14 +87,14 @@ fn tasks_of_both<T: Threads>(
     )
 }
 
-// The digests of the tasks of entries' keys.
-fn tasks_of(alloc: Global, entries: &[Entry], book: &Book) -> Result<Vec<Option<Digest>>, NoMemory>
-    ensures { IfOk result (λ tasks. tasks.items ≡ tasks_in (book_view book.now) entries.now) }
+// The digests of the tasks at places.
+fn tasks_of(alloc: Global, places: &[usize], book: &Book) -> Result<Vec<Option<Digest>>, NoMemory>
+    ensures { IfOk result (λ tasks. tasks.items ≡ tasks_at book.now places.now) }
 {
     let mut room = Vec::new(alloc);
-    let mut tasks = Vec::with_capacity(alloc, entries.len())?;
-    for entry in entries {
-        push_task(alloc, &mut room, entry, book, &mut tasks)?;
+    let mut tasks = Vec::with_capacity(alloc, places.len())?;
+    for at in places {
+        push_task(alloc, &mut room, *at, book, &mut tasks)?;
     }
     Ok(tasks)
 }
@@ -78,22 +102,23 @@ fn tasks_of(alloc: Global, entries: &[Entry], book: &Book) -> Result<Vec<Option<
 fn push_task(
     alloc: Global,
     room: &mut Vec<u8>,
-    entry: &Entry,
+    at: usize,
     book: &Book,
     tasks: &mut Vec<Option<Digest>>,
 ) -> Result<(), NoMemory>
-    ensures { OnOk result (tasks.new.items ≡ tasks.old.items ++ task_now (book_view book.now) entry.now.key ∷ []) }
+    ensures { OnOk result (tasks.new.items ≡ tasks.old.items ++ task_at book.now at ∷ []) }
 {
-    tasks.push(book.task_digest_in(alloc, room, &entry.key)?)?;
+    tasks.push(book.task_digest_at(alloc, room, at)?)?;
     Ok(())
 }
 
-fn learn_each(entries: &[Entry], tasks: &[Option<Digest>], book: &mut Book)
-    requires { tasks.now ≡ tasks_in (book_view book.old) entries.now }
-    ensures { book_view book.new ≡ book_view book.old }
+fn learn_each(places: &[usize], tasks: &[Option<Digest>], book: &mut Book)
+    requires { tasks.now ≡ tasks_at book.old places.now }
+    ensures book { book_view book.new ≡ book_view book.old }
+    ensures tasks { (at : ℕ) → task_at book.new at ≡ task_at book.old at }
 {
-    for at in 0..entries.len() {
-        book.learn_task(&entries[at].key, tasks[at]);
+    for at in 0..places.len() {
+        book.learn_task_at(places[at], tasks[at]);
     }
 }
 
