@@ -13,3 +13,6 @@ pub mod Lines
 pub mod Document
 pub mod EntryTurns
 pub mod Runs
+pub mod Placed
+pub mod Sorting
+pub mod Orders

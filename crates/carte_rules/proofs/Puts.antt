@@ -16,15 +16,15 @@ use Rattle.carte_rules.specs.declared.entry.Entry.{Entry}
 use Rattle.carte_rules.specs.Entries.{data_of, keys_of, members_of, puts}
 use Rattle.carte_rules.proofs.Swaps.{run, run_permutation}
 
-cases_ordering : (o : Ordering) → (o ≡ Less) ⊎ ((o ≡ Equal) ⊎ (o ≡ Greater))
+pub cases_ordering : (o : Ordering) → (o ≡ Less) ⊎ ((o ≡ Equal) ⊎ (o ≡ Greater))
 cases_ordering Less = inl refl
 cases_ordering Equal = inr (inl refl)
 cases_ordering Greater = inr (inr refl)
 
-same_keys : (k l : List ℕ) → slice_cmp nat_cmp k l ≡ Equal → k ≡ l
+pub same_keys : (k l : List ℕ) → slice_cmp nat_cmp k l ≡ Equal → k ≡ l
 same_keys k l e = slice_cmp-IsAntisymmetric nat_cmp-IsAntisymmetric k l e
 
-turned : (k l : List ℕ) (o : Ordering) → slice_cmp nat_cmp k l ≡ o → slice_cmp nat_cmp l k ≡ ordering_reverse o
+pub turned : (k l : List ℕ) (o : Ordering) → slice_cmp nat_cmp k l ≡ o → slice_cmp nat_cmp l k ≡ ordering_reverse o
 turned k l o e = nat_list_cmp_total.antisymm l k ∙ ap ordering_reverse e
 
 -- another key holds what it held

@@ -17,10 +17,10 @@ then_so (Err fault) P f h = refl
 formula_some : (k text : List ℕ) → FormulaOf k text (formula_in k text)
 formula_some k text = (reading Rules text, reads_reading Rules text, told_reading Rules text, refl)
 
-rule_some : (k : List ℕ) (d : Data) (m : Content) → RuleAt k d m (text_at k d m >>= formula_in k)
+pub rule_some : (k : List ℕ) (d : Data) (m : Content) → RuleAt k d m (text_at k d m >>= formula_in k)
 rule_some k d m = then_so (text_at k d m) (FormulaOf k) (formula_in k) (formula_some k)
 
-rules_some : (ms : Members) (m : Content) → RulesInto ms m (rules_in ms m)
+pub rules_some : (ms : Members) (m : Content) → RulesInto ms m (rules_in ms m)
 rules_some no_members m = refl
 rules_some (member k d ms) m =
     (text_at k d m >>= formula_in k, rule_some k d m, then_so (text_at k d m >>= formula_in k) (λ e. RulesInto ms (insert m k (rule e))) (λ e. rules_in ms (insert m k (rule e))) (λ e. rules_some ms (insert m k (rule e))))

@@ -17,10 +17,10 @@ one_then (Err fault) P one o p h k = h ∙ sym k
 one_formula : (k text : List ℕ) (o p : Result Tree BookFault) → FormulaOf k text o → FormulaOf k text p → o ≡ p
 one_formula k text o p (r, h, t, is) (s, g, u, js) = is ∙ ap (at_rule k) (one_reading Rules text r s h g t u) ∙ sym js
 
-one_rule : (k : List ℕ) (d : Data) (m : Content) (o p : Result Tree BookFault) → RuleAt k d m o → RuleAt k d m p → o ≡ p
+pub one_rule : (k : List ℕ) (d : Data) (m : Content) (o p : Result Tree BookFault) → RuleAt k d m o → RuleAt k d m p → o ≡ p
 one_rule k d m o p h g = one_then (text_at k d m) (FormulaOf k) (one_formula k) o p h g
 
-one_rules : (ms : Members) (m : Content) (o p : Result Content BookFault) → RulesInto ms m o → RulesInto ms m p → o ≡ p
+pub one_rules : (ms : Members) (m : Content) (o p : Result Content BookFault) → RulesInto ms m o → RulesInto ms m p → o ≡ p
 one_rules no_members m o p h g = h ∙ sym g
 one_rules (member k d ms) m o p (r, is, h) (s, js, g) =
     let next : Tree → Result Content BookFault → Type 0 = λ e. RulesInto ms (insert m k (rule e)) in

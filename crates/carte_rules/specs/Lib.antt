@@ -4,3 +4,4 @@ pub mod Steps
 pub mod Drafts
 pub mod Found
 pub mod Entries
+pub mod Orders

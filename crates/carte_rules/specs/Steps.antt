@@ -1,6 +1,6 @@
 -- What the steps of reading answer.
-use Rattle.std.specs.Prelude.{ℕ, ◌≡◌, List, Result, Ok, Err}
-use Rattle.std.specs.FinMap.{insert}
+use Rattle.std.specs.Prelude.{ℕ, ◌≡◌, List, None, Result, Ok, Err}
+use Rattle.std.specs.FinMap.{get, insert}
 use Rattle.toml.specs.Data.{Data, Members}
 use Rattle.carte_tree.specs.Tree.{Tree}
 use Rattle.carte_tree.specs.declared.fault.FormulaFault.TheVariants.{NoMemory as NoFormulaMemory}
@@ -8,7 +8,7 @@ use Rattle.carte_book.specs.Book.{rule, Book, book_view}
 use Rattle.carte_book.specs.declared.book.Book.{Book as CodeBook}
 use Rattle.carte_book.specs.declared.fault.BookFault.{BookFault}
 use Rattle.carte_book.specs.declared.fault.BookFault.TheVariants.{Formula, NoMemory}
-use Rattle.carte_rules.specs.Reading.{Content, RuleAt, RulesInto}
+use Rattle.carte_rules.specs.Reading.{Content, input_into, RuleAt, RulesInto}
 use Rattle.carte_rules.specs.Drafts.{Holds}
 use Rattle.carte_rules.specs.declared.draft.Draft.{Draft}
 
@@ -32,6 +32,11 @@ Gives seen o (Err fault) = IsCause fault → o ≡ Err fault
 abbrev pub Leaves : Result Content BookFault → Draft → Result (Unit {0}) BookFault → Type 0
 Leaves o d (Ok u) = (m : Content) × (o ≡ Ok m) × Holds d m
 Leaves o d (Err fault) = IsCause fault → o ≡ Err fault
+
+-- the draft holds the input too, at a key at which nothing stood
+abbrev pub LeavesInput : List ℕ → Data → Content → Draft → Result (Unit {0}) BookFault → Type 0
+LeavesInput k d m draft (Ok u) = (n : Content) × (get m k ≡ None) × (input_into k d m ≡ Ok n) × Holds draft n
+LeavesInput k d m draft (Err fault) = get m k ≡ None → IsCause fault → input_into k d m ≡ Err fault
 
 -- the draft holds what the value gives at the key, too
 abbrev pub LeavesRule : List ℕ → Data → Content → Draft → Result (Unit {0}) BookFault → Type 0

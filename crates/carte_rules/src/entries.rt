@@ -1,31 +1,46 @@
 // From entries of plain lines to a draft, as from the tables of a document.
-ghost use Rattle.std.specs.Prelude.{◌≡◌, None, IfOk};
-ghost use Rattle.std.specs.FinMap.{empty, get};
+ghost use Rattle.std.specs.Prelude.{◌≡◌, Some, IfOk};
+ghost use Rattle.std.specs.FinMap.{empty};
 ghost use Rattle.std.specs.List.Sorted.{IsStrictlySortedBy};
 ghost use Rattle.carte_name.specs.Names.{name_cmp};
-ghost use Rattle.carte_rules.specs.Drafts.{Holds, IsFree};
-ghost use Rattle.carte_rules.specs.Entries.{data_of, keys_of, members_of};
-ghost use Rattle.carte_rules.specs.Reading.{Content, input_into, inputs_into, value_of};
-ghost use Rattle.carte_rules.specs.Steps.{Leaves, LeavesRule, LeavesRules};
+ghost use Rattle.carte_book.specs.Book.{book_view};
+ghost use Rattle.carte_rules.specs.Drafts.{Holds};
+ghost use Rattle.carte_rules.specs.Entries.{data_of, keys_of, members_of, plain_view};
+ghost use Rattle.carte_rules.specs.Orders.{IsOfTables, new_inputs};
+ghost use Rattle.carte_rules.specs.Reading.{Content, inputs_into, InTables, value_of};
+ghost use Rattle.carte_rules.specs.Steps.{Answers, Leaves, LeavesInput, LeavesRule, LeavesRules};
 
 use crate::draft::Draft;
-use crate::entry::{Entry, Held};
+use crate::entry::{Entry, Held, PlainTables};
 use crate::inputs::read_input;
 use crate::rules::{no_text, read_formula};
-use carte_book::BookFault;
+use carte_book::{Book, BookFault};
 use carte_formula::Room;
-use carte_value::{NoMemory, Text, TextFault, Value};
+use carte_value::{NoMemory, Seeded, Text, TextFault, Value};
 use std::alloc::Global;
 
-/// Puts all inputs into a draft without keys.
-pub(crate) fn put_inputs(
+/// The book of all entries, in whichever order they stand. The fault is that of their document only where they stand by their
+/// keys.
+pub(crate) fn put_tables(
     alloc: Global,
-    entries: &[Entry<'_>],
-    draft: &mut Draft,
-) -> Result<(), BookFault>
-    requires empty { Holds draft.old empty }
-    requires sorted { IsStrictlySortedBy name_cmp (keys_of entries.now) }
-    ensures { Leaves (inputs_into (members_of entries.now) empty) draft.new result }
+    tables: &PlainTables<'_>,
+    hasher: Seeded,
+) -> Result<Book, BookFault>
+    ensures book { IfOk result (λ b. IsOfTables tables.now (Ok (book_view b))) }
+    ensures in_order { IsStrictlySortedBy name_cmp (keys_of tables.now.inputs.items) → Answers (InTables (plain_view tables.now)) result }
+{
+    let keys = tables.inputs.len().saturating_add(tables.rules.len());
+    let mut draft = Draft::new(alloc, keys, hasher)?;
+    put_inputs(alloc, &tables.inputs, &mut draft)?;
+    put_rules(alloc, &tables.rules, &mut draft)?;
+    draft.finish()
+}
+
+// Puts all inputs into a draft without keys.
+fn put_inputs(alloc: Global, entries: &[Entry<'_>], draft: &mut Draft) -> Result<(), BookFault>
+    requires { Holds draft.old empty }
+    ensures new { IfOk result (λ u. (m : Content) × (new_inputs entries.now empty ≡ Some m) × Holds draft.new m) }
+    ensures in_order { IsStrictlySortedBy name_cmp (keys_of entries.now) → Leaves (inputs_into (members_of entries.now) empty) draft.new result }
 {
     for entry in entries {
         put_input(alloc, entry, draft)?;
@@ -34,8 +49,7 @@ pub(crate) fn put_inputs(
 }
 
 fn put_input(alloc: Global, entry: &Entry<'_>, draft: &mut Draft) -> Result<(), BookFault>
-    requires { IsFree draft.old entry.now.key.now }
-    ensures { (m : Content) → Holds draft.old m → get m entry.now.key.now ≡ None → Leaves (input_into entry.now.key.now (data_of entry.now.held) m) draft.new result }
+    ensures { (m : Content) → Holds draft.old m → LeavesInput entry.now.key.now (data_of entry.now.held) m draft.new result }
 {
     read_input(alloc, entry.key, value_of(alloc, entry.held), draft)
 }
@@ -53,12 +67,8 @@ fn value_of(alloc: Global, held: Held<'_>) -> Result<Option<Value>, NoMemory>
     }
 }
 
-/// Puts all rules into the draft.
-pub(crate) fn put_rules(
-    alloc: Global,
-    entries: &[Entry<'_>],
-    draft: &mut Draft,
-) -> Result<(), BookFault>
+// Puts all rules into the draft.
+fn put_rules(alloc: Global, entries: &[Entry<'_>], draft: &mut Draft) -> Result<(), BookFault>
     ensures { (m : Content) → Holds draft.old m → LeavesRules (members_of entries.now) m draft.new result }
 {
     let mut room = Room::new(alloc);

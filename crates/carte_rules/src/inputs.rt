@@ -1,13 +1,13 @@
-ghost use Rattle.std.specs.Prelude.{◌≡◌, None, IfOk};
-ghost use Rattle.std.specs.FinMap.{empty, get};
+ghost use Rattle.std.specs.Prelude.{◌≡◌, IfOk};
+ghost use Rattle.std.specs.FinMap.{empty};
 ghost use Rattle.toml.specs.Data.{Data};
 ghost use Rattle.toml.specs.View.{view, table_view};
-ghost use Rattle.carte_rules.specs.Drafts.{Holds, IsFree};
-ghost use Rattle.carte_rules.specs.Reading.{Content, input_into, inputs_into, value_of};
-ghost use Rattle.carte_rules.specs.Steps.{Leaves};
+ghost use Rattle.carte_rules.specs.Drafts.{Holds};
+ghost use Rattle.carte_rules.specs.Reading.{Content, inputs_into, value_of};
+ghost use Rattle.carte_rules.specs.Steps.{Leaves, LeavesInput};
 
 use crate::draft::Draft;
-use crate::names::name_of;
+use crate::names::{name_of, twice};
 use carte_book::{AddFault, BookFault};
 use carte_value::{NoMemory, Text, Value};
 use std::alloc::Global;
@@ -24,23 +24,22 @@ pub(crate) fn read_inputs(alloc: Global, table: Table, draft: &mut Draft) -> Res
     Ok(())
 }
 
-/// Puts the input at a key, where the value is what such data stand for.
+/// Puts the input at a key, where the value is what such data stand for. Something stands there already only where the keys
+/// come from lines as they stand.
 pub(crate) fn read_input(
     alloc: Global,
     key: &str,
     value: Result<Option<Value>, NoMemory>,
     draft: &mut Draft,
 ) -> Result<(), BookFault>
-    requires { IsFree draft.old key.now }
-    ensures { (m : Content) (d : Data) → IfOk value (λ found. found ≡ value_of d) → Holds draft.old m → get m key.now ≡ None → Leaves (input_into key.now d m) draft.new result }
+    ensures { (m : Content) (d : Data) → IfOk value (λ found. found ≡ value_of d) → Holds draft.old m → LeavesInput key.now d m draft.new result }
 {
     match name_of(alloc, key) {
         Ok(name) => match value {
             Ok(Some(value)) => match draft.keys.add_input(name, value) {
                 Ok(()) => Ok(()),
-                Err(AddFault::Twice) => unreachable!(),
-                Err(AddFault::Limit) => unreachable!(),
-                Err(AddFault::NoMemory) => Err(BookFault::NoMemory),
+                Err(AddFault::Twice) => Err(twice(alloc, key)),
+                Err(_) => Err(BookFault::NoMemory),
             },
             Ok(None) => Err(BookFault::BadValue(name)),
             Err(_) => Err(BookFault::NoMemory),

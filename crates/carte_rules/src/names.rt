@@ -1,5 +1,5 @@
 ghost use Rattle.std.specs.Prelude.{◌≡◌, IsTrue, IfOk};
-ghost use Rattle.carte_book.specs.declared.fault.BookFault.TheVariants.{BadName};
+ghost use Rattle.carte_book.specs.declared.fault.BookFault.TheVariants.{BadName, Twice};
 ghost use Rattle.carte_name.specs.Names.{is_rule_name};
 ghost use Rattle.carte_rules.specs.Drafts.{Holds};
 ghost use Rattle.carte_rules.specs.Reading.{Content, name_of, new_name};
@@ -45,5 +45,15 @@ fn bad_name(alloc: Global, key: &str) -> BookFault
     match KeyText::of(alloc, key) {
         Ok(text) => BookFault::BadName(text),
         Err(_) => BookFault::NoMemory,
+    }
+}
+
+/// The fault of a key at whose name something stands.
+pub(crate) fn twice(alloc: Global, key: &str) -> BookFault
+    ensures { IsTrue (is_rule_name key.now) → IsCause result → result ≡ Twice key.now }
+{
+    match name_of(alloc, key) {
+        Ok(name) => BookFault::Twice(name),
+        Err(fault) => fault,
     }
 }

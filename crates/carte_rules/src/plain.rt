@@ -1,9 +1,9 @@
 // The entries of plain files.
-ghost use Rattle.std.specs.Prelude.{◌≡◌, ◌≤◌, Some, length, IsTrue, IfSome, IsPermutation};
+ghost use Rattle.std.specs.Prelude.{◌≤◌, length, IsTrue, IfSome};
 ghost use Rattle.std.specs.List.Sorted.{IsStrictlySortedBy};
-ghost use Rattle.toml.specs.Parse.{parse_document};
 ghost use Rattle.carte_name.specs.Names.{name_cmp};
-ghost use Rattle.carte_rules.specs.Entries.{keys_of, document_of, ReadsPairs};
+ghost use Rattle.carte_rules.specs.Entries.{keys_of, ReadsPairs};
+ghost use Rattle.carte_rules.specs.Orders.{IsOrderOf, ReadsTables};
 
 use crate::entry::{Entry, PlainTables};
 use crate::line::{header, pair};
@@ -11,10 +11,9 @@ use std::alloc::Global;
 use std::cmp::Ordering;
 use toml_parser::text::{first, skip_blank};
 
-/// The entries of a text that has the headers of both tables and else plain lines alone, each table by its keys.
+/// The entries of a text that has the headers of both tables and else plain lines alone, as they stand.
 pub(crate) fn read_plain(alloc: Global, s: &str) -> Option<PlainTables<'_>>
-    ensures document { IfSome result (λ f. parse_document s.now ≡ Some (document_of f.inputs.items f.rules.items)) }
-    ensures sorted { IfSome result (λ f. IsStrictlySortedBy name_cmp (keys_of f.inputs.items)) }
+    ensures { IfSome result (λ t. ReadsTables s.now t) }
 {
     if first(s) == 0xEF {
         return None;
@@ -22,10 +21,7 @@ pub(crate) fn read_plain(alloc: Global, s: &str) -> Option<PlainTables<'_>>
     let (inputs, rest) = pairs(alloc, header(alloc, skip_blank(s, true), "inputs")?)?;
     let (rules, rest) = pairs(alloc, header(alloc, skip_blank(rest, true), "rules")?)?;
     if skip_blank(rest, true).is_empty() {
-        Some(PlainTables {
-            inputs: in_order(inputs)?,
-            rules: in_order(rules)?,
-        })
+        Some(PlainTables { inputs, rules })
     } else {
         None
     }
@@ -51,10 +47,20 @@ fn pairs(alloc: Global, s: &str) -> Option<(Vec<Entry<'_>>, &str)>
     }
 }
 
-// The entries by their keys, where no key comes twice. Numbered keys stand in few runs that ascend, which a stable sort joins.
-fn in_order(entries: Vec<Entry<'_>>) -> Option<Vec<Entry<'_>>>
-    ensures same { IfSome result (λ es. IsPermutation entries.entry.items es.items) }
-    ensures sorted { IfSome result (λ es. IsStrictlySortedBy name_cmp (keys_of es.items)) }
+/// Each table by its keys, where no key comes twice.
+pub(crate) fn in_order(tables: PlainTables<'_>) -> Option<PlainTables<'_>>
+    ensures inputs { IfSome result (λ t. IsOrderOf tables.entry.inputs.items t.inputs.items) }
+    ensures rules { IfSome result (λ t. IsOrderOf tables.entry.rules.items t.rules.items) }
+{
+    Some(PlainTables {
+        inputs: by_key(tables.inputs)?,
+        rules: by_key(tables.rules)?,
+    })
+}
+
+// Numbered keys stand in few runs that ascend, which a stable sort joins.
+fn by_key(entries: Vec<Entry<'_>>) -> Option<Vec<Entry<'_>>>
+    ensures { IfSome result (λ es. IsOrderOf entries.entry.items es.items) }
 {
     let mut sorted = entries;
     sorted.sort_by(|a, b| a.key.cmp(b.key)).ok()?;

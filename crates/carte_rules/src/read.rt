@@ -1,21 +1,17 @@
-ghost use Rattle.std.specs.Prelude.{◌≡◌, ◌≤◌, Some, length, IfSome, IsUtf8};
-ghost use Rattle.std.specs.List.Sorted.{IsStrictlySortedBy};
+ghost use Rattle.std.specs.Prelude.{◌≤◌, length, IfSome, IsUtf8};
 ghost use Rattle.toml.specs.View.{table_view};
-ghost use Rattle.toml.specs.Parse.{parse_document};
-ghost use Rattle.carte_name.specs.Names.{name_cmp};
-ghost use Rattle.carte_rules.specs.Entries.{keys_of, document_of, plain_view};
-ghost use Rattle.carte_book.specs.Book.{book_view};
 ghost use Rattle.carte_rules.specs.Found.{tables_view};
+ghost use Rattle.carte_rules.specs.Orders.{ReadsTables};
 ghost use Rattle.carte_rules.specs.Reading.{Then, InTables, IsRead};
 ghost use Rattle.carte_rules.specs.Steps.{Answers};
 ghost use Rattle.carte_rules.specs.Tables.{tables_into, no_tables};
 
 use crate::draft::Draft;
-use crate::entries::{put_inputs, put_rules};
+use crate::entries::put_tables;
 use crate::entry::PlainTables;
 use crate::found::{Found, find_tables};
 use crate::inputs::read_inputs;
-use crate::plain::read_plain;
+use crate::plain::{in_order, read_plain};
 use crate::rules::read_formulas;
 use crate::signs::is_overgrown;
 use carte_book::{Book, BookFault, Which};
@@ -42,15 +38,15 @@ pub fn read_rules(alloc: Global, bytes: &[u8], hasher: Seeded) -> Result<Book, B
         return Err(BookFault::Limit(Which::Bytes, MOST_BYTES as u64));
     }
     match plain_tables(alloc, bytes) {
-        Some(tables) => read_lines(alloc, tables, hasher),
+        Some(tables) => read_lines(alloc, bytes, tables, hasher),
         None => read_whole(alloc, bytes, hasher),
     }
 }
 
 // The tables of bytes that are a plain text.
 fn plain_tables(alloc: Global, bytes: &[u8]) -> Option<PlainTables<'_>>
-    ensures document { IfSome result (λ t. IsUtf8 bytes.now × (parse_document bytes.now ≡ Some (document_of t.inputs.items t.rules.items))) }
-    ensures sorted { IfSome result (λ t. IsStrictlySortedBy name_cmp (keys_of t.inputs.items)) }
+    ensures text { IfSome result (λ t. IsUtf8 bytes.now) }
+    ensures tables { IfSome result (λ t. ReadsTables bytes.now t) }
 {
     match std::str::from_utf8(bytes) {
         Ok(text) => read_plain(alloc, text),
@@ -58,15 +54,40 @@ fn plain_tables(alloc: Global, bytes: &[u8]) -> Option<PlainTables<'_>>
     }
 }
 
-fn read_lines(alloc: Global, tables: PlainTables<'_>, hasher: Seeded) -> Result<Book, BookFault>
-    requires { IsStrictlySortedBy name_cmp (keys_of tables.inputs.items) }
-    ensures { Answers (InTables (plain_view tables.entry)) result }
+// The lines as they stand, which are a book or not in any order. Where they aren't, the first fault is that in byte order.
+fn read_lines(
+    alloc: Global,
+    bytes: &[u8],
+    tables: PlainTables<'_>,
+    hasher: Seeded,
+) -> Result<Book, BookFault>
+    requires few { length bytes.now ≤ 16777216 }
+    requires text { IsUtf8 bytes.now }
+    requires tables { ReadsTables bytes.now tables }
+    ensures { IsRead bytes.now result }
 {
-    let keys = tables.inputs.len().saturating_add(tables.rules.len());
-    let mut draft = Draft::new(alloc, keys, hasher)?;
-    put_inputs(alloc, &tables.inputs, &mut draft)?;
-    put_rules(alloc, &tables.rules, &mut draft)?;
-    draft.finish()
+    match put_tables(alloc, &tables, hasher) {
+        Ok(book) => Ok(book),
+        Err(_) => read_in_order(alloc, bytes, tables, hasher),
+    }
+}
+
+// The lines by their keys. Where a key comes twice, the document tells it.
+fn read_in_order(
+    alloc: Global,
+    bytes: &[u8],
+    tables: PlainTables<'_>,
+    hasher: Seeded,
+) -> Result<Book, BookFault>
+    requires few { length bytes.now ≤ 16777216 }
+    requires text { IsUtf8 bytes.now }
+    requires tables { ReadsTables bytes.now tables }
+    ensures { IsRead bytes.now result }
+{
+    match in_order(tables) {
+        Some(sorted) => put_tables(alloc, &sorted, hasher),
+        None => read_whole(alloc, bytes, hasher),
+    }
 }
 
 // The way of every document.

@@ -1,18 +1,16 @@
-ghost use Rattle.std.specs.Prelude.{◌≡◌, ℕ, List, None, Ok, Err, IsTrue};
+ghost use Rattle.std.specs.Prelude.{◌≡◌, ℕ, List, None, Ok, Err};
 ghost use Rattle.toml.specs.Data.{Data, string, as_str};
 ghost use Rattle.toml.specs.View.{view, table_view};
 ghost use Rattle.carte_name.specs.declared.kind.Kind.TheVariants.{Rules};
-ghost use Rattle.carte_name.specs.Names.{is_rule_name};
 ghost use Rattle.carte_tree.specs.Code.{tree_of};
 ghost use Rattle.carte_tree.specs.Formula.{IsExpr, HasNames};
 ghost use Rattle.carte_formula.specs.Whole.{Reads, IsTold};
-ghost use Rattle.carte_book.specs.declared.fault.BookFault.TheVariants.{Twice};
 ghost use Rattle.carte_rules.specs.Drafts.{Holds};
 ghost use Rattle.carte_rules.specs.Reading.{Content, RuleAt};
 ghost use Rattle.carte_rules.specs.Steps.{IsCause, LeavesRule, LeavesRules};
 
 use crate::draft::Draft;
-use crate::names::{name_of, new_name};
+use crate::names::{name_of, new_name, twice};
 use carte_book::{AddFault, BookFault};
 use carte_formula::{FormulaFault, Room, read_in};
 use carte_tree::Expr;
@@ -86,15 +84,6 @@ fn put_formula(alloc: Global, key: &str, expr: Expr, draft: &mut Draft) -> Resul
             Err(_) => Err(BookFault::NoMemory),
         },
         Err(fault) => Err(fault),
-    }
-}
-
-fn twice(alloc: Global, key: &str) -> BookFault
-    ensures { IsTrue (is_rule_name key.now) → IsCause result → result ≡ Twice key.now }
-{
-    match name_of(alloc, key) {
-        Ok(name) => BookFault::Twice(name),
-        Err(fault) => fault,
     }
 }
 
