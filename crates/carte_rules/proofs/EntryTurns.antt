@@ -1,13 +1,12 @@
 -- One turn over entries. The entry at a place is read with a default, as an index gives it.
-use Rattle.std.proofs.Common.{◌≡◌, ◌∙◌, ℕ, ◌+◌, ◌<◌, ◌≤◌, ◌∷◌, List, Some, None, option_and_then, Result, Ok, Err, length, drop, length-drop, slice_index_or, ap, sym, refl, subst, arith}
+use Rattle.std.proofs.Common.{◌≡◌, ℕ, ◌+◌, ◌<◌, ◌≤◌, ◌∷◌, List, Result, Ok, Err, length, drop, length-drop, slice_index_or, ap, sym, refl, subst, arith}
 use Rattle.std.proofs.lemmas.List.{drop_more, nil_from_length}
-use Rattle.std.specs.FinMap.{get, insert}
+use Rattle.std.specs.FinMap.{insert}
 use Rattle.toml.specs.Data.{Members, no_members}
 use Rattle.carte_tree.specs.Tree.{Tree}
 use Rattle.carte_book.specs.Book.{rule}
 use Rattle.carte_book.specs.declared.fault.BookFault.{BookFault}
 use Rattle.carte_rules.specs.Entries.{data_of, keys_of, members_of}
-use Rattle.carte_rules.specs.Orders.{new_input, new_inputs}
 use Rattle.carte_rules.specs.Reading.{Content, input_into, inputs_into, RuleAt, RulesInto}
 use Rattle.carte_rules.specs.declared.entry.Entry.{Entry}
 use Rattle.carte_rules.proofs.Fresh.{KeysFresh, rest_keys_fresh}
@@ -15,12 +14,6 @@ use Rattle.carte_rules.proofs.Turns.{inputs_turn, rules_turn}
 
 pub no_more : (es : List Entry) (at : ℕ) → length es ≤ at → members_of (drop at es) ≡ no_members
 no_more es at past = ap members_of (nil_from_length (drop at es) (omega (arith, length-drop at es, past)))
-
-pub new_end : (es : List Entry) (at : ℕ) (m : Content) → length es ≤ at → new_inputs (drop at es) m ≡ Some m
-new_end es at m past = ap (λ (xs : List Entry). new_inputs xs m) (nil_from_length (drop at es) (omega (arith, length-drop at es, past)))
-
-one_new : (e : Entry) (m n : Content) → get m e.key.now ≡ None → input_into e.key.now (data_of e.held) m ≡ Ok n → new_input e m ≡ Some n
-one_new e m n none is = rw (none, is) refl
 
 module _ (es : List Entry) (at : ℕ) (d : Entry) (below : at < length es) where
   abbrev here : Entry
@@ -32,16 +25,10 @@ module _ (es : List Entry) (at : ℕ) (d : Entry) (below : at < length es) where
   fresh_here : (m : Content) → KeysFresh m (keys_of (drop at es)) → KeysFresh m (here.key.now ∷ keys_of (drop (at + 1) es))
   fresh_here m h = subst (λ (xs : List Entry). KeysFresh m (keys_of xs)) turn h
 
-  pub fresh_at : (m : Content) → KeysFresh m (keys_of (drop at es)) → get m here.key.now ≡ None
-  fresh_at m h = (fresh_here m h).new.0
-
   pub inputs_more : (m n : Content) → KeysFresh m (keys_of (drop at es)) → input_into here.key.now (data_of here.held) m ≡ Ok n
       → (inputs_into (members_of (drop at es)) m ≡ inputs_into (members_of (drop (at + 1) es)) n) × KeysFresh n (keys_of (drop (at + 1) es))
   inputs_more m n h is =
       (inputs_turn _ _ here.key.now (data_of here.held) m n (ap members_of turn) is, rest_keys_fresh here.key.now (data_of here.held) (keys_of (drop (at + 1) es)) m n (fresh_here m h) is)
-
-  pub new_more : (m n : Content) → get m here.key.now ≡ None → input_into here.key.now (data_of here.held) m ≡ Ok n → new_inputs (drop at es) m ≡ new_inputs (drop (at + 1) es) n
-  new_more m n none is = ap (λ (xs : List Entry). new_inputs xs m) turn ∙ ap (option_and_then (new_inputs (drop (at + 1) es))) (one_new here m n none is)
 
   pub rules_more : (m : Content) (e : Tree) (o : Result Content BookFault) → RuleAt here.key.now (data_of here.held) m (Ok e) → RulesInto (members_of (drop (at + 1) es)) (insert m here.key.now (rule e)) o → RulesInto (members_of (drop at es)) m o
   rules_more m e o h g = rules_turn _ _ here.key.now (data_of here.held) m e o (ap members_of turn) h g

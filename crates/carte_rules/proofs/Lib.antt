@@ -16,3 +16,4 @@ pub mod Runs
 pub mod Placed
 pub mod Sorting
 pub mod Orders
+pub mod Lengthened

@@ -1,8 +1,9 @@
 -- What comes of entries that were put as they stand comes of them by their keys.
-use Rattle.std.proofs.Common.{◌≡◌, ℕ, Bool, true, false, cond, List, [], ◌∷◌, Option, Some, None, IfOk, is_some, option_map, option_and_then, Result, Ok, Err, refl, sym, ap, subst, ◌∙◌}
+use Rattle.std.proofs.Common.{◌≡◌, ℕ, Bool, true, false, cond, List, [], ◌∷◌, Option, Some, None, IfSome, is_some, option_map, option_and_then, Result, Ok, Err, refl, sym, ap, subst, ◌∙◌}
 use Rattle.std.specs.Result.{result_ok}
 use Rattle.std.specs.FinMap.{get, insert, empty}
 use Rattle.toml.specs.Data.{as_str}
+use Rattle.toml.specs.Parse.{parse_document}
 use Rattle.carte_name.specs.declared.kind.Kind.TheVariants.{Rules}
 use Rattle.carte_name.specs.Names.{is_rule_name}
 use Rattle.carte_value.specs.declared.value.Value.{Value}
@@ -14,16 +15,19 @@ use Rattle.carte_book.specs.declared.book.Book.{Book as CodeBook}
 use Rattle.carte_book.specs.declared.fault.BookFault.{BookFault}
 use Rattle.carte_book.specs.declared.fault.BookFault.TheVariants.{BadName, BadValue, Twice}
 use Rattle.carte_rules.specs.Tables.{◌>>=◌}
-use Rattle.carte_rules.specs.Entries.{data_of, members_of}
-use Rattle.carte_rules.specs.Orders.{IsOrderOf, IsOfTables, new_input, new_inputs}
+use Rattle.carte_rules.specs.Entries.{data_of, members_of, document_of}
+use Rattle.carte_rules.specs.Orders.{IsOrderOf, IsOfLines, new_input, new_inputs}
 use Rattle.carte_rules.specs.Reading.{Content, Then, or_fault, value_of, input_into, inputs_into, text_at, at_rule, formula_in, rules_in, RulesInto, book_of, WithRules}
 use Rattle.carte_rules.specs.Steps.{Gives}
 use Rattle.carte_rules.specs.declared.entry.Entry.{Entry}
-use Rattle.carte_rules.specs.declared.entry.PlainTables.{PlainTables}
 use Rattle.carte_rules.proofs.Some.{rules_some}
 use Rattle.carte_rules.proofs.Sorting.{came, step, in_order}
 use Rattle.carte_rules.proofs.Swaps.{run}
 use Rattle.carte_rules.proofs.Unique.{one_rules}
+
+-- the text is the document of the entries by their keys
+abbrev pub IsDocumentOf : List ℕ → List Entry → List Entry → Type 0
+IsDocumentOf s es gs = (fs hs : List Entry) → IsOrderOf es fs → IsOrderOf gs hs → parse_document s ≡ Some (document_of fs hs)
 
 through : {A B : Type 0} (f g : A → Option B) (o : Option A) → ((a : A) → f a ≡ g a) → option_and_then f o ≡ option_and_then g o
 through f g None same = refl
@@ -117,13 +121,13 @@ rules_order es m n h =
 
 -- ---- both tables
 
-of_tables : (t : PlainTables) (m n : Content) (b : Book) → new_inputs t.inputs.items empty ≡ Some m → RulesInto (members_of t.rules.items) m (Ok n) → book_of n ≡ Ok b → IsOfTables t (Ok b)
-of_tables t m n b put read is =
-    let (fs, inputs_so, put_so) = inputs_order t.inputs.items empty m put in
-    let (hs, rules_so, read_so) = rules_order t.rules.items m n read in
+of_lines : (s : List ℕ) (es gs : List Entry) (m n : Content) (b : Book) → IsDocumentOf s es gs → new_inputs es empty ≡ Some m → RulesInto (members_of gs) m (Ok n) → book_of n ≡ Ok b → IsOfLines s (Ok b)
+of_lines s es gs m n b text put read is =
+    let (fs, inputs_so, put_so) = inputs_order es empty m put in
+    let (hs, rules_so, read_so) = rules_order gs m n read in
     let with_rules : WithRules (members_of hs) m (Ok b) = (Ok n, read_so, sym is) in
-    (fs, hs, inputs_so, rules_so, subst (λ (r : Result Content BookFault). Then r (WithRules (members_of hs)) (Ok b)) (sym put_so) with_rules)
+    (fs, hs, text fs hs inputs_so rules_so, subst (λ (r : Result Content BookFault). Then r (WithRules (members_of hs)) (Ok b)) (sym put_so) with_rules)
 
-pub finished : (t : PlainTables) (m n : Content) (r : Result CodeBook BookFault) → new_inputs t.inputs.items empty ≡ Some m → RulesInto (members_of t.rules.items) m (Ok n) → Gives book_view (book_of n) r → IfOk r (λ b. IsOfTables t (Ok (book_view b)))
-finished t m n (Ok b) put read is = of_tables t m n (book_view b) put read is
-finished t m n (Err fault) put read is = tt
+pub finished : (s : List ℕ) (es gs : List Entry) (m n : Content) (r : Result CodeBook BookFault) → IsDocumentOf s es gs → new_inputs es empty ≡ Some m → RulesInto (members_of gs) m (Ok n) → Gives book_view (book_of n) r → IfSome (result_ok r) (λ b. IsOfLines s (Ok (book_view b)))
+finished s es gs m n (Ok b) text put read is = of_lines s es gs m n (book_view b) text put read is
+finished s es gs m n (Err fault) text put read is = tt

@@ -10,19 +10,14 @@ use Rattle.carte_book.specs.declared.fault.BookFault.{BookFault}
 use Rattle.carte_rules.specs.Entries.{data_of, keys_of, members_of, document_of}
 use Rattle.carte_rules.specs.Reading.{Content, input_into, InTables}
 use Rattle.carte_rules.specs.declared.entry.Entry.{Entry}
-use Rattle.carte_rules.specs.declared.entry.PlainTables.{PlainTables}
 
 -- the same entries by their keys, of which none comes twice
 abbrev pub IsOrderOf : List Entry → List Entry → Type 0
 IsOrderOf es fs = IsPermutation es fs × IsStrictlySortedBy name_cmp (keys_of fs)
 
--- the text is the document of the entries by their keys
-abbrev pub ReadsTables : List ℕ → PlainTables → Type 0
-ReadsTables s t = (fs hs : List Entry) → IsOrderOf t.inputs.items fs → IsOrderOf t.rules.items hs → parse_document s ≡ Some (document_of fs hs)
-
--- there are such, and this is what comes of them
-abbrev pub IsOfTables : PlainTables → Result Book BookFault → Type 0
-IsOfTables t o = (fs hs : List Entry) × IsOrderOf t.inputs.items fs × IsOrderOf t.rules.items hs × InTables (record { inputs = members_of fs; rules = members_of hs }) o
+-- the text is the document of some entries by their keys, and this is what comes of them
+abbrev pub IsOfLines : List ℕ → Result Book BookFault → Type 0
+IsOfLines s o = (fs hs : List Entry) × (parse_document s ≡ Some (document_of fs hs)) × InTables (record { inputs = members_of fs; rules = members_of hs }) o
 
 -- an input at a key at which nothing stands
 abbrev pub new_input : Entry → Content → Option Content

@@ -1,12 +1,10 @@
 // From entries of plain lines to a draft, as from the tables of a document.
-ghost use Rattle.std.specs.Prelude.{◌≡◌, Some, IfOk};
+ghost use Rattle.std.specs.Prelude.{◌≡◌, IfOk};
 ghost use Rattle.std.specs.FinMap.{empty};
 ghost use Rattle.std.specs.List.Sorted.{IsStrictlySortedBy};
 ghost use Rattle.carte_name.specs.Names.{name_cmp};
-ghost use Rattle.carte_book.specs.Book.{book_view};
 ghost use Rattle.carte_rules.specs.Drafts.{Holds};
 ghost use Rattle.carte_rules.specs.Entries.{data_of, keys_of, members_of, plain_view};
-ghost use Rattle.carte_rules.specs.Orders.{IsOfTables, new_inputs};
 ghost use Rattle.carte_rules.specs.Reading.{Content, inputs_into, InTables, value_of};
 ghost use Rattle.carte_rules.specs.Steps.{Answers, Leaves, LeavesInput, LeavesRule, LeavesRules};
 
@@ -19,15 +17,14 @@ use carte_formula::Room;
 use carte_value::{NoMemory, Seeded, Text, TextFault, Value};
 use std::alloc::Global;
 
-/// The book of all entries, in whichever order they stand. The fault is that of their document only where they stand by their
-/// keys.
+/// The book of all entries, or the first fault of them.
 pub(crate) fn put_tables(
     alloc: Global,
     tables: &PlainTables<'_>,
     hasher: Seeded,
 ) -> Result<Book, BookFault>
-    ensures book { IfOk result (λ b. IsOfTables tables.now (Ok (book_view b))) }
-    ensures in_order { IsStrictlySortedBy name_cmp (keys_of tables.now.inputs.items) → Answers (InTables (plain_view tables.now)) result }
+    requires { IsStrictlySortedBy name_cmp (keys_of tables.now.inputs.items) }
+    ensures { Answers (InTables (plain_view tables.now)) result }
 {
     let keys = tables.inputs.len().saturating_add(tables.rules.len());
     let mut draft = Draft::new(alloc, keys, hasher)?;
@@ -38,9 +35,9 @@ pub(crate) fn put_tables(
 
 // Puts all inputs into a draft without keys.
 fn put_inputs(alloc: Global, entries: &[Entry<'_>], draft: &mut Draft) -> Result<(), BookFault>
-    requires { Holds draft.old empty }
-    ensures new { IfOk result (λ u. (m : Content) × (new_inputs entries.now empty ≡ Some m) × Holds draft.new m) }
-    ensures in_order { IsStrictlySortedBy name_cmp (keys_of entries.now) → Leaves (inputs_into (members_of entries.now) empty) draft.new result }
+    requires empty { Holds draft.old empty }
+    requires sorted { IsStrictlySortedBy name_cmp (keys_of entries.now) }
+    ensures { Leaves (inputs_into (members_of entries.now) empty) draft.new result }
 {
     for entry in entries {
         put_input(alloc, entry, draft)?;
@@ -48,7 +45,12 @@ fn put_inputs(alloc: Global, entries: &[Entry<'_>], draft: &mut Draft) -> Result
     Ok(())
 }
 
-fn put_input(alloc: Global, entry: &Entry<'_>, draft: &mut Draft) -> Result<(), BookFault>
+/// Puts an input.
+pub(crate) fn put_input(
+    alloc: Global,
+    entry: &Entry<'_>,
+    draft: &mut Draft,
+) -> Result<(), BookFault>
     ensures { (m : Content) → Holds draft.old m → LeavesInput entry.now.key.now (data_of entry.now.held) m draft.new result }
 {
     read_input(alloc, entry.key, value_of(alloc, entry.held), draft)
@@ -78,7 +80,8 @@ fn put_rules(alloc: Global, entries: &[Entry<'_>], draft: &mut Draft) -> Result<
     Ok(())
 }
 
-fn put_rule(
+/// Puts a rule.
+pub(crate) fn put_rule(
     alloc: Global,
     room: &mut Room,
     entry: &Entry<'_>,

@@ -12,7 +12,7 @@ pub(crate) struct Entry<'a> {
     pub(crate) held: Held<'a>,
 }
 
-/// The entries of the two tables, as they stand or each table by its keys.
+/// The entries of the two tables, each by its keys.
 #[derive(Drop)]
 pub(crate) struct PlainTables<'a> {
     pub(crate) inputs: Vec<Entry<'a>>,

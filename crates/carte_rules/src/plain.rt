@@ -1,9 +1,10 @@
 // The entries of plain files.
-ghost use Rattle.std.specs.Prelude.{◌≤◌, length, IsTrue, IfSome};
+ghost use Rattle.std.specs.Prelude.{◌≡◌, ◌≤◌, Some, length, IsTrue, IfSome};
 ghost use Rattle.std.specs.List.Sorted.{IsStrictlySortedBy};
+ghost use Rattle.toml.specs.Parse.{parse_document};
 ghost use Rattle.carte_name.specs.Names.{name_cmp};
-ghost use Rattle.carte_rules.specs.Entries.{keys_of, ReadsPairs};
-ghost use Rattle.carte_rules.specs.Orders.{IsOrderOf, ReadsTables};
+ghost use Rattle.carte_rules.specs.Entries.{document_of, keys_of, ReadsPairs};
+ghost use Rattle.carte_rules.specs.Orders.{IsOrderOf};
 
 use crate::entry::{Entry, PlainTables};
 use crate::line::{header, pair};
@@ -11,9 +12,10 @@ use std::alloc::Global;
 use std::cmp::Ordering;
 use toml_parser::text::{first, skip_blank};
 
-/// The entries of a text that has the headers of both tables and else plain lines alone, as they stand.
+/// The entries of a text that has the headers of both tables and else plain lines alone, each table by its keys.
 pub(crate) fn read_plain(alloc: Global, s: &str) -> Option<PlainTables<'_>>
-    ensures { IfSome result (λ t. ReadsTables s.now t) }
+    ensures document { IfSome result (λ t. parse_document s.now ≡ Some (document_of t.inputs.items t.rules.items)) }
+    ensures sorted { IfSome result (λ t. IsStrictlySortedBy name_cmp (keys_of t.inputs.items)) }
 {
     if first(s) == 0xEF {
         return None;
@@ -21,7 +23,10 @@ pub(crate) fn read_plain(alloc: Global, s: &str) -> Option<PlainTables<'_>>
     let (inputs, rest) = pairs(alloc, header(alloc, skip_blank(s, true), "inputs")?)?;
     let (rules, rest) = pairs(alloc, header(alloc, skip_blank(rest, true), "rules")?)?;
     if skip_blank(rest, true).is_empty() {
-        Some(PlainTables { inputs, rules })
+        Some(PlainTables {
+            inputs: by_key(inputs)?,
+            rules: by_key(rules)?,
+        })
     } else {
         None
     }
@@ -47,18 +52,7 @@ fn pairs(alloc: Global, s: &str) -> Option<(Vec<Entry<'_>>, &str)>
     }
 }
 
-/// Each table by its keys, where no key comes twice.
-pub(crate) fn in_order(tables: PlainTables<'_>) -> Option<PlainTables<'_>>
-    ensures inputs { IfSome result (λ t. IsOrderOf tables.entry.inputs.items t.inputs.items) }
-    ensures rules { IfSome result (λ t. IsOrderOf tables.entry.rules.items t.rules.items) }
-{
-    Some(PlainTables {
-        inputs: by_key(tables.inputs)?,
-        rules: by_key(tables.rules)?,
-    })
-}
-
-// Numbered keys stand in few runs that ascend, which a stable sort joins.
+// The entries by their keys, where no key comes twice. Numbered keys stand in few runs that ascend, which a stable sort joins.
 fn by_key(entries: Vec<Entry<'_>>) -> Option<Vec<Entry<'_>>>
     ensures { IfSome result (λ es. IsOrderOf entries.entry.items es.items) }
 {

@@ -1,17 +1,16 @@
-ghost use Rattle.std.specs.Prelude.{◌≤◌, length, IfSome, IsUtf8};
+ghost use Rattle.std.specs.Prelude.{◌≤◌, length};
 ghost use Rattle.toml.specs.View.{table_view};
 ghost use Rattle.carte_rules.specs.Found.{tables_view};
-ghost use Rattle.carte_rules.specs.Orders.{ReadsTables};
 ghost use Rattle.carte_rules.specs.Reading.{Then, InTables, IsRead};
 ghost use Rattle.carte_rules.specs.Steps.{Answers};
 ghost use Rattle.carte_rules.specs.Tables.{tables_into, no_tables};
 
+use crate::direct::book_of_lines;
 use crate::draft::Draft;
 use crate::entries::put_tables;
-use crate::entry::PlainTables;
 use crate::found::{Found, find_tables};
 use crate::inputs::read_inputs;
-use crate::plain::{in_order, read_plain};
+use crate::plain::read_plain;
 use crate::rules::read_formulas;
 use crate::signs::is_overgrown;
 use carte_book::{Book, BookFault, Which};
@@ -37,56 +36,31 @@ pub fn read_rules(alloc: Global, bytes: &[u8], hasher: Seeded) -> Result<Book, B
     if bytes.len() > MOST_BYTES {
         return Err(BookFault::Limit(Which::Bytes, MOST_BYTES as u64));
     }
-    match plain_tables(alloc, bytes) {
-        Some(tables) => read_lines(alloc, bytes, tables, hasher),
-        None => read_whole(alloc, bytes, hasher),
-    }
-}
-
-// The tables of bytes that are a plain text.
-fn plain_tables(alloc: Global, bytes: &[u8]) -> Option<PlainTables<'_>>
-    ensures text { IfSome result (λ t. IsUtf8 bytes.now) }
-    ensures tables { IfSome result (λ t. ReadsTables bytes.now t) }
-{
     match std::str::from_utf8(bytes) {
-        Ok(text) => read_plain(alloc, text),
-        Err(_) => None,
+        Ok(text) => read_text(alloc, text, hasher),
+        Err(_) => read_whole(alloc, bytes, hasher),
     }
 }
 
-// The lines as they stand, which are a book or not in any order. Where they aren't, the first fault is that in byte order.
-fn read_lines(
-    alloc: Global,
-    bytes: &[u8],
-    tables: PlainTables<'_>,
-    hasher: Seeded,
-) -> Result<Book, BookFault>
-    requires few { length bytes.now ≤ 16777216 }
-    requires text { IsUtf8 bytes.now }
-    requires tables { ReadsTables bytes.now tables }
-    ensures { IsRead bytes.now result }
+// The lines as they stand, which are a book or not in any order.
+fn read_text(alloc: Global, text: &str, hasher: Seeded) -> Result<Book, BookFault>
+    requires { length text.now ≤ 16777216 }
+    ensures { IsRead text.now result }
 {
-    match put_tables(alloc, &tables, hasher) {
-        Ok(book) => Ok(book),
-        Err(_) => read_in_order(alloc, bytes, tables, hasher),
+    match book_of_lines(alloc, text, hasher) {
+        Some(book) => Ok(book),
+        None => read_in_order(alloc, text, hasher),
     }
 }
 
-// The lines by their keys. Where a key comes twice, the document tells it.
-fn read_in_order(
-    alloc: Global,
-    bytes: &[u8],
-    tables: PlainTables<'_>,
-    hasher: Seeded,
-) -> Result<Book, BookFault>
-    requires few { length bytes.now ≤ 16777216 }
-    requires text { IsUtf8 bytes.now }
-    requires tables { ReadsTables bytes.now tables }
-    ensures { IsRead bytes.now result }
+// The lines by their keys, since the first fault is that in byte order. Where a key comes twice, the document tells it.
+fn read_in_order(alloc: Global, text: &str, hasher: Seeded) -> Result<Book, BookFault>
+    requires { length text.now ≤ 16777216 }
+    ensures { IsRead text.now result }
 {
-    match in_order(tables) {
-        Some(sorted) => put_tables(alloc, &sorted, hasher),
-        None => read_whole(alloc, bytes, hasher),
+    match read_plain(alloc, text) {
+        Some(tables) => put_tables(alloc, &tables, hasher),
+        None => read_whole(alloc, text.as_bytes(), hasher),
     }
 }
 

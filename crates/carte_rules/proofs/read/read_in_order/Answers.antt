@@ -1,10 +1,9 @@
+use Rattle.std.proofs.Common.{rules}
 use Rattle.carte_rules.specs.Entries.{document_of}
 use Rattle.carte_rules.proofs.Documents.{read_so}
 use Rattle.carte_rules.proofs.read.read_in_order.Goals as goal
 
 pub returns-in-Some : goal.returns-in-Some
 returns-in-Some c =
-    let fs = c.in-Some.sorted.inputs.items in
-    let hs = c.in-Some.sorted.rules.items in
-    let order = c.in-Some.ensures in
-    read_so c.args.bytes.now (document_of fs hs) c.put_tables.result c.requires.few c.requires.text (c.requires.tables fs hs order.inputs order.rules) (c.put_tables.ensures.in_order order.inputs.1)
+    let t = c.in-Some.tables in
+    read_so c.args.text.now (document_of t.inputs.items t.rules.items) c.put_tables.result c.requires (search rules) c.in-Some.ensures.document c.put_tables.ensures
