@@ -4,7 +4,7 @@
 //! that each formula is as reading makes one, so that what is looked up can be run and printed without a test. In
 //! memory a book is a hash map that keeps the order in which names were added, since it is looked up several times for
 //! each key of a build, and name order is wanted once, for the digest: there the rules are sorted, or found to be in
-//! order already, as those of a rule file are. Formulas are shared: a job holds its formula without the book. Contracts
+//! order already, where a file has them so. Formulas are shared: a job holds its formula without the book. Contracts
 //! see it as a finite map `Book` of the specs, with formulas as trees, and reach what stands at a name by `content` alone:
 //! in a sheet each cell that the map doesn't hold is an empty input, and this default has one place. Two types for the
 //! two kinds would have doubled every layer above.

@@ -46,7 +46,7 @@ impl Book {
     }
 }
 
-// Rules that were read from a file come in order: then one pass is all.
+// Where a file has its rules in name order, one pass is all.
 fn in_order(rules: Vec<HeldRule<'_>>) -> Vec<HeldRule<'_>>
     requires { IsDistinct name_eq (names_of rules.items) }
     ensures same { IsPermutation rules.entry.items result.items }
