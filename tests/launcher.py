@@ -181,7 +181,9 @@ def builds(house):
     house.says("with it", True, "two")
     house.put(SOURCE, "three")
     env = {"PATH": f"{house.folder / 'bin'}:/usr/bin:/bin", "CALLS": str(house.calls), "SLOW": "20"}
-    cut = subprocess.Popen([house.top / "carte", "a word"], env=env, stdin=subprocess.DEVNULL, stderr=subprocess.DEVNULL, start_new_session=True)
+    # A shell that runs this in the background has it ignore interrupts, and a script that begins so can't take that back.
+    heeds = {"preexec_fn": lambda: signal.signal(signal.SIGINT, signal.SIG_DFL)}
+    cut = subprocess.Popen([house.top / "carte", "a word"], env=env, stdin=subprocess.DEVNULL, stderr=subprocess.DEVNULL, start_new_session=True, **heeds)
     time.sleep(1)
     os.killpg(cut.pid, signal.SIGINT)
     house.same("a build that is interrupted ends at once", cut.wait(timeout=5) != 0, True)
