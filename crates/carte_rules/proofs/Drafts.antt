@@ -9,7 +9,7 @@ use Rattle.carte_book.specs.Drafts.{IsNew, Takes, Becomes}
 use Rattle.carte_book.specs.declared.book.Book.{Book as CodeBook}
 use Rattle.carte_book.specs.declared.draft.Draft.{Draft}
 use Rattle.carte_book.specs.declared.fault.AddFault.{AddFault}
-use Rattle.carte_book.specs.declared.fault.AddFault.TheVariants.{Twice, Limit}
+use Rattle.carte_book.specs.declared.fault.AddFault.TheVariants.{Twice}
 use Rattle.carte_book.specs.declared.fault.BookFault.{BookFault}
 use Rattle.carte_rules.specs.Reading.{Content, book_of}
 use Rattle.carte_rules.specs.Steps.{Gives}
@@ -33,7 +33,3 @@ stands k x m d r a is = subst (λ (s : Result (Unit {0}) AddFault). Takes k x m 
 -- where nothing stands, nothing is refused so
 pub never_twice : (k : List ℕ) (x : Item) (m : Content) (d : Draft) (r : Result (Unit {0}) AddFault) → Takes k x m d r → get m k ≡ None → r ≡ Err Twice → ⊥
 never_twice k x m d r a none is = false≢true (sym (ap is_some none) ∙ stands k x m d r a is)
-
--- and never for want of room
-pub never_full : (k : List ℕ) (x : Item) (m : Content) (d : Draft) (r : Result (Unit {0}) AddFault) → Takes k x m d r → r ≡ Err Limit → ⊥
-never_full k x m d r a is = subst (λ (s : Result (Unit {0}) AddFault). Takes k x m d s) is a

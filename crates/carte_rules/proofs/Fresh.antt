@@ -32,9 +32,6 @@ none_new (k ∷ ks) = (get-empty name_cmp (string_bytes k), none_new ks)
 pub all_fresh : (es : List (String Global × Value)) → IsStrictlySortedBy string_cmp (keys_of es) → AllFresh empty es
 all_fresh es sorted = record { sorted = sorted; new = none_new (keys_of es) }
 
-pub next_fresh : (k : String Global) (v : Value) (es : List (String Global × Value)) (m : Content) → AllFresh m ((k, v) ∷ es) → get m (string_bytes k) ≡ None
-next_fresh k v es m h = h.new.0
-
 still_new : (m : Content) (k : List ℕ) (x : Item) (ks : List (String Global)) → AllByRecursion (λ j. name_cmp k (string_bytes j) ≡ Less) ks → AreNew m ks → AreNew (insert m k x) ks
 still_new m k x [] above new = tt
 still_new m k x (j ∷ ks) above new =
