@@ -7,7 +7,6 @@ use Rattle.carte_sound.specs.Held.{How}
 use Rattle.carte_state.specs.Runs.{BeginAll}
 use Rattle.carte_state.specs.Versions.{AnyKept, InOne, InTwo}
 use Rattle.carte_engine.specs.Answers.{IsAnswer, IsPlan, LeadsOver}
-use Rattle.carte_engine.specs.Reckoned.{TellsFinished}
 use Rattle.carte_engine.specs.Versions.{OverFound, Raises, Under, kept_for}
 use Rattle.carte_engine.specs.declared.answer.Answer.{Answer}
 use Rattle.carte_engine.specs.declared.answer.Plan.{Plan}
@@ -40,9 +39,9 @@ module _ (s : Scheduler) (h : How) (b : Book) (targets : List (List ℕ)) (p : P
   if_plan A (Err e) raises plan H sound distinct = tt
 
 -- the answer stays
-pub if_tells : {E : Type 0} (A : AnyKept) (b : Book) (targets : List (List ℕ)) (p : Plan) (r : Result Plan E) → IfOk r (Raises A b p) → TellsFinished b targets p.answer → IfOk r (λ q. TellsFinished b targets q.answer)
-if_tells A b targets p (Ok q) raises tells = subst (TellsFinished b targets) (sym raises.answer) tells
-if_tells A b targets p (Err e) raises tells = tt
+pub if_shows : {E : Type 0} (shown : Answer → Type 0) (A : AnyKept) (b : Book) (p : Plan) (r : Result Plan E) → IfOk r (Raises A b p) → shown p.answer → IfOk r (λ q. shown q.answer)
+if_shows shown A b p (Ok q) raises shows = subst shown (sym raises.answer) shows
+if_shows shown A b p (Err e) raises shows = tt
 
 pub if_begins : {E : Type 0} (A : AnyKept) (b : Book) (p : Plan) (r : Result Plan E) → IfOk r (Raises A b p) → IfOk r (λ q. BeginAll A q.batches.items)
 if_begins A b p (Ok q) raises = begins_all (λ K Bs. Bs ≡ p.batches.items) A b q.batches.items raises.batches

@@ -6,6 +6,7 @@ pub mod Marking
 pub mod Succeeding
 pub mod Refusing
 pub mod Planning
+pub mod Shown
 pub mod Raising
 pub mod Found
 pub mod Keeping

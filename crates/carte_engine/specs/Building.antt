@@ -16,7 +16,6 @@ use Rattle.carte_engine.specs.declared.scheduler.Scheduler.{Scheduler}
 use Rattle.carte_engine.specs.Answers.{IsPlan}
 use Rattle.carte_engine.specs.Committing.{CommitsAll}
 use Rattle.carte_engine.specs.Faults.{fault_of}
-use Rattle.carte_engine.specs.Reckoned.{TellsFinished}
 use Rattle.carte_engine.specs.Versions.{Under}
 
 -- an answer as a result
@@ -29,9 +28,9 @@ abbrev pub answered_behind : Answer → Result (Unit {0}) ApplyFault → Result 
 answered_behind a (Ok done) = answered a
 answered_behind a (Err why) = Err (fault_of why)
 
--- There is a plan that is right under whatever history what was kept is sound for, and tells of finished keys whatever was kept, and its batches were put, one after another, or not all of them. Or there was no memory for a plan.
-abbrev pub Builds : Scheduler → How → Book → List (List ℕ) → OverDisk → Stand → Stand → Result Built BuildFault → Type 0
-Builds s h b targets d old new result =
+-- There is a plan that is right under whatever history what was kept is sound for, whose answer is as `shown` says whatever was kept, and its batches were put, one after another, or not all of them. Or there was no memory for a plan.
+abbrev pub Builds : Scheduler → How → Book → List (List ℕ) → (Answer → Type 0) → OverDisk → Stand → Stand → Result Built BuildFault → Type 0
+Builds s h b targets shown d old new result =
     ((p : Plan) × (applied : Result (Unit {0}) ApplyFault) × Under (any_in old) b (IsPlan s h (any_in old) b targets p.batches.items p.answer)
-    × TellsFinished b targets p.answer × CommitsAll d old new p.batches.items applied × (result ≡ answered_behind p.answer applied))
+    × shown p.answer × CommitsAll d old new p.batches.items applied × (result ≡ answered_behind p.answer applied))
     ⊎ ((result ≡ Err fault.NoMemory) × IsStill d old new)

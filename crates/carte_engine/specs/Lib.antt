@@ -7,6 +7,7 @@ pub mod Clearing
 pub mod Committing
 pub mod Working
 pub mod Reckoned
+pub mod Shown
 pub mod Histories
 pub mod Faults
 pub mod Previews

@@ -13,8 +13,8 @@ use Rattle.carte_record.specs.declared.batch.Batch.{Batch}
 use Rattle.carte_record.specs.Kept.{SomeKept}
 use Rattle.carte_rebuild.specs.declared.work.Work.{Work}
 use Rattle.carte_rebuild.specs.declared.work.WorkEnd.{WorkEnd}
-use Rattle.carte_rebuild.specs.declared.work.WorkEnd.TheVariants.{All}
-use Rattle.carte_rebuild.specs.Ends.{EndsInOrder, EndsRestarting, EndsSuspending, HasTargets, IsNewChain}
+use Rattle.carte_rebuild.specs.declared.work.WorkEnd.TheVariants.{All, Refused}
+use Rattle.carte_rebuild.specs.Ends.{EndsInOrder, EndsRestarting, EndsSuspending, IsNewChain}
 use Rattle.carte_sound.specs.Begun.{Beginning, begin}
 use Rattle.carte_sound.specs.Held.{How}
 use Rattle.carte_sound.specs.Parts.{PartsRestarting}
@@ -60,10 +60,12 @@ pub record IsReckoned (b : Book) (targets : List (List ℕ)) (w : Work) (built :
   pub finished : built.finished ≡ w.finished
   pub runs : built.runs ≡ w.runs
 
--- An answer with values is reckoned from work whose finished keys it shows, whatever is kept: of each target that isn't an input a key was finished, and its value is told.
-abbrev pub TellsFinished : Book → List (List ℕ) → Answer → Type 0
-TellsFinished b targets (answer.Built built) = (w : Work) × HasTargets b targets (All w) × IsReckoned b targets w built
-TellsFinished b targets (answer.Refused reason runs) = Unit {0}
+-- the answer shows what the end of a build has come to: its finished keys, by which its values and counts are told, or its reason; and its ledger
+abbrev pub ShowsEnd : Book → List (List ℕ) → WorkEnd → Answer → Type 0
+ShowsEnd b targets (All w) (answer.Built built) = IsReckoned b targets w built
+ShowsEnd b targets (All w) (answer.Refused reason runs) = ⊥
+ShowsEnd b targets (Refused w why) (answer.Built built) = ⊥
+ShowsEnd b targets (Refused w why) (answer.Refused reason runs) = (reason ≡ why) × (runs ≡ w.runs)
 
 -- The batches of work that was done over M: those of its finished keys, part by part, and with the new chain in the last where the work has one.
 pub record AreBatchesOf (h : How) (K M : SomeKept) (b : Book) (x : Beginning) (w : Work) (Bs : List Batch) : Type 0 where

@@ -1,7 +1,10 @@
-ghost use Rattle.std.specs.Prelude.{◌≡◌, false};
+ghost use Rattle.std.specs.Prelude.{◌≡◌, false, None};
 ghost use Rattle.carte_book.specs.Book.{book_view};
 ghost use Rattle.carte_state.specs.Around.{over_disk};
+ghost use Rattle.carte_state.specs.States.{any_in};
 ghost use Rattle.carte_engine.specs.Building.{Builds, answered};
+ghost use Rattle.carte_engine.specs.Shown.{ShowsBuild};
+ghost use Rattle.carte_engine.specs.Versions.{kept_for};
 
 use crate::{Answer, BuildFault, Built, Engine, Plan, Scheduler};
 use carte_book::Book;
@@ -31,6 +34,7 @@ impl Engine {
     ) -> Result<Built, BuildFault>
         requires { self.old.journal.broken ≡ false }
         ensures { Builds scheduler (R.how rebuilder.now) (book_view book.now) targets.now
+            (ShowsBuild R.Job.name R.Job.started R.Job.gives (λ M k j. R.begun rebuilder.now M (book_view book.now) (λ q. None) k j) (R.how rebuilder.now) (book_view book.now) targets.now scheduler workers (kept_for (any_in self.old) (book_view book.now)))
             (over_disk D.tells D.story D.faults disk.old disk.new) self.old self.new result }
     {
         let Plan { batches, answer } = self.plan(

@@ -1,4 +1,4 @@
-ghost use Rattle.std.specs.Prelude.{◌≡◌, ◌<◌, ◌^◌, ℕ, false, is_some, IfOk, IfSome, Err};
+ghost use Rattle.std.specs.Prelude.{◌≡◌, ◌<◌, ◌^◌, ℕ, false, is_some, IfOk, IfSome, None, Err};
 ghost use Rattle.carte_io.specs.Causes.{HasCauseOf};
 ghost use Rattle.carte_book.specs.Book.{book_view};
 ghost use Rattle.carte_mark.specs.Bases.{IsBegun};
@@ -7,7 +7,7 @@ ghost use Rattle.carte_state.specs.Folding.{IsBadState};
 ghost use Rattle.carte_state.specs.Runs.{AreUnmarked, BeginAll};
 ghost use Rattle.carte_state.specs.States.{IsLoaded, any_in, kept_in};
 ghost use Rattle.carte_engine.specs.Answers.{IsPlan};
-ghost use Rattle.carte_engine.specs.Reckoned.{TellsFinished};
+ghost use Rattle.carte_engine.specs.Shown.{ShowsBuild};
 ghost use Rattle.carte_engine.specs.Versions.{Under, kept_for, kept_or};
 
 use crate::basis::{begin_on, raised};
@@ -164,7 +164,7 @@ impl Engine {
         ensures begins { IfOk result (λ p. BeginAll (any_in self.old) p.batches.items) }
         ensures plans { Under (any_in self.old) (book_view book.now)
             (IfOk result (λ p. IsPlan scheduler (R.how rebuilder.now) (any_in self.old) (book_view book.now) targets.now p.batches.items p.answer)) }
-        ensures tells { IfOk result (λ p. TellsFinished (book_view book.now) targets.now p.answer) }
+        ensures shows { IfOk result (λ p. ShowsBuild R.Job.name R.Job.started R.Job.gives (λ M k j. R.begun rebuilder.now M (book_view book.now) (λ q. None) k j) (R.how rebuilder.now) (book_view book.now) targets.now scheduler workers (kept_for (any_in self.old) (book_view book.now)) p.answer) }
     {
         self.plan_from(
             rt, alloc, book, None, rebuilder, scheduler, workers, targets, gate,
@@ -191,7 +191,7 @@ impl Engine {
         ensures begins { IfOk result (λ p. BeginAll (any_in self.old) p.batches.items) }
         ensures plans { Under (any_in self.old) (book_view book.now)
             (IfOk result (λ p. IsPlan scheduler (R.how rebuilder.now) (any_in self.old) (book_view book.now) targets.now p.batches.items p.answer)) }
-        ensures tells { IfOk result (λ p. TellsFinished (book_view book.now) targets.now p.answer) }
+        ensures shows { IfOk result (λ p. ShowsBuild R.Job.name R.Job.started R.Job.gives (λ M k j. R.begun rebuilder.now M (book_view book.now) (λ q. None) k j) (R.how rebuilder.now) (book_view book.now) targets.now scheduler workers (kept_for (any_in self.old) (book_view book.now)) p.answer) }
     {
         let basis = begin_on(alloc, &mut self.state, book, known)?;
         let plan = plan_over(

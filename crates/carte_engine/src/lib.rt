@@ -15,10 +15,10 @@
 //! What is known of an answer holds under every history that what is kept is sound for, in its version, which each clause
 //! ranges over: that is no invariant of a type, since the digests of that very history have to differ too. A new state is
 //! sound for any history, and whichever batches of a build are put, it stays so for the history with one book more
-//! (`plan_is_sound`, `history_is_right`). Over kept information of another origin a build still ends, and what it answers
-//! are values of inputs and of keys that it finished (`TellsFinished`), with no promise what these are. Where rules are begun
-//! anew, how many starts were given up is told by a ledger that stands in the clause alone: a number can't say the bound of
-//! each rule.
+//! (`plan_is_sound`, `history_is_right`). Over kept information of another origin a build still ends, and its answer shows
+//! an end of its scheduler's build (`ShowsBuild`): the values of inputs and of the keys that this finished, with no promise
+//! what these are. Where rules are begun anew, how many starts were given up is told by a ledger that stands in the clause
+//! alone: a number can't say the bound of each rule.
 //!
 //! The values of the targets come from the book and the finished keys by look-ups, those that ran are sorted where they are
 //! listed, and each other list is gone through once: no step grows faster than n log n.

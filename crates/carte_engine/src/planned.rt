@@ -1,5 +1,5 @@
 // From the end of a build to its plan.
-ghost use Rattle.std.specs.Prelude.{◌≡◌, ◌∷◌, IfOk};
+ghost use Rattle.std.specs.Prelude.{◌≡◌, ◌∷◌, None, IfOk};
 ghost use Rattle.carte_book.specs.Book.{book_view};
 ghost use Rattle.carte_codec.specs.Each.{EachFits};
 ghost use Rattle.carte_mark.specs.Bases.{BeginsWith, beginning_of};
@@ -15,7 +15,8 @@ ghost use Rattle.carte_engine.specs.Answers.{IsPlan};
 ghost use Rattle.carte_engine.specs.Versions.{IsUp, Raises, Under};
 ghost use Rattle.carte_plan.specs.Cuts.{AllUnmarked};
 ghost use Rattle.carte_rebuild.specs.Ends.{HasTargets};
-ghost use Rattle.carte_engine.specs.Reckoned.{EndsBy, AreBatchesOf, TellsFinished};
+ghost use Rattle.carte_engine.specs.Reckoned.{EndsBy, AreBatchesOf, ShowsEnd};
+ghost use Rattle.carte_engine.specs.Shown.{IsEnd, ShowsBuild};
 
 use crate::reckon::reckon;
 use crate::{Answer, Plan, Scheduler};
@@ -49,7 +50,8 @@ pub(crate) fn plan_over<R: Rebuilder, G: Gate, T: Threads + Sync>(
     ensures unmarked { IfOk result (λ p. AreUnmarked p.batches.items) }
     ensures plans { let h = R.how rebuilder.now in let b = book_view book.now in (K : SomeKept) → BeginsWith K b begun.now (kept_view base.now)
         → Under (InTwo K) b (IfOk result (λ p. IsPlan scheduler h (InTwo K) b targets.now p.batches.items p.answer)) }
-    ensures tells { IfOk result (λ p. TellsFinished (book_view book.now) targets.now p.answer) }
+    ensures shows { (K : SomeKept) → BeginsWith K (book_view book.now) begun.now (kept_view base.now)
+        → IfOk result (λ p. ShowsBuild R.Job.name R.Job.started R.Job.gives (λ M k j. R.begun rebuilder.now M (book_view book.now) (λ q. None) k j) (R.how rebuilder.now) (book_view book.now) targets.now scheduler workers K p.answer) }
 {
     let end = run(
         rt, alloc, rebuilder, base, book, scheduler, workers, targets, gate,
@@ -69,8 +71,7 @@ fn run<R: Rebuilder, G: Gate, T: Threads + Sync>(
     targets: &Names,
     gate: &G,
 ) -> Result<WorkEnd, NoMemory>
-    ensures ends { IfOk result (EndsBy scheduler (R.how rebuilder.now) (kept_view kept.now) (book_view book.now) targets.now) }
-    ensures targets { IfOk result (HasTargets (book_view book.now) targets.now) }
+    ensures { IfOk result (IsEnd R.Job.name R.Job.started R.Job.gives (λ M k j. R.begun rebuilder.now M (book_view book.now) (λ q. None) k j) (R.how rebuilder.now) (book_view book.now) targets.now scheduler workers (kept_view kept.now)) }
 {
     match scheduler {
         Scheduler::Topological => carte_topo::build(alloc, rebuilder, kept, book, targets),
@@ -96,7 +97,7 @@ fn planned<R: Rebuilder>(
     ensures unmarked { IfOk result (λ p. AreUnmarked p.batches.items) }
     ensures plans { let h = R.how rebuilder.now in let b = book_view book.now in (s : SomeScheduler) (K : SomeKept) → BeginsWith K b begun.now (kept_view base.now)
         → EndsBy s h (kept_view base.now) b targets.now end → Under (InTwo K) b (IfOk result (λ p. IsPlan s h (InTwo K) b targets.now p.batches.items p.answer)) }
-    ensures tells { IfOk result (λ p. TellsFinished (book_view book.now) targets.now p.answer) }
+    ensures shows { IfOk result (λ p. ShowsEnd (book_view book.now) targets.now end p.answer) }
 {
     match end {
         WorkEnd::All(work) => {

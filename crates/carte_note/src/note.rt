@@ -19,10 +19,10 @@ use carte_record::{Batch, DeepTrace, Kept, Store, Trace, Way};
 use carte_value::{Digest, NoMemory, Value};
 use std::alloc::Global;
 
-/// Adds to the batch of a build what one more finished key brings: the value that the store lacks and the trace, where
-/// its task ran, and the entry with the inputs that it names, where those differ from what is kept. `kept` is what the
-/// build began with, and tasks are spelled in `room`, which is kept from one key to the next. Where there is no memory the batch may hold a part of it; a key that is no rule of the book has no
-/// task, and is refused so too.
+/// Adds to the batch of a build what one more finished key brings: the value that the store lacks and the trace,
+/// where its task ran, and the entry with the inputs that it names, where those differ from what is kept. `kept` is
+/// what the build began with, and tasks are spelled in `room`, which is kept from one key to the next. Where there is
+/// no memory the batch may hold a part of it; a key that is no rule of the book has no task, and is refused so too.
 pub fn note_finished(
     alloc: Global,
     room: &mut Vec<u8>,

@@ -13,12 +13,12 @@
 //! document's own table for the name would have kept all inputs twice. The text of a rule is read before its
 //! name is looked up, so that one look tells what stands there and puts the rule; the name's fault is told first.
 //!
-//! A file of plain lines is read without a document: the headers of both tables, inputs first, and below them keys
-//! of one part with integers and with texts on one line that have no escapes (`line`). Each line goes into the draft as
-//! it is read (`direct`). The document's ordered maps, built twice, cost four times as much. The end of a text is looked for in sixteen bytes at once, since a line is mostly its text:
-//! byte by byte that was a sixth of all reading. Whatever isn't plain, and each fault of TOML, is left to the document, so that there is one
-//! place that tells them. That entries in order are the document's tables is proved of the
-//! grammar's own definitions (`proofs/Document`), and the contract is the same for both ways.
+//! A file of plain lines is read without a document: the headers of both tables, inputs first, and below them keys of one part
+//! with integers and with texts on one line that have no escapes (`line`). Each line goes into the draft as it is read
+//! (`direct`). The document's ordered maps, built twice, cost four times as much. The end of a text is looked for in sixteen
+//! bytes at once, since a line is mostly its text: byte by byte that was a sixth of all reading. Whatever isn't plain, and each
+//! fault of TOML, is left to the document, so that there is one place that tells them. That entries in order are the document's
+//! tables is proved of the grammar's own definitions (`proofs/Document`), and the contract is the same for both ways.
 //!
 //! Only where a line can't be put are there lists of entries, sorted by key (`plain`, `entries`): then the first fault
 //! in byte order is to be told, or a key comes twice, and all is read again. A book is a map, so any order of its keys

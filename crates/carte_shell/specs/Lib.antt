@@ -1,4 +1,5 @@
 pub mod Chosen
+pub mod Shown
 pub mod Scenes
 pub mod Replies
 pub mod Stopping

@@ -11,6 +11,7 @@ ghost use Rattle.carte_engine.specs.Previews.{IsPreview};
 ghost use Rattle.carte_engine.specs.Versions.{Under, kept_for};
 ghost use Rattle.carte_explain.specs.Why.{how_of as how_of_kind};
 ghost use Rattle.carte_shell.specs.Chosen.{scheduler_of, how_of};
+ghost use Rattle.carte_shell.specs.Shown.{ShowsBy};
 
 use crate::Choices;
 use carte_book::Book;
@@ -46,6 +47,7 @@ pub(crate) fn plan<G: Gate, T: Threads + Sync>(
     ensures begins { IfOk result (λ p. BeginAll (any_in engine.old) p.batches.items) }
     ensures plans { Under (any_in engine.old) (book_view book.now)
         (IfOk result (λ p. IsPlan (scheduler_of choices.scheduler) (how_of choices.rebuilder) (any_in engine.old) (book_view book.now) targets.now p.batches.items p.answer)) }
+    ensures shows { IfOk result (λ p. ShowsBy choices.rebuilder (scheduler_of choices.scheduler) choices.workers (any_in engine.old) (book_view book.now) targets.now p.answer) }
 {
     let by = scheduler_of(choices.scheduler);
     let workers = choices.workers;

@@ -21,7 +21,7 @@ returns-in_err-commit g c =
       c.in_ok-batches.field-0,
       Err c.in_err-commit.field-0.0,
       c.in_ok-batches.ensures.plans,
-      c.in_ok-batches.ensures.tells,
+      c.in_ok-batches.ensures.shows,
       subst (λ (old : Stand). CommitsAll seen old c.commit.new.self batches (Err c.in_err-commit.field-0.0)) c.plan.ensures.kept
           (subst (λ applied. CommitsAll seen c.plan.new.self c.commit.new.self batches applied) c.in_err-commit.was c.commit.ensures),
       p.1 ∙ ap Err p.2,
@@ -34,7 +34,7 @@ returns g c =
       c.in_ok-batches.field-0,
       Ok c.in_ok-commit.field-0,
       c.in_ok-batches.ensures.plans,
-      c.in_ok-batches.ensures.tells,
+      c.in_ok-batches.ensures.shows,
       subst (λ (old : Stand). CommitsAll seen old c.commit.new.self c.in_ok-batches.field-0.batches.items (Ok c.in_ok-commit.field-0)) c.plan.ensures.kept
           (subst (λ applied. CommitsAll seen c.plan.new.self c.commit.new.self c.in_ok-batches.field-0.batches.items applied) c.in_ok-commit.was c.commit.ensures),
       c.answered.ensures,
