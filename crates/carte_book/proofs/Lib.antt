@@ -3,6 +3,7 @@ pub mod Reasons
 pub mod Books
 pub mod RuleNames
 pub mod Fitting
+pub mod InputNames
 pub mod Ordered
 pub mod Placed
 pub mod Listed

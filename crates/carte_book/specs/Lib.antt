@@ -1,6 +1,7 @@
 pub mod Alike
 pub mod Fits
 pub mod Content
+pub mod Inputs
 pub mod Book
 pub mod Needs
 pub mod Reason

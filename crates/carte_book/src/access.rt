@@ -1,17 +1,17 @@
 ghost use Rattle.std.specs.Prelude.{◌≡◌, None, is_some, IsTrue, IfOk, OnOk, OnErr};
 ghost use Rattle.std.specs.FinMap.{empty, get};
 ghost use Rattle.carte_name.specs.Kinds.{is_name_of};
-ghost use Rattle.carte_book.specs.Fits.{FitsItem};
-ghost use Rattle.carte_book.specs.Book.{book_view, item_view, content, default_of, hasher_in};
-ghost use Rattle.carte_book.specs.Edits.{with_item};
+ghost use Rattle.carte_book.specs.Book.{book_view, input, content, default_of, hasher_in};
+ghost use Rattle.carte_book.specs.Edits.{IsInput, with_item};
 ghost use Rattle.carte_book.specs.Looked.{Answers, IsFormula, IsFormulaAt, HasNoOthers, HasRules, AddsRule};
 ghost use Rattle.carte_book.specs.Needs.{IsRule};
 
 use crate::book::Items;
 use crate::edits::MOST_KEYS;
+use crate::inputs::list;
 use crate::{Book, Item, Looked};
 use carte_tree::Expr;
-use carte_value::{Kind, Name, NoMemory, Seeded, Value};
+use carte_value::{Kind, Name, NoMemory, Numbering, Seeded, Value};
 use std::alloc::Global;
 use std::collections::BTreeSet;
 use std::sync::Arc;
@@ -27,6 +27,7 @@ impl Book {
             alloc,
             kind,
             items: Items::with_hasher(alloc, hasher),
+            inputs: Numbering::new(alloc, hasher),
             nothing: Value::Empty,
             known: None,
             known_tasks: 0,
@@ -49,6 +50,7 @@ impl Book {
             alloc,
             kind,
             items,
+            inputs: Numbering::new(alloc, hasher),
             nothing: Value::Empty,
             known: None,
             known_tasks: 0,
@@ -124,17 +126,20 @@ impl Book {
         self.items.contains_key(name)
     }
 
-    // What it knows of its rules is dropped, since the item may be one, or stand in the place of one.
-    pub(crate) fn put(&mut self, name: Name, item: Item) -> Result<(), NoMemory>
+    // What it knows of its rules is dropped, since it isn't looked whether the name is a key.
+    pub(crate) fn put(&mut self, name: Name, value: Value) -> Result<(), NoMemory>
         requires name { IsTrue (is_name_of (book_view self.old).kind name) }
-        requires item { FitsItem (book_view self.old).kind item }
-        ensures ok { OnOk result (book_view self.new ≡ with_item (book_view self.old) name (item_view item)) }
+        requires input { IsInput (book_view self.old) name }
+        ensures ok { OnOk result (book_view self.new ≡ with_item (book_view self.old) name (input value)) }
         ensures absent { OnErr result (get (book_view self.old).items name ≡ None) }
         ensures unchanged { OnErr result (book_view self.new ≡ book_view self.old) }
     {
+        if list(&mut self.inputs, &name).is_err() {
+            return Err(NoMemory);
+        }
         self.known = None;
         self.known_tasks = 0;
-        match self.items.insert(name, item) {
+        match self.items.insert(name, Item::Input(value)) {
             Ok(_) => Ok(()),
             Err(_) => Err(NoMemory),
         }

@@ -1,10 +1,12 @@
 ghost use Rattle.std.specs.Prelude.{◌≡◌};
 ghost use Rattle.carte_value.specs.declared.value.Value.TheVariants.{Empty};
 ghost use Rattle.carte_book.specs.Fits.{Fits, Fits-prop};
+ghost use Rattle.carte_book.specs.Content.{entries_view};
+ghost use Rattle.carte_book.specs.Inputs.{AreListed, AreListed-prop};
 ghost use Rattle.carte_book.specs.Known.{Knows, book_with};
 
 use carte_tree::Expr;
-use carte_value::{Digest, Kind, Name, Seeded, Value};
+use carte_value::{Digest, Kind, Name, Numbering, Seeded, Value};
 use indexmap::IndexMap;
 use std::alloc::Global;
 use std::sync::Arc;
@@ -28,11 +30,13 @@ pub struct Rule {
 }
 
 /// A rule file or a sheet in memory. Its names are of its kind, and its formulas are as reading makes them.
-#[derive(Debug, Drop)]
+#[derive(Drop)]
 pub struct Book {
     pub(crate) alloc: Global,
     pub(crate) kind: Kind,
     pub(crate) items: Items,
+    /// The names of all inputs, and maybe others: whoever asks for inputs asks these few first.
+    pub(crate) inputs: Numbering,
     /// What each cell of a sheet holds that nothing was put in.
     pub(crate) nothing: Value,
     /// The digest of its rules, once it was asked for.
@@ -41,6 +45,7 @@ pub struct Book {
     pub(crate) known_tasks: usize,
     ghost is_nothing: { nothing ≡ Empty },
     ghost fits: { Fits kind items.entries } by { Fits-prop kind items.entries },
+    ghost listed: { AreListed inputs (entries_view items.entries) } by { AreListed-prop inputs (entries_view items.entries) },
     ghost knows: { Knows known (book_with kind items.entries) },
 }
 

@@ -6,6 +6,7 @@ ghost use Rattle.carte_book.specs.Fits.{FitsItem};
 ghost use Rattle.carte_book.specs.Book.{book_view, item_view, input, rule};
 ghost use Rattle.carte_book.specs.Edits.{keys_of, IsRefused, Adds, IsInput, IsSettable, Sets};
 
+use crate::inputs::list_item;
 use crate::items::put_new;
 use crate::{AddFault, Book, Item, Looked, Rule, SetFault};
 use carte_tree::Expr;
@@ -68,6 +69,9 @@ impl Book {
         if self.keys() >= MOST_KEYS {
             return Err(self.refusal(&name));
         }
+        if list_item(&mut self.inputs, &name, &item).is_err() {
+            return Err(self.refusal(&name));
+        }
         self.known = None;
         put_new(&mut self.items, name, item)
     }
@@ -106,7 +110,7 @@ impl Book {
         ensures { Sets (book_view self.old) (book_view self.new) name.now value result }
     {
         match name.copy(self.alloc) {
-            Ok(name) => match self.put(name, Item::Input(value)) {
+            Ok(name) => match self.put(name, value) {
                 Ok(()) => Ok(()),
                 Err(_) => Err(SetFault::NoMemory),
             },

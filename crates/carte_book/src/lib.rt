@@ -36,6 +36,7 @@ mod digest;
 mod draft;
 mod edits;
 mod fault;
+mod inputs;
 mod items;
 mod key_text;
 mod laws;

@@ -6,7 +6,7 @@ ghost use Rattle.carte_sound.specs.Begun.{is_digest};
 ghost use Rattle.carte_sound.specs.Marks.{present};
 ghost use Rattle.carte_note.specs.Writes.{with_seen, all_seen};
 
-use carte_book::{Book, Looked};
+use carte_book::Book;
 use carte_record::Seen;
 use carte_value::{Link, Links, Name, NoMemory, Same};
 use std::alloc::Global;
@@ -47,11 +47,7 @@ fn see(
 fn is_input(book: &Book, name: &Name) -> bool
     ensures { result ≡ is_some (present (book_view book.now) name.now) }
 {
-    match book.lookup(name) {
-        Looked::Input(_) => true,
-        Looked::Rule(_) => false,
-        Looked::None => false,
-    }
+    book.is_input(name)
 }
 
 fn is_kept(kept: &Seen, link: &Link) -> bool

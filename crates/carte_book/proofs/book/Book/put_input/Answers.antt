@@ -8,5 +8,6 @@ invariant_of-self c =
     record {
       is_nothing = done.is_nothing;
       fits = done.fits;
+      listed = done.listed;
       knows = knows_still c.args.self.now.known (book_view c.args.self.now) (book_view done) c.args.name.now c.args.value c.put_value-done.result c.put_value-done.ensures c.args.self.now.knows;
     }
