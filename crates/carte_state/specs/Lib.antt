@@ -4,6 +4,7 @@ pub mod Folding
 pub mod Parts
 pub mod States
 pub mod Applying
+pub mod Writing
 pub mod Rewriting
 pub mod Runs
 pub mod Columns

@@ -1,4 +1,4 @@
-ghost use Rattle.std.specs.Prelude.{◌≡◌, ◌≢◌, ◌+◌, ◌<◌, ◌≤◌, ◌^◌, ℕ, false, true, is_some, length, None, option_copied, IfOk, IsOkUnless, OnOk, OnErr, Ok, Err};
+ghost use Rattle.std.specs.Prelude.{◌≡◌, ◌≢◌, ◌+◌, ◌<◌, ◌≤◌, ◌^◌, ℕ, false, true, is_some, length, None, option_copied, IfOk, IfSome, IsOkUnless, OnOk, OnErr, Ok, Err};
 ghost use Rattle.carte_codec.specs.Each.{EachFits};
 ghost use Rattle.carte_state.specs.Around.{over_disk};
 ghost use Rattle.carte_record.specs.Bodies.{IsBody, IsUnmarked, spelled_batch, spelled_deep, spelled_trace};
@@ -8,6 +8,7 @@ ghost use Rattle.carte_record.specs.Lookups.{deep_eq, trace_eq};
 ghost use Rattle.carte_record.specs.Marked.{CanBeMarked, lists_marked};
 ghost use Rattle.carte_state.specs.Applying.{Applies};
 ghost use Rattle.carte_state.specs.Folding.{Keeps};
+ghost use Rattle.carte_state.specs.Writing.{FitInTurn, Writes};
 ghost use Rattle.carte_state.specs.Rewriting.{IsRegionFor, step_over, with_journal};
 ghost use Rattle.carte_state.specs.Parts.{made_view};
 ghost use Rattle.carte_state.specs.Versions.{Begins, kept_of};
@@ -21,6 +22,7 @@ ghost use Rattle.carte_journal.specs.Regions.{AreShort, IsPlannedOn, IsRegionOf,
 use crate::ApplyFault;
 use crate::made::Made;
 use crate::room::{Sizes, widen};
+use carte_codec::Measured;
 use carte_io::Disk;
 use carte_journal::{Bank, Bodies, CommitFault, Frame, Journal, Region};
 use carte_record::{Batch, Kept};
@@ -256,6 +258,46 @@ impl State {
         }
     }
 
+    /// Whether there is room for all of these batches, one behind another, in the file as it stands.
+    pub fn has_room_for(&self, batches: &[Batch]) -> bool
+        ensures { result ≡ true → FitInTurn self.now.journal batches.now }
+    {
+        let limit = self.limit();
+        let mut end = self.bank().end;
+        for batch in batches {
+            match end_behind(end, batch, limit) {
+                Some(behind) => end = behind,
+                None => return false,
+            }
+        }
+        true
+    }
+
+    /// Puts a batch on the disk alone, as `apply` does. What is kept here stays as it is, so it isn't what the file keeps any
+    /// more: whoever writes one batch so writes all that come, and then lets the state go. It spares a process that ends
+    /// the memory and the work of putting in what nothing will ask for.
+    pub fn write<D: Disk>(
+        &mut self,
+        alloc: Global,
+        disk: &mut D,
+        next: &Batch,
+    ) -> Result<(), ApplyFault>
+        requires whole { self.old.journal.broken ≡ false }
+        requires unmarked { EachFits IsUnmarked next.now.entries }
+
+        ensures writes { Writes (over_disk D.tells D.story D.faults disk.old disk.new) self.old.journal self.new.journal next.now result }
+        ensures kept { self.new ≡ with_journal self.old self.new.journal }
+    {
+        if next.is_empty() {
+            return Ok(());
+        }
+        let spelled = self.frame_of(alloc, next)?;
+        match self.journal.commit(disk, &spelled) {
+            Ok(()) => Ok(()),
+            Err(refused) => Err(ApplyFault::of(refused)),
+        }
+    }
+
     // The frame of a batch, where there is room for it.
     #[tactic(auto, using(crate::proofs::Applies::no_move))]
     fn frame_of(&self, alloc: Global, batch: &Batch) -> Result<Frame, ApplyFault>
@@ -285,4 +327,15 @@ fn take_in(kept: &mut Kept, alloc: Global, batch: &mut Batch) -> Result<(), NoMe
 {
     let nothing = Batch::new(alloc, kept.hasher());
     kept.absorb(replace(batch, nothing))
+}
+
+// Where a file that ends so would end behind one batch more, where it may be so long.
+fn end_behind(end: u64, batch: &Batch, limit: u64) -> Option<u64>
+    ensures { IfSome result (λ behind. (behind ≡ end + (5 + length (spelled_batch batch.now))) × (behind ≤ limit)) }
+{
+    let behind = end.checked_add(5)?.checked_add(batch.length()?)?;
+    if behind > limit {
+        return None;
+    }
+    Some(behind)
 }
