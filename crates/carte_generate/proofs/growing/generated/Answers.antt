@@ -11,3 +11,8 @@ loop-number-preserved c = (c.in_ok-add_key.ensures.keys, c.in_ok-add_key.ensures
 
 pub returns : goal.returns
 returns c = whole c.args.seed c.args.count c.inputs_of-inputs.result c.loop-number.number c.loop-number.draws.state (book_view c.loop-number.book) (omega arith) (omega arith) c.inputs_of-inputs.ensures c.loop-number.invariant
+
+pub invariant_of-book : goal.invariant_of-book
+invariant_of-book c =
+    let grown = c.add_key.new.book in
+    record { is_nothing = grown.is_nothing; fits = grown.fits; listed = grown.listed; knows = grown.knows }
