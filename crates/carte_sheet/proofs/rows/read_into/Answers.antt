@@ -10,3 +10,8 @@ returns-in-Ok c =
 
 pub returns : goal.returns
 returns c = λ cause. (Err c.in-Err.fault, (rw c.in-Err.is at c.read_rows.ensures) cause, refl)
+
+pub invariant_of-draft : goal.invariant_of-draft
+invariant_of-draft c =
+    let grown = c.read_rows.new.draft.keys.book in
+    record { is_nothing = grown.is_nothing; fits = grown.fits; listed = grown.listed; knows = grown.knows }
