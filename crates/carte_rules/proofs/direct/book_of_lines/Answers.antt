@@ -1,6 +1,6 @@
-use Rattle.std.proofs.Common.{◌≡◌, ◌==◌, false, length, arith}
+use Rattle.std.proofs.Common.{◌≡◌, ◌==◌, ◌∙◌, false, length, arith}
 use Rattle.std.proofs.lemmas.Grind.{common_steps}
-use Rattle.std.proofs.lemmas.Bool.Decides.{nat_tests}
+use Rattle.std.proofs.lemmas.Bool.{ne_eqb}
 use Rattle.toml_parser.specs.Lexical.{first, skip_blank}
 use Rattle.carte_rules.proofs.Document.{document_read}
 use Rattle.carte_rules.proofs.Orders.{IsDocumentOf, finished}
@@ -13,7 +13,7 @@ returns-then-is_empty c =
     let v = c.in_ok-rest-2.rest.now in
     let (es, m, pairs_t, put, holds) = c.in_ok-rest.ensures.put in
     let (gs, n, pairs_u, read, all) = c.in_ok-rest-2.ensures.put m holds in
-    let other : (first s == 0xEF) ≡ false = grind (arith, nat_tests, common_steps) in
+    let other : (first s == 0xEF) ≡ false = ne_eqb (first s) 0xEF (λ e. c.if-first-eq239.false (c.first.ensures ∙ e)) in
     let start_is = c.skip_blank-3.ensures.rest in
     let end : length (skip_blank v) ≡ 0 = grind (arith, common_steps) in
     let text : IsDocumentOf s es gs = λ fs hs inputs_so rules_so.
