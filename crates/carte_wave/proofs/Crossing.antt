@@ -12,6 +12,7 @@ use Rattle.carte_value.proofs.digest.Digest.TheSendSync as digest
 use Rattle.carte_name.proofs.kind.Kind.TheSendSync as kind
 use Rattle.carte_name.proofs.name.Name.TheSendSync as name
 use Rattle.carte_name.proofs.seeded.Seeded.TheSendSync as seeded
+use Rattle.carte_value.proofs.numbering.Numbering.TheSendSync as numbering
 use Rattle.carte_value.proofs.text.Text.TheSendSync as text
 use Rattle.carte_value.proofs.value.Value.TheSendSync as value
 use Rattle.carte_tree.proofs.expr.Func.TheSendSync as func
@@ -44,7 +45,7 @@ item_sync : IsSync (Item.the_field).row
 item_sync = enum_sync (choice.shape Item.the_type) ((value.the_field_sync, tt), ((rule_sync, tt), tt))
 
 book_field_sync : IsSync (Book.the_field).row
-book_field_sync = struct_sync (fields.shape Book.the_type) (search (sendable, crosses), (search (sendable, kind.the_field_sync), (search (sendable, crosses, map.the_sync, name.the_sync, item_sync, seeded.the_field_sync) depth 20, (search (sendable, value.the_field_sync), (search (sendable, digest.the_sync) depth 20, (search (sendable, crosses), tt))))))
+book_field_sync = struct_sync (fields.shape Book.the_type) (search (sendable, crosses), (search (sendable, kind.the_field_sync), (search (sendable, crosses, map.the_sync, name.the_sync, item_sync, seeded.the_field_sync) depth 20, (search (sendable, numbering.the_sync), (search (sendable, value.the_field_sync), (search (sendable, digest.the_sync) depth 20, (search (sendable, crosses), tt)))))))
 
 pub book_sync : IsSync Book.the_row
 book_sync = recorded_sync (Book.the_field).row _ _ (Book.the_type).to_one book_field_sync
