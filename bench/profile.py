@@ -16,7 +16,7 @@ from builds import SEED
 from generated import generated
 
 PARTS = [
-    ("reading the book", [r"carte_rules::read::read_rules"]),
+    ("reading the book", [r"carte_rules::read::read_text"]),
     ("- of it formulas", [r"carte_rules::rules::read_formula"]),
     ("loading the state", [r"carte_top::open::open"]),
     ("what the build begins with", [r"carte_engine::basis::begin_on"]),

@@ -121,3 +121,41 @@ fn what_was_applied_is_loaded(rt: HostRuntime) -> Result<(), Fail> {
     assert!(&rt; loaded(rt.alloc(), [2, 3])? == (10, 2, [true, false]));
     Ok(())
 }
+
+// Writes 1 behind a clearing, where there is room for 2 as well. Whether it was, though nothing is kept in memory.
+fn write_one(alloc: Global, disk: &mut MemDisk) -> Result<bool, NoMemory> {
+    match state_on(alloc, disk)? {
+        Some(state) => {
+            let mut state = state;
+            write_to(alloc, &mut state, disk)
+        }
+        None => Ok(false),
+    }
+}
+
+fn write_to(alloc: Global, state: &mut State, disk: &mut MemDisk) -> Result<bool, NoMemory>
+    requires { state.old.journal.broken ≡ false }
+{
+    if !state.has_room_for(two_batches(alloc)?.as_slice()) {
+        return Ok(false);
+    }
+    let first = number_batch(alloc, Start::Cleared, 1)?;
+    Ok(state.write(alloc, disk, &first).is_ok() && state.kept().is_bare())
+}
+
+/// How many writing calls were made, and how many values are there then.
+fn written(alloc: Global) -> Result<(u64, usize), NoMemory> {
+    let mut disk = MemDisk::of(alloc, b"", &[])?;
+    let passed = if write_one(alloc, &mut disk)? {
+        disk.passed()
+    } else {
+        0
+    };
+    Ok((passed, count_on(alloc, &mut disk)?))
+}
+
+#[test]
+fn what_was_written_is_loaded(rt: HostRuntime) -> Result<(), Fail> {
+    assert!(&rt; written(rt.alloc())? == (6, 1));
+    Ok(())
+}

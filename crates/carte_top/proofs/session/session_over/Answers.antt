@@ -41,3 +41,8 @@ returns-in-Err g c =
     sits_no_state 536870912 d (over_sink g.O.Sink.tells g.O.Sink.state c.args.out.now c.args.out.now) c.in-Err.ensures.story (refl, refl, refl)
     c.args.asked.now (book_view c.args.book) script c.in-Err.status c.in-Err.ensures.loaded c.in-Err.ensures.disk (refl, refl)
     (stays_unbegun 536870912 (book_view c.args.book) script d c.in-Err.ensures.story)
+
+pub invariant_of-shell : goal.invariant_of-shell
+invariant_of-shell g c =
+    let book = c.session_with.new.shell.book in
+    record { is_nothing = book.is_nothing; fits = book.fits; listed = book.listed; knows = book.knows }
