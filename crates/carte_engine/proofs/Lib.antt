@@ -16,5 +16,6 @@ pub mod Steps
 pub mod Committing
 pub mod Several
 pub mod Looping
+pub mod Writing
 pub mod Foreseeing
 pub mod Idle

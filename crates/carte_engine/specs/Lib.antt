@@ -5,6 +5,7 @@ pub mod Answers
 pub mod Building
 pub mod Clearing
 pub mod Committing
+pub mod Writing
 pub mod Working
 pub mod Reckoned
 pub mod Shown

@@ -1,5 +1,5 @@
 // Commits, before which the file is rewritten where that is due.
-ghost use Rattle.std.specs.Prelude.{◌≡◌, ◌∷◌, [], false, MatchResult, OnOk};
+ghost use Rattle.std.specs.Prelude.{◌≡◌, ◌∷◌, [], true, false, MatchResult, OnOk};
 ghost use Rattle.carte_codec.specs.Each.{EachFits};
 ghost use Rattle.carte_record.specs.Bodies.{IsUnmarked};
 ghost use Rattle.carte_record.specs.Kept.{nothing_kept};
@@ -8,7 +8,8 @@ ghost use Rattle.carte_state.specs.Runs.{AreUnmarked, BeginAll};
 ghost use Rattle.carte_state.specs.States.{any_in};
 ghost use Rattle.carte_state.specs.Versions.{Begins, InTwo};
 ghost use Rattle.carte_engine.specs.Clearing.{clearing};
-ghost use Rattle.carte_engine.specs.Committing.{Commits, CommitsAll, Readies, Unreadied};
+ghost use Rattle.carte_engine.specs.Committing.{Commits, CommitsAll, IsNotDue, Readies, Unreadied};
+ghost use Rattle.carte_engine.specs.Writing.{CommitsLast, MayWrite};
 
 use crate::Engine;
 use crate::clear::clearing;
@@ -17,6 +18,7 @@ use carte_io::Disk;
 use carte_record::Batch;
 use carte_state::ApplyFault;
 use std::alloc::Global;
+use std::mem::forget;
 
 impl Engine {
     /// Commits the batches of a plan, one after another, up to the first that is refused: that one and those behind it are
@@ -55,6 +57,71 @@ impl Engine {
         for batch in batches {
             self.commit_one(alloc, disk, batch, first)?;
             first = false;
+        }
+        Ok(())
+    }
+
+    /// The same as the last thing that is done with the engine: nothing is told of what it has behind this, so that no
+    /// further commit can be made. Where no rewriting is due and there is room for all of the batches, they are only
+    /// written, and what they make of what is kept isn't put together in memory, where nothing asks for it any more. That
+    /// spares a build from nothing a sixth of its memory.
+    pub fn commit_last<D: Disk>(
+        &mut self,
+        alloc: Global,
+        disk: &mut D,
+        batches: Vec<Batch>,
+    ) -> Result<(), ApplyFault>
+        requires whole { self.old.journal.broken ≡ false }
+        requires unmarked { AreUnmarked batches.items }
+        requires begins { BeginAll (any_in self.old) batches.items }
+        ensures { CommitsLast (over_disk D.tells D.story D.faults disk.old disk.new) self.old batches.items result }
+    {
+        if !self.may_write(alloc, batches.as_slice()) {
+            return self.commit(alloc, disk, batches);
+        }
+        let result = self.write_each(alloc, disk, batches.as_slice());
+        // To give them back, name by name, would only take time.
+        forget(batches);
+        result
+    }
+
+    // Whether no batch needs what is kept in memory: none but the first could be rewritten for, and for that it isn't due.
+    fn may_write(&mut self, alloc: Global, batches: &[Batch]) -> bool
+        ensures may { result ≡ true → MayWrite self.old batches.now }
+        ensures same { self.new ≡ self.old }
+    {
+        if self.state.is_old() || !self.state.has_room_for(batches) {
+            return false;
+        }
+        match batches.first() {
+            Some(first) => self.is_undue(alloc, first),
+            None => true,
+        }
+    }
+
+    fn is_undue(&mut self, alloc: Global, first: &Batch) -> bool
+        ensures undue { result ≡ true → IsNotDue true self.old first.now }
+        ensures same { self.new ≡ self.old }
+    {
+        match is_due(alloc, &mut self.state, first, true) {
+            Ok(due) => !due,
+            Err(_) => false,
+        }
+    }
+
+    fn write_each<D: Disk>(
+        &mut self,
+        alloc: Global,
+        disk: &mut D,
+        batches: &[Batch],
+    ) -> Result<(), ApplyFault>
+        requires whole { self.old.journal.broken ≡ false }
+        requires unmarked { AreUnmarked batches.now }
+        requires may { MayWrite self.old batches.now }
+        ensures { CommitsLast (over_disk D.tells D.story D.faults disk.old disk.new) self.old batches.now result }
+    {
+        for next in batches {
+            self.state.write(alloc, disk, next)?;
         }
         Ok(())
     }

@@ -3,6 +3,7 @@ pub mod Telling
 pub mod Committing
 pub mod Watched
 pub mod Obeying
+pub mod Last
 pub mod Sounding
 pub mod Sessions
 pub mod Lasting

@@ -7,6 +7,7 @@ pub mod Commits
 pub mod Watched
 pub mod Explained
 pub mod Answers
+pub mod Last
 pub mod Books
 pub mod Sound
 pub mod Lasting

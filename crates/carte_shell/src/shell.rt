@@ -13,6 +13,8 @@ ghost use Rattle.carte_session.specs.declared.end.StepEnd.TheVariants.{NoMemory 
 ghost use Rattle.carte_shell.specs.Watched.{IsWatchedBehind, IsWatchedIn};
 ghost use Rattle.carte_words.specs.declared.line.Line.TheVariants.{Build as build_line, Clean as clean_line};
 
+mod last;
+
 use crate::chosen::plan;
 use crate::inputs::set_input;
 use crate::stops::{build_reply, stopped};

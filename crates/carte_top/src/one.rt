@@ -2,6 +2,7 @@
 ghost use Rattle.std.specs.Prelude.{◌≡◌, false};
 ghost use Rattle.carte_book.specs.Book.{book_view};
 ghost use Rattle.carte_shell.specs.Answers.{NamesInput};
+ghost use Rattle.carte_shell.specs.Last.{Leads};
 ghost use Rattle.carte_shell.specs.Replies.{said};
 ghost use Rattle.carte_shell.specs.Scenes.{scene};
 ghost use Rattle.carte_top.specs.Around.{over_source, over_disk, over_sink};
@@ -22,7 +23,6 @@ use carte_wave::Gate;
 use carte_words::{Line, Words};
 use std::alloc::Global;
 use std::marker::Sync;
-use std::mem::forget;
 use std::thread::Threads;
 
 /// Builds the targets of the words.
@@ -128,12 +128,7 @@ pub(crate) fn one<D: Disk, O: Sink, G: Gate, T: Threads + Sync>(
         result }
 {
     match open(rt, alloc, choices, book, state, gate) {
-        Ok(mut shell) => {
-            let status = request(rt, alloc, &mut shell, line, front, state, out, gate);
-            // The process ends behind this: giving back what is kept, name by name, would only take time.
-            forget(shell);
-            status
-        }
+        Ok(shell) => request(rt, alloc, shell, line, front, state, out, gate),
         Err(status) => status,
     }
 }
@@ -141,20 +136,20 @@ pub(crate) fn one<D: Disk, O: Sink, G: Gate, T: Threads + Sync>(
 fn request<D: Disk, O: Sink, G: Gate, T: Threads + Sync>(
     rt: &T,
     alloc: Global,
-    shell: &mut Shell,
+    shell: Shell,
     line: Line,
     front: &str,
     state: &mut D,
     out: &mut O,
     gate: &G,
 ) -> Status
-    requires whole { shell.old.engine.journal.broken ≡ false }
-    requires named { NamesInput (book_view shell.old.book).kind line }
-    ensures { Requests D.tells (scene D.story D.faults (shell.old, state.old)) line (scene D.story D.faults (shell.new, state.new)) front.now
+    requires whole { shell.engine.journal.broken ≡ false }
+    requires named { NamesInput (book_view shell.book).kind line }
+    ensures { Leads (D.story state.new) (D.faults state.new) (λ m. Requests D.tells (scene D.story D.faults (shell, state.old)) line m front.now
         (over_sink O.tells O.state out.old out.new)
-        result }
+        result) }
 {
-    match shell.obey(rt, alloc, state, line, gate) {
+    match shell.obey_last(rt, alloc, state, line, gate) {
         Ok(reply) => show(front, reply, out),
         Err(end) => ended(SessionEnd::Machine(end)),
     }
