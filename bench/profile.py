@@ -26,7 +26,7 @@ PARTS = [
     ("committing them", [r"carte_engine::engine::Engine::commit_one"]),
     ("from the end of the build to the answer", [r"carte_engine::reckon::reckon"]),
     ("putting batches into what is kept, here or as a state is loaded", [r"carte_record::kept::Kept::absorb"]),
-    ("digests of tasks, wherever they are taken or looked at", [r"carte_book::book::Book::task_digest_in"]),
+    ("digests of tasks, wherever they are taken or looked at", [r"carte_book::book::Rule::digest"]),
     ("SHA-256, wherever it is called", [r"sha2::block256::compress"]),
     ("the allocator, wherever it is called", [r"rattle_alloc", r"rattle_realloc", r"rattle_dealloc"]),
 ]

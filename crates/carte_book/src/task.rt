@@ -18,20 +18,11 @@ impl Book {
     pub fn task_digest(&self, alloc: Global, name: &Name) -> Result<Option<Digest>, NoMemory>
         ensures { IfOk result (λ d. d ≡ task_now (book_view self.now) name.now) }
     {
-        self.task_digest_in(alloc, &mut Vec::new(alloc), name)
-    }
-
-    /// The same, spelled in room that is kept from one task to the next.
-    pub fn task_digest_in(
-        &self,
-        alloc: Global,
-        room: &mut Vec<u8>,
-        name: &Name,
-    ) -> Result<Option<Digest>, NoMemory>
-        ensures { IfOk result (λ d. d ≡ task_now (book_view self.now) name.now) }
-    {
         match self.items.get(name) {
-            Some(Item::Rule(rule)) => Ok(Some(rule.digest(alloc, room, self.kind)?)),
+            Some(Item::Rule(rule)) => {
+                let mut room = Vec::new(alloc);
+                Ok(Some(rule.digest(alloc, &mut room, self.kind)?))
+            }
             Some(Item::Input(_)) => Ok(None),
             None => Ok(None),
         }

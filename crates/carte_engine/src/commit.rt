@@ -64,7 +64,7 @@ impl Engine {
     /// The same as the last thing that is done with the engine: nothing is told of what it has behind this, so that no
     /// further commit can be made. Where no rewriting is due and there is room for all of the batches, they are only
     /// written, and what they make of what is kept isn't put together in memory, where nothing asks for it any more. That
-    /// spares a build from nothing a sixth of its memory.
+    /// spares a build from nothing a seventh of its memory.
     pub fn commit_last<D: Disk>(
         &mut self,
         alloc: Global,

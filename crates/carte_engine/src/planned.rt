@@ -56,7 +56,7 @@ pub(crate) fn plan_over<R: Rebuilder, G: Gate, T: Threads + Sync>(
     let end = run(
         rt, alloc, rebuilder, base, book, scheduler, workers, targets, gate,
     )?;
-    planned(alloc, rebuilder, begun, base, book, targets, end)
+    planned(rt, alloc, rebuilder, begun, base, book, targets, end)
 }
 
 // The build that the scheduler makes. Where one that suspends has several workers, it goes in waves.
@@ -84,7 +84,8 @@ fn run<R: Rebuilder, G: Gate, T: Threads + Sync>(
 }
 
 // The plan of a build that came to such an end.
-fn planned<R: Rebuilder>(
+fn planned<R: Rebuilder, T: Threads>(
+    rt: &T,
     alloc: Global,
     rebuilder: &R,
     begun: &Begun,
@@ -101,7 +102,7 @@ fn planned<R: Rebuilder>(
 {
     match end {
         WorkEnd::All(work) => {
-            let batches = batches_of(alloc, rebuilder, begun, base, book, &work)?;
+            let batches = batches_of(rt, alloc, rebuilder, begun, base, book, &work)?;
             let built = reckon(alloc, book, targets, work)?;
             Ok(Plan {
                 batches,
@@ -109,7 +110,7 @@ fn planned<R: Rebuilder>(
             })
         }
         WorkEnd::Refused(work, reason) => {
-            let batches = batches_of(alloc, rebuilder, begun, base, book, &work)?;
+            let batches = batches_of(rt, alloc, rebuilder, begun, base, book, &work)?;
             Ok(Plan {
                 batches,
                 answer: Answer::Refused(reason, work.runs),
@@ -119,7 +120,8 @@ fn planned<R: Rebuilder>(
 }
 
 // The batches of the work, with its new chain where it has one.
-fn batches_of<R: Rebuilder>(
+fn batches_of<R: Rebuilder, T: Threads>(
+    rt: &T,
     alloc: Global,
     rebuilder: &R,
     begun: &Begun,
@@ -133,8 +135,8 @@ fn batches_of<R: Rebuilder>(
 {
     let finished = &work.finished;
     match &work.chain {
-        Some(chain) => plan_parts_chained(alloc, rebuilder, begun, base, book, finished, chain),
-        None => plan_parts(alloc, rebuilder, begun, base, book, finished),
+        Some(chain) => plan_parts_chained(rt, alloc, rebuilder, begun, base, book, finished, chain),
+        None => plan_parts(rt, alloc, rebuilder, begun, base, book, finished),
     }
 }
 

@@ -41,6 +41,6 @@ mod watch;
 pub use base::{Begun, begin};
 pub use marking::{listed, mark};
 pub use set::holds;
-pub use tasks::know_tasks;
+pub use tasks::{know_tasks, tasks_of};
 pub use walk::put_each;
 pub use watch::Watch;

@@ -13,13 +13,12 @@ use carte_value::{Digest, Name, NoMemory, Numbering};
 use std::alloc::Global;
 use std::thread::{Threads, join};
 
-/// From so many entries on a thread of its own works out half of the digests. It has to be made, and to fetch the formulas anew:
-/// with half as many entries it takes a little longer than one thread.
+/// From so many tasks on a thread of its own works out half of their digests. It has to be made, and to fetch the formulas anew:
+/// with half as many tasks it takes a little longer than one thread.
 const WORTH: usize = 2048;
 
 /// Has the book know the digests of the tasks of the keys that have entries: the marking looks at each of them, and a build at
-/// each key that it reaches. It is no work where the book knows as many. Where there are many, `rt` gives a thread for half of
-/// them.
+/// each key that it reaches. It is no work where the book knows as many.
 pub fn know_tasks<T: Threads>(
     rt: &T,
     alloc: Global,
@@ -32,11 +31,8 @@ pub fn know_tasks<T: Threads>(
         return Ok(());
     }
     let places = places_of(alloc, entries.as_slice(), book)?;
-    let (front, back) = places.split_at(places.len() / 2);
-    let (fronts, backs) = tasks_of_both(rt, alloc, front, back, book);
-    let (fronts, backs) = (fronts?, backs?);
-    learn_each(front, fronts.as_slice(), book);
-    learn_each(back, backs.as_slice(), book);
+    let tasks = tasks_of(rt, alloc, places.as_slice(), book)?;
+    learn_each(places.as_slice(), tasks.as_slice(), book);
     Ok(())
 }
 
@@ -64,31 +60,44 @@ fn want(book: &Book, key: &Name, wanted: &mut [bool]) {
     }
 }
 
-fn tasks_of_both<T: Threads>(
+/// The digests of the tasks of what stands at these places of a book. Where there are many, `rt` gives a thread for half of
+/// them.
+pub fn tasks_of<T: Threads>(
     rt: &T,
     alloc: Global,
-    front: &[usize],
-    back: &[usize],
+    places: &[usize],
     book: &Book,
-) -> (
-    Result<Vec<Option<Digest>>, NoMemory>,
-    Result<Vec<Option<Digest>>, NoMemory>,
-)
-    ensures front { IfOk result.0 (λ tasks. tasks.items ≡ tasks_at book.now front.now) }
-    ensures back { IfOk result.1 (λ tasks. tasks.items ≡ tasks_at book.now back.now) }
+) -> Result<Vec<Option<Digest>>, NoMemory>
+    ensures { IfOk result (λ tasks. tasks.items ≡ tasks_at book.now places.now) }
 {
-    if back.len() < WORTH / 2 {
-        return (tasks_of(alloc, front, book), tasks_of(alloc, back, book));
+    if places.len() < WORTH {
+        return tasks_in_turn(alloc, places, book);
     }
-    join(
+    let (front, back) = places.split_at(places.len() / 2);
+    let (fronts, backs) = join(
         rt,
-        || tasks_of(alloc, front, book),
-        || tasks_of(alloc, back, book),
-    )
+        || tasks_in_turn(alloc, front, book),
+        || tasks_in_turn(alloc, back, book),
+    );
+    behind(fronts?, backs?)
 }
 
-// The digests of the tasks at places.
-fn tasks_of(alloc: Global, places: &[usize], book: &Book) -> Result<Vec<Option<Digest>>, NoMemory>
+fn behind(
+    fronts: Vec<Option<Digest>>,
+    mut backs: Vec<Option<Digest>>,
+) -> Result<Vec<Option<Digest>>, NoMemory>
+    ensures { IfOk result (λ tasks. tasks.items ≡ fronts.items ++ backs.items) }
+{
+    let mut tasks = fronts;
+    tasks.append(&mut backs)?;
+    Ok(tasks)
+}
+
+fn tasks_in_turn(
+    alloc: Global,
+    places: &[usize],
+    book: &Book,
+) -> Result<Vec<Option<Digest>>, NoMemory>
     ensures { IfOk result (λ tasks. tasks.items ≡ tasks_at book.now places.now) }
 {
     let mut room = Vec::new(alloc);

@@ -1,4 +1,4 @@
-ghost use Rattle.std.specs.Prelude.{◌≡◌, IfOk};
+ghost use Rattle.std.specs.Prelude.{◌≡◌, IfOk, IfSome};
 ghost use Rattle.carte_book.specs.Book.{book_view};
 ghost use Rattle.carte_book.specs.Task.{task_now};
 ghost use Rattle.carte_sound.specs.True.{or_none};
@@ -17,18 +17,21 @@ pub(crate) struct Digests {
 }
 
 impl Digests {
-    /// That of the value is taken already; that of the task is the book's, and spelled in `room` where the book doesn't know
-    /// it.
+    /// That of the value is taken already; that of the task is the one that is handed in, or else the book's.
     pub(crate) fn of(
         alloc: Global,
-        room: &mut Vec<u8>,
+        task: Option<Digest>,
         book: &Book,
         finished: &Finished,
     ) -> Result<Digests, NoMemory>
+        requires { IfSome task (λ d. d ≡ task_made (book_view book.now) finished.now) }
         ensures made { IfOk result (λ d. d.result ≡ digest_made finished.now) }
         ensures task { IfOk result (λ d. d.task ≡ task_made (book_view book.now) finished.now) }
     {
-        let task = task(alloc, room, book, finished.made.key())?;
+        let task = match task {
+            Some(digest) => digest,
+            None => task_of(alloc, book, finished.made.key())?,
+        };
         Ok(Digests {
             result: finished.made.hashed().digest(),
             task,
@@ -37,10 +40,10 @@ impl Digests {
 }
 
 // No build finishes a key that is no rule of its book: such a one has no task, and is refused as if there were no memory.
-fn task(alloc: Global, room: &mut Vec<u8>, book: &Book, key: &Name) -> Result<Digest, NoMemory>
+fn task_of(alloc: Global, book: &Book, key: &Name) -> Result<Digest, NoMemory>
     ensures { IfOk result (λ d. d ≡ or_none (task_now (book_view book.now) key.now)) }
 {
-    match book.task_digest_in(alloc, room, key)? {
+    match book.task_digest(alloc, key)? {
         Some(digest) => Ok(digest),
         None => Err(NoMemory),
     }

@@ -1,4 +1,4 @@
-ghost use Rattle.std.specs.Prelude.{◌≡◌, false, OnOk, IfOk};
+ghost use Rattle.std.specs.Prelude.{◌≡◌, false, OnOk, IfOk, IfSome};
 ghost use Rattle.carte_value.specs.Lists.{Begins};
 ghost use Rattle.carte_value.specs.Spelling.{digest_of};
 ghost use Rattle.carte_book.specs.Book.{book_view};
@@ -21,17 +21,18 @@ use std::alloc::Global;
 
 /// Adds to the batch of a build what one more finished key brings: the value that the store lacks and the trace,
 /// where its task ran, and the entry with the inputs that it names, where those differ from what is kept. `kept` is
-/// what the build began with, and tasks are spelled in `room`, which is kept from one key to the next. Where there is
+/// what the build began with, and `task` the digest of the key's task, where it was worked out already. Where there is
 /// no memory the batch may hold a part of it; a key that is no rule of the book has no task, and is refused so too.
 pub fn note_finished(
     alloc: Global,
-    room: &mut Vec<u8>,
+    task: Option<Digest>,
     method: Method,
     kept: &Kept,
     book: &Book,
     finished: &Finished,
     batch: &mut Batch,
 ) -> Result<(), NoMemory>
+    requires { IfSome task (λ d. d ≡ task_made (book_view book.now) finished.now) }
     ensures notes { OnOk result (Notes (how_of method) (kept_view kept.now) (book_view book.now) finished.now batch.old batch.new) }
     ensures unmarked { OnOk result (AreUnmarked batch.old.entries → AreUnmarked batch.new.entries) }
     ensures front { GrowsBatch batch.old batch.new }
@@ -41,25 +42,26 @@ pub fn note_finished(
     ensures chain { batch.new.chain ≡ batch.old.chain }
     ensures items { OnOk result (batch.new ≡ with_finished (how_of method) (book_view book.now) kept.now finished.now batch.old) }
 {
-    note_items(alloc, room, method, kept, book, finished, batch)
+    note_items(alloc, task, method, kept, book, finished, batch)
 }
 
 fn note_items(
     alloc: Global,
-    room: &mut Vec<u8>,
+    task: Option<Digest>,
     method: Method,
     kept: &Kept,
     book: &Book,
     finished: &Finished,
     batch: &mut Batch,
 ) -> Result<(), NoMemory>
+    requires { IfSome task (λ d. d ≡ task_made (book_view book.now) finished.now) }
     ensures grown { Grown batch.old batch.new }
     ensures noted { OnOk result (batch.new ≡ with_finished (how_of method) (book_view book.now) kept.now finished.now batch.old) }
 {
     if brings_nothing(method, finished) {
         return Ok(());
     }
-    let digests = Digests::of(alloc, room, book, finished)?;
+    let digests = Digests::of(alloc, task, book, finished)?;
     note_run(alloc, method, kept, book, finished, digests, batch)?;
     note_entry(alloc, method, kept, book, finished, digests, batch)
 }

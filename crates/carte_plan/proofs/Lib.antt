@@ -1,3 +1,4 @@
+mod TasksAhead
 pub mod Growing
 pub mod Lists
 pub mod Leading

@@ -2,8 +2,10 @@ ghost use Rattle.std.specs.Prelude.{◌≡◌, ◌≤◌, ◌++◌, ◌∷◌, [
 ghost use Rattle.carte_value.specs.Spelling.{digest_of};
 ghost use Rattle.carte_book.specs.Book.{book_view};
 ghost use Rattle.carte_note.specs.Methods.{how_of};
+ghost use Rattle.carte_plan.specs.Ahead.{AreAhead};
 ghost use Rattle.carte_plan.specs.Cuts.{AreCuts, cut_off, rest_of, with_all};
 
+use crate::ahead::{behind_part, task_ahead, tasks_ahead};
 use carte_book::Book;
 use carte_effect::Made;
 use carte_note::{Finished, Method, note_finished};
@@ -11,6 +13,7 @@ use carte_record::{Batch, Kept, Seen, Store, Way};
 use carte_value::{Digest, NoMemory, Same, Seeded, Value};
 use std::alloc::Global;
 use std::mem;
+use std::thread::Threads;
 
 /// So many finished keys are committed by one batch.
 pub const FULL_PART: usize = 256;
@@ -35,7 +38,8 @@ impl Cut {
 }
 
 /// Notes the finished keys part by part, each into a batch of its own. The first one begins as the batch that is handed in.
-pub(crate) fn in_parts(
+pub(crate) fn in_parts<T: Threads>(
+    rt: &T,
     alloc: Global,
     method: Method,
     kept: &Kept,
@@ -45,16 +49,19 @@ pub(crate) fn in_parts(
 ) -> Result<Cut, NoMemory>
     ensures { IfOk result (λ cut. AreCuts (how_of method) (book_view book.now) kept.now finished.now opened (cut.full.items ++ cut.last ∷ [])) }
 {
+    let ahead = tasks_ahead(rt, alloc, book, finished)?;
+    let mut tasks = ahead.as_slice();
     let mut full = Vec::new(alloc);
     let mut batch = opened;
     let mut rest = finished;
     while rest.len() > FULL_PART {
         let (part, more) = rest.split_at(FULL_PART);
-        let next = next_part(alloc, method, kept, book, part, &mut batch)?;
+        let next = next_part(alloc, method, kept, book, part, tasks, &mut batch)?;
         full.push(next)?;
         rest = more;
+        tasks = behind_part(tasks);
     }
-    let last = last_part(alloc, method, kept, book, rest, batch)?;
+    let last = last_part(alloc, method, kept, book, rest, tasks, batch)?;
     Ok(Cut { full, last })
 }
 
@@ -64,14 +71,16 @@ fn next_part(
     kept: &Kept,
     book: &Book,
     part: &[Finished],
+    tasks: &[Option<Digest>],
     batch: &mut Batch,
 ) -> Result<Batch, NoMemory>
+    requires { AreAhead (book_view book.now) part.now tasks.now }
     ensures part { IfOk result (λ cut. cut ≡ cut_off batch.old (with_all (how_of method) (book_view book.now) kept.now part.now batch.old)) }
     ensures rest { OnOk result (batch.new ≡ rest_of (with_all (how_of method) (book_view book.now) kept.now part.now batch.old)) }
 {
     let values = batch.values.len();
     let seen = batch.seen.len();
-    note_part(alloc, method, kept, book, part, batch)?;
+    note_part(alloc, method, kept, book, part, tasks, batch)?;
     take_part(alloc, book.hasher(), batch, values, seen)
 }
 
@@ -81,14 +90,16 @@ fn last_part(
     kept: &Kept,
     book: &Book,
     part: &[Finished],
+    tasks: &[Option<Digest>],
     opened: Batch,
 ) -> Result<Batch, NoMemory>
+    requires { AreAhead (book_view book.now) part.now tasks.now }
     ensures { IfOk result (λ cut. cut ≡ cut_off opened (with_all (how_of method) (book_view book.now) kept.now part.now opened)) }
 {
     let values = opened.values.len();
     let seen = opened.seen.len();
     let mut batch = opened;
-    note_part(alloc, method, kept, book, part, &mut batch)?;
+    note_part(alloc, method, kept, book, part, tasks, &mut batch)?;
     take_last(alloc, book.hasher(), batch, values, seen)
 }
 
@@ -115,20 +126,22 @@ fn note_part(
     kept: &Kept,
     book: &Book,
     part: &[Finished],
+    tasks: &[Option<Digest>],
     batch: &mut Batch,
 ) -> Result<(), NoMemory>
+    requires { AreAhead (book_view book.now) part.now tasks.now }
     ensures { OnOk result (batch.new ≡ with_all (how_of method) (book_view book.now) kept.now part.now batch.old) }
 {
     batch.widen(count_ran(part), way_of(method));
-    let mut room = Vec::new(alloc);
-    for one in part {
-        note_finished(alloc, &mut room, method, kept, book, one, batch)?;
+    for at in 0..part.len() {
+        let task = task_ahead(tasks, at);
+        note_finished(alloc, task, method, kept, book, &part[at], batch)?;
     }
     Ok(())
 }
 
-// What didn't run mostly brings nothing, so no room is made for it.
-fn count_ran(part: &[Finished]) -> usize {
+/// What didn't run mostly brings nothing, so nothing is made ready for it.
+pub(crate) fn count_ran(part: &[Finished]) -> usize {
     let mut count = 0usize;
     for one in part {
         if let Made::Ran(_) = &one.made {

@@ -14,10 +14,14 @@
 //! it, since a later key may bring the same. Turned down: a batch of all keys that is cut at the end, which copies what it
 //! has; and looking later keys up in all earlier parts, which takes longer with each.
 //!
+//! Where many keys ran, the digests of their tasks are worked out before any is noted: place by place of the book, as formulas
+//! stand in memory, and by two threads (`ahead`). A build finishes rules in another order.
+//!
 //! Turned down: noting each key as it is finished, by the scheduler, which would then know batches; and one clause over
 //! any property of what is done, which is of a higher universe than a contract may have.
 #![tactic(auto)]
 
+mod ahead;
 mod cutting;
 mod planning;
 

@@ -21,11 +21,13 @@ use carte_rebuild::Rebuilder;
 use carte_record::{Batch, Kept};
 use carte_value::{Name, Names, NoMemory, Numbering, Seeded};
 use std::alloc::Global;
+use std::thread::Threads;
 
 /// The batches of a build, part by part, at least one: the first has the dropped names and the marks. `base` is what the
 /// build began with. Nothing is copied but values and links that later parts look up, of
 /// which a copy is short or shared.
-pub fn plan_parts<R: Rebuilder>(
+pub fn plan_parts<R: Rebuilder, T: Threads>(
+    rt: &T,
     alloc: Global,
     rebuilder: &R,
     begun: &Begun,
@@ -40,12 +42,13 @@ pub fn plan_parts<R: Rebuilder>(
     // The same for whatever else may be done, as lemmas go on from it.
     ensures plans { let b = book_view book.now in let h = R.how rebuilder.now in (K : SomeKept) → BeginsWith K b begun.now (kept_view base.now) → IfOk result (λ batches. PlansParts h K b (beginning_of begun.now) finished.now batches.items) }
 {
-    let cut = cut_plan(alloc, rebuilder, begun, base, book, finished)?;
+    let cut = cut_plan(rt, alloc, rebuilder, begun, base, book, finished)?;
     cut.all()
 }
 
 /// The same for a build that leaves a chain, which the last batch has where it isn't that of `base`.
-pub fn plan_parts_chained<R: Rebuilder>(
+pub fn plan_parts_chained<R: Rebuilder, T: Threads>(
+    rt: &T,
     alloc: Global,
     rebuilder: &R,
     begun: &Begun,
@@ -60,12 +63,13 @@ pub fn plan_parts_chained<R: Rebuilder>(
     // The same for whatever else may be done, as lemmas go on from it.
     ensures plans { let b = book_view book.now in let h = R.how rebuilder.now in (K : SomeKept) → BeginsWith K b begun.now (kept_view base.now) → IfOk result (λ batches. PlansPartsChained h K b (beginning_of begun.now) finished.now chain.now batches.items) }
 {
-    let mut cut = cut_plan(alloc, rebuilder, begun, base, book, finished)?;
+    let mut cut = cut_plan(rt, alloc, rebuilder, begun, base, book, finished)?;
     put_chain(alloc, &base.chain, chain, &mut cut.last)?;
     cut.all()
 }
 
-fn cut_plan<R: Rebuilder>(
+fn cut_plan<R: Rebuilder, T: Threads>(
+    rt: &T,
     alloc: Global,
     rebuilder: &R,
     begun: &Begun,
@@ -78,7 +82,7 @@ fn cut_plan<R: Rebuilder>(
 {
     let batch = opened(alloc, begun, book, finished, FULL_PART)?;
     let keys = finished.as_slice();
-    in_parts(alloc, rebuilder.method(), base, book, keys, batch)
+    in_parts(rt, alloc, rebuilder.method(), base, book, keys, batch)
 }
 
 // A chain is written whole, so it is written only where it differs.

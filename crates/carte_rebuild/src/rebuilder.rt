@@ -63,8 +63,7 @@ pub trait Rebuilder {
         ensures stale { batch.new.stale ≡ batch.old.stale }
         ensures chain { batch.new.chain ≡ batch.old.chain }
     {
-        let mut room = Vec::new(alloc);
-        note_finished(alloc, &mut room, self.method(), kept, book, finished, batch)
+        note_finished(alloc, None, self.method(), kept, book, finished, batch)
     }
 
     /// Whether the needs of a held key are looked into.

@@ -5,7 +5,7 @@ use Rattle.carte_value.specs.declared.digest.Digest.{Digest}
 use Rattle.carte_book.specs.declared.book.Item.TheVariants.{Input as InputItem, Rule as RuleItem}
 use Rattle.carte_book.proofs.Fitting.{found_fits}
 use Rattle.carte_book.proofs.Tasks.{task_found}
-use Rattle.carte_book.proofs.book.Book.task_digest_in.Goals as goal
+use Rattle.carte_book.proofs.book.Book.task_digest.Goals as goal
 
 pub digest-requires : goal.digest-requires
 digest-requires c =
