@@ -9,7 +9,7 @@ ghost use Rattle.carte_effect.specs.Ledger.{with_start};
 
 use carte_book::Book;
 use carte_effect::Runs;
-use carte_task::{Machine, Task};
+use carte_task::Machine;
 use carte_tree::Expr;
 use carte_value::{Kind, Name, NoMemory, Seeded};
 use std::alloc::Global;
@@ -50,7 +50,13 @@ impl Recipe {
         ensures machine { IfOk result (λ m. state_of m ≡ started self.now.key (asks_in self.now)) }
         ensures runs { runs.new ≡ (if is_ok result then with_start runs.old self.now.key else runs.old) }
     {
-        let task = Task::of(alloc, self.kind, &self.key, &self.formula, self.hasher)?;
-        Machine::start(alloc, task, runs)
+        Machine::of(
+            alloc,
+            self.kind,
+            &self.key,
+            &self.formula,
+            self.hasher,
+            runs,
+        )
     }
 }

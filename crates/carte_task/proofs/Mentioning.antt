@@ -7,6 +7,7 @@ use Rattle.carte_tree.specs.declared.expr.Func.TheVariants as f
 use Rattle.carte_tree.specs.Formula.{is_static_tree, refs_of, mentions, steps_mentions, args_mentions, arg_mentions}
 use Rattle.carte_task.specs.declared.code.Instr.{Instr}
 use Rattle.carte_task.specs.declared.code.Instr.TheVariants as i
+use Rattle.carte_task.specs.declared.task.Routine.{Routine}
 use Rattle.carte_task.specs.declared.task.Task.{Task}
 use Rattle.carte_value.specs.Asks.{firsts, asked}
 use Rattle.carte_value.specs.Once.{once}
@@ -16,7 +17,7 @@ use Rattle.carte_tree.specs.Laws.{StaticRuns}
 use Rattle.carte_task.specs.Code.{exec}
 use Rattle.carte_task.specs.Coding.{count, choice, code_of, code_of_steps, code_of_args, code_of_arg}
 use Rattle.carte_task.specs.Mentions.{mentioned_by, mentions_in, AsksOnly}
-use Rattle.carte_task.specs.Tasks.{IsTaskOf}
+use Rattle.carte_task.specs.Tasks.{IsRoutineOf, IsTaskOf, routine_asks}
 use Rattle.carte_task.proofs.Coding.{coded}
 
 pub mentions_on : (xs ys : List Instr) → mentions_in (xs ++ ys) ≡ mentions_in xs ++ mentions_in ys
@@ -56,12 +57,16 @@ mutual
   arg_coded (one e) = mentions_coded e
   arg_coded (cells a) = append-nil (cells_of a)
 
+-- the formula's code asks for what the formula asks for
+pub routine_computes : (kind : Kind) (k : List ℕ) (e : Tree) (r : Routine) → IsRoutineOf kind k e r → routine_asks r ≡ asks kind e
+routine_computes kind k e r of = ap (λ q. exec q 0 r.code.items []) of.kind_is ∙ (ap (λ cs. exec kind 0 cs []) of.code ∙ coded kind e)
+
 -- a task of a formula, with the formula's instructions
-pub task_made : (kind : Kind) (k : List ℕ) (e : Tree) (t : Task) → t.key ≡ k → t.kind ≡ kind → t.code.items ≡ code_of e → t.fixed ≡ is_static_tree e → IsTaskOf kind k e t
-task_made kind k e t key of_kind code fixed = record {
-  key = key;
-  computes = ap (λ q. exec q 0 t.code.items []) of_kind ∙ ap (λ cs. exec kind 0 cs []) code ∙ coded kind e;
-  mentioned = ap mentions_in code ∙ mentions_coded e;
+pub task_made : (kind : Kind) (k : List ℕ) (e : Tree) (t : Task) → IsRoutineOf kind k e t.routine → t.fixed ≡ is_static_tree e → IsTaskOf kind k e t
+task_made kind k e t of fixed = record {
+  key = of.key;
+  computes = routine_computes kind k e t.routine of;
+  mentioned = ap mentions_in of.code ∙ mentions_coded e;
   fixed = fixed;
 }
 

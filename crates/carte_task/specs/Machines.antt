@@ -10,7 +10,7 @@ use Rattle.carte_task.specs.Answered.{Along, Halted}
 use Rattle.carte_task.specs.Code.{top}
 use Rattle.carte_effect.specs.Outcomes.{Outcome, links_of}
 use Rattle.carte_task.specs.State.{answers_in, rest_in}
-use Rattle.carte_task.specs.Tasks.{key_of, asks_of}
+use Rattle.carte_task.specs.Tasks.{routine_asks}
 
 -- what a machine is to its callers
 pub record State : Type 0 where
@@ -24,7 +24,7 @@ pub record State : Type 0 where
   pub ended : Bool
 
 abbrev pub state_of : Machine → State
-state_of m = record { key = key_of m.task; whole = asks_of m.task; answers = answers_in m.progress; rest = rest_in m.task.kind m.task.code.items m.progress; ended = m.ended }
+state_of m = record { key = m.task.key; whole = routine_asks m.task; answers = answers_in m.progress; rest = rest_in m.task.kind m.task.code.items m.progress; ended = m.ended }
 
 -- nothing is asked yet
 abbrev pub started : List ℕ → Asks Value → State

@@ -43,9 +43,9 @@ IsStaticOf kind k e None = is_static_tree e ≡ false
 
 -- the same key, kind and code
 pub record HasParts (t : Task) (s : StaticTask) : Type 0 where
-  pub key : s.key ≡ t.key
-  pub kind : s.kind ≡ t.kind
-  pub code : s.code.items ≡ t.code.items
+  pub key : s.key ≡ t.routine.key
+  pub kind : s.kind ≡ t.routine.kind
+  pub code : s.code.items ≡ t.routine.code.items
 
 -- the value over the truth, with the links of all references
 pub record IsStaticEnd (t : Truth) (s : StaticTask) (o : Outcome) : Type 0 where

@@ -1,16 +1,21 @@
 ghost use Rattle.std.specs.Prelude.{◌≡◌, is_ok, if◌then◌else◌, IfOk};
+ghost use Rattle.carte_tree.specs.Code.{tree_of};
+ghost use Rattle.carte_tree.specs.Formula.{IsExpr};
+ghost use Rattle.carte_tree.specs.Meaning.{asks};
 ghost use Rattle.carte_effect.specs.Effects.{SameStops};
 ghost use Rattle.carte_effect.specs.Ledger.{with_start, with_end};
 
 use crate::progress::Progress;
+use crate::task::Routine;
 use crate::{Effect, Ended, Halt, Hashed, Runs, Task};
-use carte_value::{Name, NoMemory};
+use carte_tree::Expr;
+use carte_value::{Kind, Name, NoMemory, Seeded};
 use std::alloc::Global;
 
 /// A task that runs, halts at a name without a value, and goes on from there. It asks each name at most once, and remembers the answers.
 #[derive(Drop)]
 pub struct Machine {
-    task: Task,
+    task: Routine,
     progress: Progress,
     ended: bool,
 }
@@ -18,13 +23,39 @@ pub struct Machine {
 impl Machine {
     ghost use Rattle.carte_task.specs.Machines.{state_of, started, Drove, OnlyEnds, EndsWith};
     ghost use Rattle.carte_task.specs.Laws.{IsUnderWay, Steps};
-    ghost use Rattle.carte_task.specs.Tasks.{key_of, asks_of};
+    ghost use Rattle.carte_task.specs.Tasks.{key_of, asks_of, routine_asks};
 
     /// A machine at the start of a task, which is counted.
     pub fn start(alloc: Global, task: Task, runs: &mut Runs) -> Result<Machine, NoMemory>
         ensures machine { IfOk result (λ m. state_of m ≡ started (key_of task) (asks_of task)) }
         ensures under_way { IfOk result (λ m. IsUnderWay (state_of m)) }
         ensures runs { runs.new ≡ (if is_ok result then with_start runs.old (key_of task) else runs.old) }
+    {
+        Machine::begin(alloc, task.routine, runs)
+    }
+
+    /// The same for the task of a key's formula in a book of that kind, of which nobody asks whether it is static.
+    pub fn of(
+        alloc: Global,
+        kind: Kind,
+        key: &Name,
+        expr: &Expr,
+        hasher: Seeded,
+        runs: &mut Runs,
+    ) -> Result<Machine, NoMemory>
+        requires { IsExpr (tree_of expr.now) }
+        ensures machine { IfOk result (λ m. state_of m ≡ started key.now (asks kind (tree_of expr.now))) }
+        ensures under_way { IfOk result (λ m. IsUnderWay (state_of m)) }
+        ensures runs { runs.new ≡ (if is_ok result then with_start runs.old key.now else runs.old) }
+    {
+        let routine = Routine::of(alloc, kind, key, expr, hasher)?;
+        Machine::begin(alloc, routine, runs)
+    }
+
+    fn begin(alloc: Global, task: Routine, runs: &mut Runs) -> Result<Machine, NoMemory>
+        ensures machine { IfOk result (λ m. state_of m ≡ started task.key (routine_asks task)) }
+        ensures under_way { IfOk result (λ m. IsUnderWay (state_of m)) }
+        ensures runs { runs.new ≡ (if is_ok result then with_start runs.old task.key else runs.old) }
     {
         runs.start(alloc, &task.key)?;
         let progress = Progress::new(alloc, task.hasher);

@@ -17,16 +17,47 @@ use std::alloc::Global;
 /// How many instructions there is room for at first: most formulas have no more.
 const FIRST_ROOM: usize = 8;
 
-/// A formula with the key whose value it is, ready to be run.
+/// The code of a formula with the key whose value it is. Its runs keep their answers by the hasher.
 #[derive(Drop)]
-pub struct Task {
+pub(crate) struct Routine {
     pub(crate) key: Name,
     pub(crate) kind: Kind,
     pub(crate) code: Vec<Instr>,
+    pub(crate) hasher: Seeded,
+}
+
+impl Routine {
+    ghost use Rattle.carte_task.specs.Tasks.{IsRoutineOf};
+
+    pub(crate) fn of(
+        alloc: Global,
+        kind: Kind,
+        key: &Name,
+        expr: &Expr,
+        hasher: Seeded,
+    ) -> Result<Routine, NoMemory>
+        requires { IsExpr (tree_of expr.now) }
+        ensures { IfOk result (IsRoutineOf kind key.now (tree_of expr.now)) }
+    {
+        let key = key.copy(alloc)?;
+        let mut code = Vec::with_capacity(alloc, FIRST_ROOM)?;
+        compile::write(alloc, expr, &mut code)?;
+        Ok(Routine {
+            key,
+            kind,
+            code,
+            hasher,
+        })
+    }
+}
+
+/// A formula with the key whose value it is, ready to be run.
+#[derive(Drop)]
+pub struct Task {
+    pub(crate) routine: Routine,
     // Whether the formula is static. The code has lost it: a jump doesn't tell what it passes over.
     pub(crate) fixed: bool,
-    pub(crate) hasher: Seeded,
-    ghost only: { fixed ≡ true → AsksOnly (firsts (mentions_in code.items)) (exec kind 0 code.items []) },
+    ghost only: { fixed ≡ true → AsksOnly (firsts (mentions_in routine.code.items)) (exec routine.kind 0 routine.code.items []) },
 }
 
 impl Task {
@@ -45,15 +76,10 @@ impl Task {
         ensures { IfOk result (IsTaskOf kind key.now (tree_of expr.now)) }
     {
         static_runs();
-        let key = key.copy(alloc)?;
-        let mut code = Vec::with_capacity(alloc, FIRST_ROOM)?;
-        compile::write(alloc, expr, &mut code)?;
+        let routine = Routine::of(alloc, kind, key, expr, hasher)?;
         Ok(Task {
-            key,
-            kind,
-            code,
+            routine,
             fixed: is_static(expr),
-            hasher,
         })
     }
 
@@ -73,15 +99,16 @@ impl Task {
         requires { is_fixed self.now ≡ true }
         ensures { IfOk result (HasParts self.now) }
     {
-        let key = self.key.copy(alloc)?;
-        let code = copy_of(alloc, self.code.as_slice())?;
-        let refs = names_in(alloc, code.as_slice(), self.hasher)?;
+        let routine = &self.routine;
+        let key = routine.key.copy(alloc)?;
+        let code = copy_of(alloc, routine.code.as_slice())?;
+        let refs = names_in(alloc, code.as_slice(), routine.hasher)?;
         Ok(StaticTask {
             key,
-            kind: self.kind,
+            kind: routine.kind,
             code,
             refs,
-            hasher: self.hasher,
+            hasher: routine.hasher,
         })
     }
 }

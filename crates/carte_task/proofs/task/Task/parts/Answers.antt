@@ -5,5 +5,5 @@ use Rattle.carte_task.proofs.task.Task.parts.Goals as goal
 pub invariant_of-result : goal.invariant_of-result
 invariant_of-result c = record {
   mentioned = search rules;
-  only = kept_only c.args.self.now.kind c.args.self.now.code.items c.in_ok-code.code.items c.in_ok-refs.refs (search rules) (search rules) (c.args.self.now.only c.requires);
+  only = kept_only c.args.self.now.routine.kind c.args.self.now.routine.code.items c.in_ok-code.code.items c.in_ok-refs.refs (search rules) (search rules) (c.args.self.now.only c.requires);
 }
