@@ -50,7 +50,7 @@ impl<'b, J: Job + Drop> Bench<'b, J> {
         matches!(self.book.lookup(name), Looked::Rule(_))
     }
 
-    /// Puts a job on the bench, and tells its place there, a hint for its name: a turn whose name has it makes no look-up.
+    /// Puts a job on the bench, and tells its place there: a turn of a name that has it as its hint makes no look-up.
     /// The job's key is a rule that the bench doesn't know. Where there is no memory, or the key is no rule of the book, the
     /// job is dropped.
     pub fn demand(&mut self, job: J) -> Result<usize, NoMemory>

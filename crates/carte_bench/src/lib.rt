@@ -11,9 +11,9 @@
 //! rule of its book, since a job is put on it under a rule's name alone, and most looks of a build are at such names.
 //!
 //! The slots stand in one map in the order of their demands, so each has a dense number from the first day, while
-//! contracts speak of names alone. A demand tells that number, and a name at which a job stops has the next one as its
-//! hint: a turn compares the name there, and hashes only where it is another. A slot keeps the whole outcome, since
-//! putting back takes no memory and can't copy a value out of it. A bench has a table of numbers' digests, which a turn
+//! contracts speak of names alone. A demand tells that number, for whoever gives it to a key as its hint, and the stop of a
+//! job is kept with the next one: a turn compares the name there, and hashes only where it is another. A slot keeps the whole
+//! outcome, since putting back takes no memory and can't copy a value out of it. A bench has a table of numbers' digests, which a turn
 //! drives over: what is made goes about with its digest, and so does each input, and a number's digest is taken once.
 //! Turned down: a list of who waits for a name. That a key waits is read off its stop and whether that is done, at no
 //! cost in putting back; who needs to wake keys in order keeps a list of its own.

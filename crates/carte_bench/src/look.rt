@@ -67,7 +67,7 @@ fn seen<'a, J>(
 {
     match slot_of(slots, hint, name) {
         Some(Slot::Done(made)) => Seen::Made(made.hashed()),
-        Some(_) => Seen::NotDone,
+        Some(_) => Seen::NotDone(name.hint()),
         None => shown_by(book, name),
     }
 }
@@ -76,10 +76,10 @@ fn seen<'a, J>(
 fn shown_by<'a>(book: &'a Book, name: &Name) -> Seen<'a>
     ensures { Sees result (sight_at (content (book_view book.now) name.now) None) }
 {
-    match book.lookup(name) {
-        Looked::Input(value) => Seen::Value(value),
-        Looked::Rule(_) => Seen::NotDone,
-        Looked::None => Seen::Missing,
+    match book.lookup_at(name) {
+        (Looked::Input(value), _) => Seen::Value(value),
+        (Looked::Rule(_), at) => Seen::NotDone(at),
+        (Looked::None, _) => Seen::Missing,
     }
 }
 

@@ -32,8 +32,8 @@ impl<J: Job + Drop> Bench<'_, J> {
         }
     }
 
-    /// The same, where the answer tells at which name it stopped, and why. Where that is a rule which is demanded next, the
-    /// name has its place as its hint.
+    /// The same, where the answer tells at which name it stopped, and why. The name of a rule that wasn't demanded yet has its
+    /// place in the book as its hint.
     pub fn turn_to(
         &mut self,
         alloc: Global,
@@ -55,10 +55,10 @@ impl<J: Job + Drop> Bench<'_, J> {
                 Ok(Ok(copy))
             }
             Err(Halt::Stop(halted)) => {
-                let stuck = hinted(halted, self.slots.len());
-                let stop = stop_of(alloc, &stuck)?;
+                // Mostly it is the rule that is demanded next.
+                let stop = stop_of(alloc, &halted)?.hinted(self.slots.len());
                 self.swap(name, at, Slot::Stopped(job, stop));
-                Ok(Err(stuck))
+                Ok(Err(halted))
             }
             Err(Halt::NoMemory) => Err(NoMemory),
         }
@@ -99,16 +99,6 @@ pub fn hashed(driven: Result<Made, Halt<Stuck>>, digests: &mut Digests) -> Resul
             Ok(made)
         }
         Err(halt) => Err(halt),
-    }
-}
-
-// The same stop. Its name gets the place of the rule that is demanded next as its hint, since mostly it is that rule.
-fn hinted(stuck: Stuck, place: usize) -> Stuck
-    ensures { result ≡ stuck }
-{
-    match stuck {
-        Stuck::NotDone(name) => Stuck::NotDone(name.hinted(place)),
-        Stuck::Missing(name) => Stuck::Missing(name),
     }
 }
 

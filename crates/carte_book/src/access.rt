@@ -9,6 +9,7 @@ ghost use Rattle.carte_book.specs.Needs.{IsRule};
 use crate::book::Items;
 use crate::edits::MOST_KEYS;
 use crate::inputs::list;
+use crate::items::find;
 use crate::{Book, Item, Looked};
 use carte_tree::Expr;
 use carte_value::{Kind, Name, NoMemory, Numbering, Seeded, Value};
@@ -78,10 +79,19 @@ impl Book {
         ensures formula { IsFormula (book_view self.now).kind result }
         ensures others { HasNoOthers (book_view self.now) }
     {
-        match self.items.get(name) {
-            Some(Item::Input(value)) => Looked::Input(value),
-            Some(Item::Rule(rule)) => Looked::Rule(&rule.formula),
-            None => self.unheld(name),
+        self.lookup_at(name).0
+    }
+
+    /// The same, with the place where it stands: who gives the name that as its hint has it looked for there first.
+    pub fn lookup_at(&self, name: &Name) -> (Looked<'_>, usize)
+        ensures answer { Answers (content (book_view self.now) name.now) result.0 }
+        ensures formula { IsFormula (book_view self.now).kind result.0 }
+        ensures others { HasNoOthers (book_view self.now) }
+    {
+        match find(&self.items, name) {
+            Some((at, Item::Input(value))) => (Looked::Input(value), at),
+            Some((at, Item::Rule(rule))) => (Looked::Rule(&rule.formula), at),
+            None => (self.unheld(name), usize::MAX),
         }
     }
 
@@ -90,9 +100,9 @@ impl Book {
         requires { IsRule (book_view self.now) name.now }
         ensures { IfOk result (IsFormulaAt (book_view self.now) name.now) }
     {
-        match self.items.get(name) {
-            Some(Item::Rule(rule)) => Ok(rule.formula.clone()?),
-            Some(Item::Input(_)) => unreachable!(),
+        match find(&self.items, name) {
+            Some((_, Item::Rule(rule))) => Ok(rule.formula.clone()?),
+            Some((_, Item::Input(_))) => unreachable!(),
             None => unreachable!(),
         }
     }

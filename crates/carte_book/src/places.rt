@@ -9,6 +9,7 @@ ghost use Rattle.carte_book.specs.Places.{task_at};
 ghost use Rattle.carte_book.specs.Task.{task_held, task_now};
 
 use crate::book::Items;
+use crate::items::find;
 use crate::{Book, Item};
 use carte_value::{Digest, Name, NoMemory};
 use std::alloc::Global;
@@ -21,7 +22,10 @@ impl Book {
         ensures found { is_some result ≡ is_some (get (book_view self.now).items name.now) }
         ensures task { IfSome result (λ at. task_at self.now at ≡ task_now (book_view self.now) name.now) }
     {
-        self.items.get_index_of(name)
+        match find(&self.items, name) {
+            Some((at, _)) => Some(at),
+            None => None,
+        }
     }
 
     /// The digest of the task of the name at a place, spelled in room that is kept from one task to the next. None exactly

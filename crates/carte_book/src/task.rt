@@ -6,6 +6,7 @@ ghost use Rattle.carte_book.specs.Book.{book_view, item_view, formula_of};
 ghost use Rattle.carte_book.specs.Fits.{FitsRule, FitsItem};
 ghost use Rattle.carte_book.specs.Task.{task_code, task_digest_of, task_held, task_now};
 
+use crate::items::find;
 use crate::{Book, Item, Rule};
 use carte_tree::{Expr, print_expr};
 use carte_value::{Digest, Kind, Name, NoMemory};
@@ -18,12 +19,12 @@ impl Book {
     pub fn task_digest(&self, alloc: Global, name: &Name) -> Result<Option<Digest>, NoMemory>
         ensures { IfOk result (λ d. d ≡ task_now (book_view self.now) name.now) }
     {
-        match self.items.get(name) {
-            Some(Item::Rule(rule)) => {
+        match find(&self.items, name) {
+            Some((_, Item::Rule(rule))) => {
                 let mut room = Vec::new(alloc);
                 Ok(Some(rule.digest(alloc, &mut room, self.kind)?))
             }
-            Some(Item::Input(_)) => Ok(None),
+            Some((_, Item::Input(_))) => Ok(None),
             None => Ok(None),
         }
     }

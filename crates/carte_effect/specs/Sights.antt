@@ -20,7 +20,7 @@ value_seen missing = None
 abbrev pub Sees : Seen → Sight → Type 0
 Sees (seen.Value r) s = s ≡ sight_of r.now
 Sees (seen.Made r) s = s ≡ sight_of r.now
-Sees seen.NotDone s = s ≡ not_done
+Sees (seen.NotDone hint) s = s ≡ not_done
 Sees seen.Missing s = s ≡ missing
 
 -- the stop has the name, and the cause that was seen

@@ -10,8 +10,8 @@ pub enum Seen<'a> {
     Value(&'a Value),
     /// A value that a job made.
     Made(&'a Hashed),
-    /// It will have a value once its task has ended.
-    NotDone,
+    /// It will have a value once its task has ended. The number is written into the name of whoever stops there, as its hint.
+    NotDone(usize),
     /// It has no task and no value.
     Missing,
 }
@@ -79,7 +79,9 @@ impl<'a, L: Look> Effect for Snapshot<'a, L> {
                 })
             }
             Seen::Made(value) => Ok(value.copy(alloc)?),
-            Seen::NotDone => Err(Halt::Stop(Stuck::NotDone(name.copy(alloc)?))),
+            Seen::NotDone(hint) => {
+                Err(Halt::Stop(Stuck::NotDone(name.copy(alloc)?.hinted(hint))))
+            }
             Seen::Missing => Err(Halt::Stop(Stuck::Missing(name.copy(alloc)?))),
         }
     }

@@ -33,7 +33,7 @@ impl Look for Shown {
                 if self.missing {
                     Seen::Missing
                 } else {
-                    Seen::NotDone
+                    Seen::NotDone(usize::MAX)
                 }
             }
         }

@@ -88,8 +88,8 @@ fn open_if<R: Rebuilder>(
     let job = rebuilder.start(alloc, kept, book, &name)?;
     // Room first: what was demanded couldn't be taken back.
     path.reserve(1)?;
-    bench.demand_rule(job)?;
-    path.push_front_reserved(name);
+    let at = bench.demand_rule(job)?;
+    path.push_front_reserved(name.hinted(at));
     Ok(())
 }
 

@@ -1,4 +1,4 @@
-use Rattle.std.proofs.Common.{◌∙◌, Option, Some, None, IfSome, ap, sym, refl}
+use Rattle.std.proofs.Common.{◌≡◌, ◌∙◌, Some, None, ap, sym, is_some}
 use Rattle.std.specs.HashMap as hash
 use Rattle.carte_name.specs.Names.{name_eq}
 use Rattle.carte_book.specs.Task.{task_held}
@@ -6,15 +6,18 @@ use Rattle.carte_book.proofs.Books.{has_found}
 use Rattle.carte_book.proofs.Tasks.{task_found}
 use Rattle.carte_book.proofs.book.Book.place.Goals as goal
 
-on_some : {A : Type 0} {P Q : A → Type 0} (o : Option A) → ((a : A) → P a → Q a) → IfSome o P → IfSome o Q
-on_some None f p = tt
-on_some (Some a) f p = f a p
+pub returns-in-Some-clause-found : goal.returns-in-Some-clause-found
+returns-in-Some-clause-found c =
+    let found : hash.get name_eq c.args.self.now.items c.args.name.now ≡ Some c.in-Some.field-0-1.now = cc (c.in-Some.ensures.item) in
+    ap is_some (sym found) ∙ has_found c.args.self.now c.args.name.now
 
-pub returns-clause-found : goal.returns-clause-found
-returns-clause-found c = c.get_index_of.ensures.found ∙ has_found c.args.self.now c.args.name.now
+pub returns-in-None-clause-found : goal.returns-in-None-clause-found
+returns-in-None-clause-found c =
+    let found : hash.get name_eq c.args.self.now.items c.args.name.now ≡ None = cc (c.in-None.ensures.item) in
+    ap is_some (sym found) ∙ has_found c.args.self.now c.args.name.now
 
-pub returns-clause-task : goal.returns-clause-task
-returns-clause-task c =
-    on_some c.get_index_of.result
-    (λ at there. ap (task_held c.args.self.now.kind) there ∙ sym (task_found c.args.self.now c.args.name.now (hash.get name_eq c.args.self.now.items c.args.name.now) refl))
-    c.get_index_of.ensures.value
+pub returns-in-Some-clause-task : goal.returns-in-Some-clause-task
+returns-in-Some-clause-task c =
+    let item = c.in-Some.field-0-1.now in
+    let found : hash.get name_eq c.args.self.now.items c.args.name.now ≡ Some item = cc (c.in-Some.ensures.item) in
+    ap (task_held c.args.self.now.kind) c.in-Some.ensures.place ∙ sym (task_found c.args.self.now c.args.name.now (Some item) found)

@@ -9,20 +9,20 @@ use Rattle.carte_book.proofs.book.Book.task_digest.Goals as goal
 
 pub digest-requires : goal.digest-requires
 digest-requires c =
-    let found : hash.get name_eq c.args.self.now.items c.args.name.now ≡ Some (RuleItem c.in-Some-Rule.rule) = cc (c.in-Some-Rule.ensures.value) in
-    found_fits c.args.self.now c.args.name.now (RuleItem c.in-Some-Rule.rule) found
+    let found : hash.get name_eq c.args.self.now.items c.args.name.now ≡ Some (RuleItem c.in-Some-default-Rule.rule) = cc (c.in-Some-default-Rule.ensures.item) in
+    found_fits c.args.self.now c.args.name.now (RuleItem c.in-Some-default-Rule.rule) found
 
-pub returns-in_ok-digest-in-Some-Rule : goal.returns-in_ok-digest-in-Some-Rule
-returns-in_ok-digest-in-Some-Rule c =
-    let found : hash.get name_eq c.args.self.now.items c.args.name.now ≡ Some (RuleItem c.in-Some-Rule.rule) = cc (c.in-Some-Rule.ensures.value) in
-    ap (λ (d : Digest). Some d) (c.in_ok-digest-in-Some-Rule.ensures {u = tt}) ∙ sym (task_found c.args.self.now c.args.name.now (Some (RuleItem c.in-Some-Rule.rule)) found)
+pub returns-in_ok-digest-in-Some-default-Rule : goal.returns-in_ok-digest-in-Some-default-Rule
+returns-in_ok-digest-in-Some-default-Rule c =
+    let found : hash.get name_eq c.args.self.now.items c.args.name.now ≡ Some (RuleItem c.in-Some-default-Rule.rule) = cc (c.in-Some-default-Rule.ensures.item) in
+    ap (λ (d : Digest). Some d) (c.in_ok-digest-in-Some-default-Rule.ensures {u = tt}) ∙ sym (task_found c.args.self.now c.args.name.now (Some (RuleItem c.in-Some-default-Rule.rule)) found)
 
-pub returns-in-Some-Input : goal.returns-in-Some-Input
-returns-in-Some-Input c =
-    let found : hash.get name_eq c.args.self.now.items c.args.name.now ≡ Some (InputItem c.in-Some-Input.field-0-0) = cc (c.in-Some-Input.ensures.value) in
-    sym (task_found c.args.self.now c.args.name.now (Some (InputItem c.in-Some-Input.field-0-0)) found)
+pub returns-in-Some-default-Input : goal.returns-in-Some-default-Input
+returns-in-Some-default-Input c =
+    let found : hash.get name_eq c.args.self.now.items c.args.name.now ≡ Some (InputItem c.in-Some-default-Input.field-0-1-0) = cc (c.in-Some-default-Input.ensures.item) in
+    sym (task_found c.args.self.now c.args.name.now (Some (InputItem c.in-Some-default-Input.field-0-1-0)) found)
 
 pub returns-in-None : goal.returns-in-None
 returns-in-None c =
-    let found : hash.get name_eq c.args.self.now.items c.args.name.now ≡ None = cc (c.in-None.ensures.value) in
+    let found : hash.get name_eq c.args.self.now.items c.args.name.now ≡ None = cc (c.in-None.ensures.item) in
     sym (task_found c.args.self.now c.args.name.now None found)
