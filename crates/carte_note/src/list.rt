@@ -1,13 +1,14 @@
-ghost use Rattle.std.specs.Prelude.{◌≡◌, ◌<◌, ◌^◌, ◌++◌, ◌∷◌, [], length, slice_get, option_copied, ◌==◌, is_ok, IfOk, OnOk, OnErr, ℕ, List, IsTrue, take, vec_len, vec_capacity, if◌then◌else◌};
+ghost use Rattle.std.specs.Prelude.{◌≡◌, ◌<◌, ◌^◌, ◌++◌, ◌∷◌, [], length, slice_get, option_copied, ◌==◌, is_ok, IfOk, IfSome, OnOk, OnErr, List, IsTrue, take, vec_len, vec_capacity, if◌then◌else◌};
 ghost use Rattle.std.specs.HashMap.{get};
 ghost use Rattle.carte_name.specs.Names.{name_eq};
-ghost use Rattle.carte_table.specs.Places.{AddsPlace};
+ghost use Rattle.carte_table.specs.Places.{IsFirstPlaces};
 ghost use Rattle.std.specs.List.{IsDistinct};
-ghost use Rattle.carte_note.specs.Lists.{finished_of};
+ghost use Rattle.carte_note.specs.declared.finished.Finished.{Finished as SomeFinished};
+ghost use Rattle.carte_note.specs.Lists.{finished_of, is_of_key};
 ghost use Rattle.carte_note.specs.Right.{keys_in};
 
 use crate::Finished;
-use carte_table::table::each_once;
+use carte_table::table::{add, each_once, first, place};
 use carte_value::{Name, NoMemory, Seeded};
 use std::alloc::Global;
 use std::collections::HashMap;
@@ -22,16 +23,18 @@ const LONG: usize = 1024;
 /// Of each key the place where it stands first.
 type Places = HashMap<Name, u32, Seeded>;
 
-/// The keys that a build has finished, in their order, seen as these; a key is looked up at once.
+/// The keys that a build has finished, in their order, seen as these. Most builds look none of them up, so the list has no
+/// index until `index` makes one: from then on a key is looked up at once.
 #[derive(Drop)]
 pub struct FinishedList {
     alloc: Global,
+    hasher: Seeded,
     finished: Vec<Finished>,
-    places: Places,
+    places: Option<Places>,
 }
 
 impl Model for FinishedList {
-    ghost use Rattle.std.specs.Prelude.{List, length, ◌<◌, ◌^◌};
+    ghost use Rattle.std.specs.Prelude.{List, length, ◌<◌, ◌^◌, IfSome};
     ghost use Rattle.std.specs.HashMap.{get};
     ghost use Rattle.carte_name.specs.Names.{name_eq};
     ghost use Rattle.carte_table.specs.Places.{IsFirstPlaces};
@@ -42,18 +45,19 @@ impl Model for FinishedList {
 
     ghost view = { λ a. a.finished.items };
 
-    ghost invariant = { λ a. (length a.finished.items < 2 ^ 32) × IsFirstPlaces is_of_key a.finished.items (get name_eq a.places) };
+    ghost invariant = { λ a. (length a.finished.items < 2 ^ 32) × IfSome a.places (λ p. IsFirstPlaces is_of_key a.finished.items (get name_eq p)) };
 }
 
 impl FinishedList {
-    /// The empty list, whose keys will come from `alloc` and be hashed by `hasher`. It takes no memory.
+    /// The empty list, whose keys will come from `alloc` and be hashed by `hasher` once it is indexed. It takes no memory.
     pub fn new(alloc: Global, hasher: Seeded) -> FinishedList
         ensures { result ≡ [] }
     {
         FinishedList {
             alloc,
+            hasher,
             finished: Vec::new(alloc),
-            places: Places::with_hasher(alloc, hasher),
+            places: None,
         }
     }
 
@@ -62,11 +66,11 @@ impl FinishedList {
         ensures { IfOk result (λ list. list ≡ []) }
     {
         let finished = Vec::with_capacity(alloc, count)?;
-        let places = Places::with_capacity_and_hasher(alloc, count, hasher)?;
         Ok(FinishedList {
             alloc,
+            hasher,
             finished,
-            places,
+            places: None,
         })
     }
 
@@ -98,20 +102,35 @@ impl FinishedList {
         self.finished.as_slice()
     }
 
-    /// Whether no key comes twice. It takes no pass over them.
+    /// Has the list look keys up at once from now on. The first call takes a pass over the keys that it has, and room for
+    /// an index of them; each later one takes nothing. Where there is no room, nothing has changed.
+    pub fn index(&mut self) -> Result<(), NoMemory>
+        ensures { self.new ≡ self.old }
+    {
+        if self.places.is_none() {
+            let places = places_of_all(self.alloc, self.finished.as_slice(), self.hasher)?;
+            self.places = Some(places);
+        }
+        Ok(())
+    }
+
+    /// Whether it is known that no key comes twice, as an index tells without a pass over them. Without one it isn't known.
     pub fn has_each_once(&self) -> bool
         ensures { IsTrue result → IsDistinct name_eq (keys_in self.now) }
     {
-        each_once(self.finished.as_slice(), &self.places)
+        match &self.places {
+            Some(places) => each_once(self.finished.as_slice(), places),
+            None => false,
+        }
     }
 
-    /// The first finished key of a name, where there is one. It takes no memory.
+    /// The first finished key of a name, where there is one. It takes no memory, and without an index a pass over the keys.
     pub fn find(&self, key: &Name) -> Option<&Finished>
         ensures { option_copied result ≡ finished_of self.now key.now }
     {
-        match place(&self.places, key) {
-            Some(at) => item(self.finished.as_slice(), at),
-            None => None,
+        match &self.places {
+            Some(places) => first(self.finished.as_slice(), places, key),
+            None => look(self.finished.as_slice(), key),
         }
     }
 
@@ -119,9 +138,9 @@ impl FinishedList {
     pub fn find_before(&self, key: &Name, count: usize) -> Option<&Finished>
         ensures { option_copied result ≡ finished_of (take count self.now) key.now }
     {
-        match place(&self.places, key) {
-            Some(at) => item_before(self.finished.as_slice(), at, count),
-            None => None,
+        match &self.places {
+            Some(places) => first_before(self.finished.as_slice(), places, key, count),
+            None => look_before(self.finished.as_slice(), key, count),
         }
     }
 
@@ -133,9 +152,8 @@ impl FinishedList {
         if at >= MOST {
             return Err(NoMemory);
         }
-        let key = finished.made.key().copy(self.alloc)?;
         make_place(&mut self.finished)?;
-        add(&mut self.places, key, at as u32)?;
+        put_place(self.alloc, &mut self.places, &finished, at as u32)?;
         self.finished.push_reserved(finished);
         Ok(())
     }
@@ -155,19 +173,51 @@ fn make_place(finished: &mut Vec<Finished>) -> Result<(), NoMemory>
     Ok(())
 }
 
-fn place(places: &Places, key: &Name) -> Option<usize>
-    ensures { result ≡ get name_eq places.now key.now }
+/// The places of all keys.
+fn places_of_all(alloc: Global, finished: &[Finished], hasher: Seeded) -> Result<Places, NoMemory>
+    requires { length finished.now < 2 ^ 32 }
+    ensures { IfOk result (λ p. IsFirstPlaces is_of_key finished.now (get name_eq p)) }
 {
-    match places.get(key) {
-        Some(at) => Some(*at as usize),
-        None => None,
+    let mut places = Places::with_capacity_and_hasher(alloc, finished.len(), hasher)?;
+    for at in 0..finished.len() {
+        let key = finished[at].made.key().copy(alloc)?;
+        add(&mut places, key, at as u32)?;
+    }
+    Ok(places)
+}
+
+/// Puts the place of one key more into the index, where there is one.
+fn put_place(
+    alloc: Global,
+    places: &mut Option<Places>,
+    finished: &Finished,
+    at: u32,
+) -> Result<(), NoMemory>
+    ensures ok { (fs : List SomeFinished) → at ≡ length fs → IfSome places.old (λ p. IsFirstPlaces is_of_key fs (get name_eq p)) → OnOk result (IfSome places.new (λ p. IsFirstPlaces is_of_key (fs ++ finished.now ∷ []) (get name_eq p))) }
+    ensures no_memory { (fs : List SomeFinished) → IfSome places.old (λ p. IsFirstPlaces is_of_key fs (get name_eq p)) → OnErr result (IfSome places.new (λ p. IsFirstPlaces is_of_key fs (get name_eq p))) }
+{
+    match places {
+        Some(places) => {
+            let key = finished.made.key().copy(alloc)?;
+            add(places, key, at)?;
+            Ok(())
+        }
+        None => Ok(()),
     }
 }
 
-fn item(finished: &[Finished], at: usize) -> Option<&Finished>
-    ensures { option_copied result ≡ slice_get finished.now at }
+fn first_before<'a>(
+    finished: &'a [Finished],
+    places: &Places,
+    key: &Name,
+    count: usize,
+) -> Option<&'a Finished>
+    ensures { IsFirstPlaces is_of_key finished.now (get name_eq places.now) → option_copied result ≡ finished_of (take count finished.now) key.now }
 {
-    finished.get(at)
+    match place(places, key) {
+        Some(at) => item_before(finished, at, count),
+        None => None,
+    }
 }
 
 fn item_before(finished: &[Finished], at: usize, count: usize) -> Option<&Finished>
@@ -179,15 +229,24 @@ fn item_before(finished: &[Finished], at: usize, count: usize) -> Option<&Finish
     None
 }
 
-fn add(places: &mut Places, key: Name, at: u32) -> Result<(), NoMemory>
-    ensures ok { OnOk result (AddsPlace name_eq (get name_eq places.old) (get name_eq places.new) key at) }
-    ensures no_memory { OnErr result ((q : List ℕ) → get name_eq places.new q ≡ get name_eq places.old q) }
+/// The first finished key of a name, without an index.
+fn look<'a>(finished: &'a [Finished], key: &Name) -> Option<&'a Finished>
+    ensures { option_copied result ≡ finished_of finished.now key.now }
 {
-    match places.entry(key) {
-        Ok(entry) => {
-            entry.or_insert(at);
-            Ok(())
+    for one in finished {
+        if *key == *one.made.key() {
+            return Some(one);
         }
-        Err(_) => Err(NoMemory),
     }
+    None
+}
+
+fn look_before<'a>(finished: &'a [Finished], key: &Name, count: usize) -> Option<&'a Finished>
+    ensures { option_copied result ≡ finished_of (take count finished.now) key.now }
+{
+    if count < finished.len() {
+        let (front, _) = finished.split_at(count);
+        return look(front, key);
+    }
+    look(finished, key)
 }
