@@ -24,7 +24,7 @@ const LONG: usize = 1024;
 type Places = HashMap<Name, u32, Seeded>;
 
 /// The keys that a build has finished, in their order, seen as these. Most builds look none of them up, so the list has no
-/// index until `index` makes one: from then on a key is looked up at once.
+/// index until `index` makes one, or a key comes with what lies beneath it: from then on a key is looked up at once.
 #[derive(Drop)]
 pub struct FinishedList {
     alloc: Global,
@@ -144,8 +144,25 @@ impl FinishedList {
         }
     }
 
+    /// Where keys come with what lies beneath them, each next one looks up those that it needs.
+    fn index_gathered(&mut self, finished: &Finished) -> Result<(), NoMemory>
+        ensures { self.new ≡ self.old }
+    {
+        if finished.tasks.is_empty() {
+            return Ok(());
+        }
+        self.index()
+    }
+
     /// Puts a finished key behind the others. Where there is no room for it, it is dropped and nothing has changed.
     pub fn push(&mut self, finished: Finished) -> Result<(), NoMemory>
+        ensures { self.new ≡ (if is_ok result then self.old ++ finished ∷ [] else self.old) }
+    {
+        self.index_gathered(&finished)?;
+        self.put(finished)
+    }
+
+    fn put(&mut self, finished: Finished) -> Result<(), NoMemory>
         ensures { self.new ≡ (if is_ok result then self.old ++ finished ∷ [] else self.old) }
     {
         let at = self.finished.len();

@@ -1,5 +1,5 @@
 use Rattle.std.proofs.Common.{◌≡◌, ◌<◌, length, rules}
-use Rattle.carte_note.proofs.list.FinishedList.push.Goals as goal
+use Rattle.carte_note.proofs.list.FinishedList.put.Goals as goal
 
 pub invariant_of-self-2 : goal.invariant_of-self-2
 invariant_of-self-2 c =
