@@ -34,6 +34,12 @@ use std::alloc::Global;
 use std::marker::Sync;
 use std::thread::Threads;
 
+/// So many names are looked up in a list of finished keys without an index of it.
+const FEW: usize = 16;
+
+/// The keys of so many tasks that ran are sorted rather than looked up in an index of all that was finished.
+const MANY_RUNS: u64 = 1024;
+
 /// The plan of a build that begins so, over what it begins with.
 pub(crate) fn plan_over<R: Rebuilder, G: Gate, T: Threads + Sync>(
     rt: &T,
@@ -54,13 +60,50 @@ pub(crate) fn plan_over<R: Rebuilder, G: Gate, T: Threads + Sync>(
         → IfOk result (λ p. ShowsBuild R.Job.name R.Job.started R.Job.gives (λ M k j. R.begun rebuilder.now M (book_view book.now) (λ q. None) k j) (R.how rebuilder.now) (book_view book.now) targets.now scheduler workers K p.answer) }
 {
     let end = run(
-        rt, alloc, rebuilder, base, book, scheduler, workers, targets, gate,
+        rt, alloc, rebuilder, begun, base, book, scheduler, workers, targets, gate,
     )?;
     planned(rt, alloc, rebuilder, begun, base, book, targets, end)
 }
 
-// The build that the scheduler makes. Where one that suspends has several workers, it goes in waves.
+// The build that the scheduler makes, with an index of its finished keys where many of them are looked up.
 fn run<R: Rebuilder, G: Gate, T: Threads + Sync>(
+    rt: &T,
+    alloc: Global,
+    rebuilder: &R,
+    begun: &Begun,
+    kept: &Kept,
+    book: &Book,
+    scheduler: Scheduler,
+    workers: usize,
+    targets: &Names,
+    gate: &G,
+) -> Result<WorkEnd, NoMemory>
+    ensures { IfOk result (IsEnd R.Job.name R.Job.started R.Job.gives (λ M k j. R.begun rebuilder.now M (book_view book.now) (λ q. None) k j) (R.how rebuilder.now) (book_view book.now) targets.now scheduler workers (kept_view kept.now)) }
+{
+    let end = run_bare(
+        rt, alloc, rebuilder, kept, book, scheduler, workers, targets, gate,
+    )?;
+    if looks_up(begun, targets, &end) {
+        return end.indexed();
+    }
+    Ok(end)
+}
+
+// Whether many finished keys are looked up behind a build: each mark and each target is, and where many tasks ran, it is
+// asked whether one ran twice.
+fn looks_up(begun: &Begun, targets: &Names, end: &WorkEnd) -> bool {
+    begun.marks.len() > FEW || targets.len() > FEW || started(end) > MANY_RUNS
+}
+
+fn started(end: &WorkEnd) -> u64 {
+    match end {
+        WorkEnd::All(work) => work.runs.started(),
+        WorkEnd::Refused(work, _) => work.runs.started(),
+    }
+}
+
+// Where one that suspends has several workers, it goes in waves.
+fn run_bare<R: Rebuilder, G: Gate, T: Threads + Sync>(
     rt: &T,
     alloc: Global,
     rebuilder: &R,

@@ -37,7 +37,8 @@ impl Engine {
         // Whatever is kept.
         ensures targets { IfOk result (λ work. HasTargets (book_view book.now) targets.now (All work)) }
     {
-        match self.foresee(alloc, book, rebuilder, targets)? {
+        // Who asks why a key would run looks many keys up.
+        match self.foresee(alloc, book, rebuilder, targets)?.indexed()? {
             WorkEnd::All(work) => Ok(work),
             WorkEnd::Refused(_, reason) => Err(PlanFault::Refused(reason)),
         }

@@ -64,6 +64,24 @@ pub enum WorkEnd {
     Refused(Work, Reason),
 }
 
+impl WorkEnd {
+    /// The same end, whose finished keys are looked up at once from now on.
+    pub fn indexed(self) -> Result<WorkEnd, carte_value::NoMemory>
+        ensures { IfOk result (λ end. end ≡ self) }
+    {
+        match self {
+            WorkEnd::All(mut work) => {
+                work.finished.index()?;
+                Ok(WorkEnd::All(work))
+            }
+            WorkEnd::Refused(mut work, reason) => {
+                work.finished.index()?;
+                Ok(WorkEnd::Refused(work, reason))
+            }
+        }
+    }
+}
+
 /// Why a build has no work to show.
 #[derive(Debug, Drop, Error)]
 pub enum PlanFault {

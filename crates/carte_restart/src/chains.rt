@@ -18,8 +18,9 @@ pub(crate) fn with_chain(alloc: Global, kept: &Kept, work: Work) -> Result<Work,
     ensures runs { IfOk result (λ done. done.runs ≡ work.runs) }
     ensures chain { IfOk result (IsNewChain (kept_view kept.now)) }
 {
-    let chain = chain_of(alloc, &kept.chain, &work.finished)?;
     let mut work = work;
+    work.finished.index()?;
+    let chain = chain_of(alloc, &kept.chain, &work.finished)?;
     work.chain = Some(chain);
     Ok(work)
 }
