@@ -89,16 +89,17 @@ fn run<R: Rebuilder, G: Gate, T: Threads + Sync>(
     Ok(end)
 }
 
-// Whether many finished keys are looked up behind a build: each mark and each target is, and where many tasks ran, it is
-// asked whether one ran twice.
+// Whether many finished keys are looked up behind a build: each target is, each mark is among the first part's keys, and
+// where many tasks ran, it is asked whether one ran twice.
 fn looks_up(begun: &Begun, targets: &Names, end: &WorkEnd) -> bool {
-    begun.marks.len() > FEW || targets.len() > FEW || started(end) > MANY_RUNS
+    let (count, started) = finished_and_started(end);
+    targets.len() > FEW || begun.marks.len() > count / FEW || started > MANY_RUNS
 }
 
-fn started(end: &WorkEnd) -> u64 {
+fn finished_and_started(end: &WorkEnd) -> (usize, u64) {
     match end {
-        WorkEnd::All(work) => work.runs.started(),
-        WorkEnd::Refused(work, _) => work.runs.started(),
+        WorkEnd::All(work) => (work.finished.len(), work.runs.started()),
+        WorkEnd::Refused(work, _) => (work.finished.len(), work.runs.started()),
     }
 }
 
